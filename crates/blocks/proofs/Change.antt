@@ -118,7 +118,8 @@ pub Counts-same : (m : Blocks) (old new : List BlockRef) → ((r : BlockRef) →
 Counts-same m old new same = record { balance = λ r. omega (arith, same r); kept = λ r a b. refl }
 
 -- a call of `place` that answered `at`
-pub Counts-placed : (m after : Blocks) (at : BlockRef) (bytes : List ℕ) (old new : List BlockRef) → m at ≡ None → after ≡ with_block m at (Some bytes) → ((r : BlockRef) → times r new ≡ times r old + one r at) → Counts m after old new
+pub Counts-placed : (m after : Blocks) (at : BlockRef) (bytes : List ℕ) (old new : List BlockRef) → m at ≡ None → after ≡ with_block m at (Some bytes)
+    → ((r : BlockRef) → times r new ≡ times r old + one r at) → Counts m after old new
 Counts-placed m after at bytes old new fresh is more =
     subst (λ n. Counts m n old new) (sym is) (record {
       balance = λ r. omega (arith, more r, live_placed m at bytes fresh r);
@@ -133,7 +134,8 @@ not_in r at xs own out = elim (cases_ref r at) [
 ]
 
 -- a call of `write`
-pub Counts-written : (m after : Blocks) (at : BlockRef) (bytes : List ℕ) (old new : List BlockRef) → IsSome (m at) → after ≡ with_block m at (Some bytes) → IsIn at old → ((r : BlockRef) → times r new ≡ times r old) → Counts m after old new
+pub Counts-written : (m after : Blocks) (at : BlockRef) (bytes : List ℕ) (old new : List BlockRef) → IsSome (m at) → after ≡ with_block m at (Some bytes) → IsIn at old
+    → ((r : BlockRef) → times r new ≡ times r old) → Counts m after old new
 Counts-written m after at bytes old new was is own same =
     subst (λ n. Counts m n old new) (sym is) (record {
       balance = λ r. omega (arith, same r, live_written m at bytes was r);
@@ -141,7 +143,8 @@ Counts-written m after at bytes old new was is own same =
     })
 
 -- a call of `give_back`
-pub Counts-ended : (m after : Blocks) (at : BlockRef) (old new : List BlockRef) → IsSome (m at) → after ≡ with_block m at None → ((r : BlockRef) → times r new + one r at ≡ times r old) → Counts m after old new
+pub Counts-ended : (m after : Blocks) (at : BlockRef) (old new : List BlockRef) → IsSome (m at) → after ≡ with_block m at None → ((r : BlockRef) → times r new + one r at ≡ times r old)
+    → Counts m after old new
 Counts-ended m after at old new was is less =
     subst (λ n. Counts m n old new) (sym is) (record {
       balance = λ r. omega (arith, less r, live_ended m at was r);
@@ -154,11 +157,13 @@ some_of None h = cc
 some_of (Some bytes) h = (bytes, refl)
 
 -- a call of `move_block` that answered `new`
-pub Counts-moved : (m after : Blocks) (at new : BlockRef) (old later : List BlockRef) → IsSome (m at) → m new ≡ None → after ≡ with_block (with_block m at None) new (m at) → IsIn at old → ((r : BlockRef) → times r later + one r at ≡ times r old + one r new) → Counts m after old later
+pub Counts-moved : (m after : Blocks) (at new : BlockRef) (old later : List BlockRef) → IsSome (m at) → m new ≡ None → after ≡ with_block (with_block m at None) new (m at) → IsIn at old
+    → ((r : BlockRef) → times r later + one r at ≡ times r old + one r new) → Counts m after old later
 Counts-moved m after at new old later was fresh is own same =
     let bytes = some_of (m at) was in
     let now : after ≡ with_block (with_block m at None) new (Some bytes.0) = is ∙ ap (λ o. with_block (with_block m at None) new o) bytes.1 in
-    let free : with_block m at None new ≡ None = elim (cases_ref new at) [ inl here' ↦ ap (with_block m at None) here' ∙ with_block-same m at None | inr other ↦ with_block-other m at new None other ∙ fresh ] in
+    let free : with_block m at None new ≡ None = elim (cases_ref new at)
+    [ inl here' ↦ ap (with_block m at None) here' ∙ with_block-same m at None | inr other ↦ with_block-other m at new None other ∙ fresh ] in
     subst (λ n. Counts m n old later) (sym now) (record {
       balance = λ r. omega (arith, same r, live_ended m at was r, live_placed (with_block m at None) new bytes.0 free r);
       kept = λ r a b. (let here' : ref_eq r at ≡ false = not_in r at old own a in
@@ -180,7 +185,8 @@ Counts-then a b c xs ys zs p q =
     }
 
 -- more owners' references beside, on both sides
-pub Counts-beside : (a b : Blocks) (xs ys more_old more_new : List BlockRef) → Counts a b xs ys → (zs : BlockRef → ℕ) → ((r : BlockRef) → times r more_old ≡ times r xs + zs r) → ((r : BlockRef) → times r more_new ≡ times r ys + zs r) → Counts a b more_old more_new
+pub Counts-beside : (a b : Blocks) (xs ys more_old more_new : List BlockRef) → Counts a b xs ys → (zs : BlockRef → ℕ) → ((r : BlockRef) → times r more_old ≡ times r xs + zs r)
+    → ((r : BlockRef) → times r more_new ≡ times r ys + zs r) → Counts a b more_old more_new
 Counts-beside a b xs ys more_old more_new p zs old new =
     record {
       balance = λ r. omega (arith, p.balance r, old r, new r);
@@ -235,7 +241,8 @@ Changes-then a b c xs ys zs p q =
     }
 
 -- more owners' references beside, on both sides
-pub Changes-beside : (a b : Blocks) (xs ys more_old more_new : List BlockRef) → Changes a b xs ys → Owned more_old a → (zs : BlockRef → ℕ) → ((r : BlockRef) → times r more_old ≡ times r xs + zs r) → ((r : BlockRef) → times r more_new ≡ times r ys + zs r) → Changes a b more_old more_new
+pub Changes-beside : (a b : Blocks) (xs ys more_old more_new : List BlockRef) → Changes a b xs ys → Owned more_old a → (zs : BlockRef → ℕ)
+    → ((r : BlockRef) → times r more_old ≡ times r xs + zs r) → ((r : BlockRef) → times r more_new ≡ times r ys + zs r) → Changes a b more_old more_new
 Changes-beside a b xs ys more_old more_new p own zs old new =
     let part : Owned xs a = λ r. omega (arith, own r, old r) in
     Changes-counted a b more_old more_new own (Counts-beside a b xs ys more_old more_new (Counts-changed a b xs ys part p) zs old new)
@@ -244,11 +251,13 @@ Changes-beside a b xs ys more_old more_new p own zs old new =
 pub Changes-both : (a b c : Blocks) (xs ys us vs : List BlockRef) → Owned (xs ++ us) a → Changes a b xs ys → Changes b c us vs → Changes a c (xs ++ us) (ys ++ vs)
 Changes-both a b c xs ys us vs own p q =
     let first : Changes a b (xs ++ us) (ys ++ us) = Changes-beside a b xs ys (xs ++ us) (ys ++ us) p own (λ r. times r us) (λ r. times-append r xs us) (λ r. times-append r ys us) in
-    let second : Changes b c (ys ++ us) (ys ++ vs) = Changes-beside b c us vs (ys ++ us) (ys ++ vs) q (Changes-owned a b (xs ++ us) (ys ++ us) first) (λ r. times r ys) (λ r. omega (arith, times-append r ys us)) (λ r. omega (arith, times-append r ys vs)) in
+    let second : Changes b c (ys ++ us) (ys ++ vs) = Changes-beside b c us vs (ys ++ us) (ys ++ vs) q (Changes-owned a b (xs ++ us) (ys ++ us) first) (λ r. times r ys)
+    (λ r. omega (arith, times-append r ys us)) (λ r. omega (arith, times-append r ys vs)) in
     Changes-then a b c (xs ++ us) (ys ++ us) (ys ++ vs) first second
 
 -- one owner's change, in the list of all owners
-pub Owns-changed : (a b : Blocks) (xs ys all later : List BlockRef) → Owns all a → Changes a b xs ys → ((r : BlockRef) → times r xs ≤ times r all) → ((r : BlockRef) → times r later + times r xs ≡ times r all + times r ys) → Owns later b
+pub Owns-changed : (a b : Blocks) (xs ys all later : List BlockRef) → Owns all a → Changes a b xs ys → ((r : BlockRef) → times r xs ≤ times r all)
+    → ((r : BlockRef) → times r later + times r xs ≡ times r all + times r ys) → Owns later b
 Owns-changed a b xs ys all later own p part same r = omega (arith, own r, (Counts-changed a b xs ys (λ q. omega (arith, own q, part q)) p).balance r, same r)
 
 -- the other owners' blocks stay

@@ -1,5 +1,6 @@
 -- What a block holds into which another was copied, and what is left where a block is lengthened.
-use Rattle.std.proofs.Common.{◌≡◌, ◌⊎◌, min, ℕ, zero, suc, ◌+◌, ◌-◌, ◌≤◌, false, List, [], ◌∷◌, ◌++◌, Option, Some, None, IsSome, unwrap_or, length, take, drop, replicate, refl, sym, ap, ◌∙◌, subst, inl, inr, arith, zero-add, take-add, take_at, drop_at, drop-drop, length-append}
+use Rattle.std.proofs.Common.{◌≡◌, ◌⊎◌, min, ℕ, zero, suc, ◌+◌, ◌-◌, ◌≤◌, false, List, [], ◌∷◌, ◌++◌, Option, Some, None, IsSome, unwrap_or, length, take, drop, replicate, refl, sym, ap}
+use Rattle.std.proofs.Common.{◌∙◌, subst, inl, inr, arith, zero-add, take-add, take_at, drop_at, drop-drop, length-append}
 use Rattle.std.proofs.lemmas.Grind.{common_steps}
 use Rattle.std.proofs.lemmas.List.{drop-replicate, length-take, length-drop}
 use Rattle.blocks.specs.declared.BlockRef.{BlockRef}
@@ -30,7 +31,8 @@ with_block-apart m at other a b apart = λ i r. each r i
     ]
       where
         by_other : (r ≡ other) ⊎ (ref_eq r other ≡ false) → ref_eq r at ≡ false → with_block m other b r ≡ with_block (with_block m at a) other b r
-        by_other (inl same) beside = subst (λ q. with_block m other b q ≡ with_block (with_block m at a) other b q) (sym same) (with_block-same m other b ∙ sym (with_block-same (with_block m at a) other b))
+        by_other (inl same) beside = subst (λ q. with_block m other b q ≡ with_block (with_block m at a) other b q) (sym same)
+            (with_block-same m other b ∙ sym (with_block-same (with_block m at a) other b))
         by_other (inr ne) beside = with_block-other m other r b ne ∙ sym (with_block-other (with_block m at a) other r b ne ∙ with_block-other m at r a beside)
 
 some_bytes : (o : Option (List ℕ)) → IsSome o → o ≡ Some (unwrap_or o [])
@@ -51,11 +53,13 @@ overwritten_more : (over p q : List ℕ) → overwritten (overwritten over 0 p) 
 overwritten_more over p q =
     ap (λ xs. overwritten xs (length p) q) (overwritten-first over p)
     ∙ ap (λ xs. xs ++ q ++ drop (length p + length q) (p ++ drop (length p) over)) (take_at p (drop (length p) over) (length p) refl)
-    ∙ ap (λ xs. p ++ q ++ xs) (sym (drop-drop (length q) (length p) (p ++ drop (length p) over)) ∙ ap (drop (length q)) (drop_at p (drop (length p) over) (length p) refl) ∙ drop-drop (length q) (length p) over)
+    ∙ ap (λ xs. p ++ q ++ xs)
+    (sym (drop-drop (length q) (length p) (p ++ drop (length p) over)) ∙ ap (drop (length q)) (drop_at p (drop (length p) over) (length p) refl) ∙ drop-drop (length q) (length p) over)
     ∙ ap (λ k. (p ++ q) ++ drop k over) (sym (length-append p q))
     ∙ sym (overwritten-first over (p ++ q))
 
-overwritten_step : (over from : List ℕ) (start count : ℕ) → start + count ≤ length from → overwritten (overwritten over 0 (take start from)) start (take count (drop start from)) ≡ overwritten over 0 (take (start + count) from)
+overwritten_step : (over from : List ℕ) (start count : ℕ) → start + count ≤ length from
+    → overwritten (overwritten over 0 (take start from)) start (take count (drop start from)) ≡ overwritten over 0 (take (start + count) from)
 overwritten_step over from start count inside =
     ap (λ n. overwritten (overwritten over 0 (take start from)) n (take count (drop start from))) (let e : start ≡ length (take start from) = grind (arith, common_steps) in e)
     ∙ overwritten_more over (take start from) (take count (drop start from))
@@ -72,10 +76,13 @@ take_seen (suc n) [] = refl
 take_seen (suc n) (x ∷ xs) = ap (λ ys. x ∷ ys) (take_seen n xs)
 
 -- what stands at the head of the room where a piece of the bytes was put there
-pub piece_put : (bytes put behind : List ℕ) (start count most : ℕ) → count ≡ min (length bytes - start) most → put ≡ take ((start + count) - start) (drop start bytes) → take count (put ++ behind) ≡ take most (drop start bytes)
+pub piece_put : (bytes put behind : List ℕ) (start count most : ℕ) → count ≡ min (length bytes - start) most → put ≡ take ((start + count) - start) (drop start bytes)
+    → take count (put ++ behind) ≡ take most (drop start bytes)
 piece_put bytes put behind start count most least is =
     let long : length (take most (drop start bytes)) ≡ count = omega (arith, length-take most (drop start bytes), length-drop start bytes, least) in
-    let whole : put ≡ take most (drop start bytes) = is ∙ (ap (λ n. take n (drop start bytes)) (let e : (start + count) - start ≡ count = omega arith in e) ∙ (ap (λ n. take n (drop start bytes)) (sym long) ∙ take_seen most (drop start bytes))) in
+    let whole : put ≡ take most (drop start bytes) = is ∙
+    (ap (λ n. take n (drop start bytes)) (let e : (start + count) - start ≡ count = omega arith in e)
+    ∙ (ap (λ n. take n (drop start bytes)) (sym long) ∙ take_seen most (drop start bytes))) in
     take_at put behind count (ap length whole ∙ long) ∙ whole
 
 -- ---- a block is copied
@@ -89,21 +96,33 @@ from_stays : (m mid : Blocks) (from to : BlockRef) (done : ℕ) → ref_eq from 
 from_stays m mid from to done apart is = ap (λ k. bytes_at k from) is ∙ ap (λ o. unwrap_or o []) (with_block-other m to from (Some (overwritten (bytes_at m to) 0 (take done (bytes_at m from)))) apart)
 
 -- the next piece is of the bytes that it had from the first, and ends within them
-pub next_piece : (m mid : Blocks) (from to : BlockRef) (done most : ℕ) (piece whole seen : List ℕ) → ref_eq from to ≡ false → HasFirst m mid from to done → m from ≡ Some whole → mid from ≡ Some seen → piece ≡ take most (drop done seen) → done ≤ length whole
+pub next_piece : (m mid : Blocks) (from to : BlockRef) (done most : ℕ) (piece whole seen : List ℕ) → ref_eq from to ≡ false → HasFirst m mid from to done → m from ≡ Some whole
+    → mid from ≡ Some seen → piece ≡ take most (drop done seen) → done ≤ length whole
     → (piece ≡ take most (drop done (bytes_at m from))) × (done + length piece ≤ length (bytes_at m from))
 next_piece m mid from to done most piece whole seen apart is all read taken inside =
-    let first : piece ≡ take most (drop done (bytes_at m from)) = taken ∙ (ap (λ o. take most (drop done (unwrap_or o []))) (sym read) ∙ ap (λ xs. take most (drop done xs)) (from_stays m mid from to done apart is)) in
+    let first : piece ≡ take most (drop done (bytes_at m from)) = taken
+    ∙ (ap (λ o. take most (drop done (unwrap_or o []))) (sym read) ∙ ap (λ xs. take most (drop done xs)) (from_stays m mid from to done apart is)) in
     (first, omega (arith, ap length first, length-take most (drop done (bytes_at m from)), length-drop done (bytes_at m from), ap (λ o. length (unwrap_or o [])) all, inside))
 
 -- and the other block has room for it
-pub room_left : (m mid : Blocks) (from to : BlockRef) (done n : ℕ) → HasFirst m mid from to done → length (bytes_at m from) ≤ length (bytes_at m to) → done + n ≤ length (bytes_at m from) → done + n ≤ length (bytes_at mid to)
-room_left m mid from to done n is room inside = omega (arith, room, inside, ap (λ k. length (bytes_at k to)) is, ap length (bytes_at-placed m to (overwritten (bytes_at m to) 0 (take done (bytes_at m from)))), long (bytes_at m to) (bytes_at m from) room)
+pub room_left : (m mid : Blocks) (from to : BlockRef) (done n : ℕ) → HasFirst m mid from to done → length (bytes_at m from) ≤ length (bytes_at m to) → done + n ≤ length (bytes_at m from)
+    → done + n ≤ length (bytes_at mid to)
+room_left m mid from to done n is room inside = omega (
+  arith,
+  room,
+  inside,
+  ap (λ k. length (bytes_at k to)) is,
+  ap length (bytes_at-placed m to (overwritten (bytes_at m to) 0 (take done (bytes_at m from)))),
+  long (bytes_at m to)
+      (bytes_at m from) room,
+)
   where
     long : (over bytes : List ℕ) → length bytes ≤ length over → length (overwritten over 0 (take done bytes)) ≡ length over
     long over bytes h = grind (arith, common_steps, h)
 
 -- with this piece behind them, so many more stand there
-pub copy_step : (m mid after : Blocks) (from to : BlockRef) (done most : ℕ) (piece : List ℕ) → HasFirst m mid from to done → (piece ≡ take most (drop done (bytes_at m from))) × (done + length piece ≤ length (bytes_at m from)) → after ≡ with_block mid to (Some (overwritten (bytes_at mid to) done piece)) → HasFirst m after from to (done + length piece)
+pub copy_step : (m mid after : Blocks) (from to : BlockRef) (done most : ℕ) (piece : List ℕ) → HasFirst m mid from to done → (piece ≡ take most (drop done (bytes_at m from)))
+    × (done + length piece ≤ length (bytes_at m from)) → after ≡ with_block mid to (Some (overwritten (bytes_at mid to) done piece)) → HasFirst m after from to (done + length piece)
 copy_step m mid after from to done most piece is next written =
     written
     ∙ ap (λ k. with_block k to (Some (overwritten (bytes_at k to) done piece))) is
@@ -119,13 +138,16 @@ copy_step m mid after from to done most piece is next written =
     whole = next.0 ∙ (sym (take_seen most (drop done (bytes_at m from))) ∙ ap (λ xs. take (length xs) (drop done (bytes_at m from))) (sym next.0))
 
 -- all of its pieces have been
-pub copied_whole : (m after : Blocks) (from to : BlockRef) (done : ℕ) → HasFirst m after from to done → length (bytes_at m from) ≤ done → after ≡ with_block m to (Some (overwritten (bytes_at m to) 0 (bytes_at m from)))
-copied_whole m after from to done is all = is ∙ ap (λ xs. with_block m to (Some (overwritten (bytes_at m to) 0 xs))) (let e : take done (bytes_at m from) ≡ bytes_at m from = grind (arith, common_steps, all) in e)
+pub copied_whole : (m after : Blocks) (from to : BlockRef) (done : ℕ) → HasFirst m after from to done → length (bytes_at m from) ≤ done
+    → after ≡ with_block m to (Some (overwritten (bytes_at m to) 0 (bytes_at m from)))
+copied_whole m after from to done is all = is ∙ ap (λ xs. with_block m to (Some (overwritten (bytes_at m to) 0 xs)))
+    (let e : take done (bytes_at m from) ≡ bytes_at m from = grind (arith, common_steps, all) in e)
 
 -- ---- a block is lengthened
 
 -- placed with zeros, and then written over
-pub placed_over : (m mid after : Blocks) (at : BlockRef) (len : ℕ) (piece bytes : List ℕ) → mid ≡ with_block m at (Some (replicate len 0)) → after ≡ with_block mid at (Some (overwritten (bytes_at mid at) 0 piece)) → piece ≡ bytes → length bytes ≤ len → after ≡ with_block m at (Some (widened bytes len))
+pub placed_over : (m mid after : Blocks) (at : BlockRef) (len : ℕ) (piece bytes : List ℕ) → mid ≡ with_block m at (Some (replicate len 0))
+    → after ≡ with_block mid at (Some (overwritten (bytes_at mid at) 0 piece)) → piece ≡ bytes → length bytes ≤ len → after ≡ with_block m at (Some (widened bytes len))
 placed_over m mid after at len piece bytes placed written same room =
     written
     ∙ ap (λ k. with_block k at (Some (overwritten (bytes_at k at) 0 piece))) placed
@@ -139,7 +161,9 @@ pub bytes_beside : (m mid : Blocks) (at new : BlockRef) (content : Option (List 
 bytes_beside m mid at new content live fresh placed = ap (λ k. bytes_at k at) placed ∙ ap (λ o. unwrap_or o []) (with_block-other m new at content (apart_live m at new live fresh))
 
 -- a longer block was placed, the bytes were copied into it, and the old block was given back
-pub lengthened_by : (m mid copied after : Blocks) (at new : BlockRef) (len : ℕ) → IsSome (m at) → m new ≡ None → length (bytes_at m at) ≤ len → mid ≡ with_block m new (Some (replicate len 0)) → copied ≡ with_block mid new (Some (overwritten (bytes_at mid new) 0 (bytes_at mid at))) → after ≡ with_block copied at None → after ≡ with_block (with_block m at None) new (Some (widened (bytes_at m at) len))
+pub lengthened_by : (m mid copied after : Blocks) (at new : BlockRef) (len : ℕ) → IsSome (m at) → m new ≡ None → length (bytes_at m at) ≤ len
+    → mid ≡ with_block m new (Some (replicate len 0)) → copied ≡ with_block mid new (Some (overwritten (bytes_at mid new) 0 (bytes_at mid at))) → after ≡ with_block copied at None
+    → after ≡ with_block (with_block m at None) new (Some (widened (bytes_at m at) len))
 lengthened_by m mid copied after at new len live fresh room placed written ended =
     ended
     ∙ ap (λ k. with_block k at None) (placed_over m mid copied new len (bytes_at mid at) (bytes_at m at) placed written (bytes_beside m mid at new _ live fresh placed) room)

@@ -1,5 +1,6 @@
 -- What a plain store holds after a change of one place.
-use Rattle.std.proofs.Common.{◌≡◌, ℕ, Bool, true, false, cond, ◌&&◌, List, [], ◌∷◌, zero, suc, unwrap_or, map, Option, Some, None, IsSome, eqb, get_or, length, slice_set, ◌<◌, get_or-set_same, get_or-set_other, refl, sym, ap, ◌∙◌, arith}
+use Rattle.std.proofs.Common.{◌≡◌, ℕ, Bool, true, false, cond, ◌&&◌, List, [], ◌∷◌, zero, suc, unwrap_or, map, Option, Some, None, IsSome, eqb, get_or, length, slice_set, ◌<◌}
+use Rattle.std.proofs.Common.{get_or-set_same, get_or-set_other, refl, sym, ap, ◌∙◌, arith}
 use Rattle.std.proofs.Math.ListN.{get_or-map}
 use Rattle.std.proofs.lemmas.Bool.{eqb-true, eq-eqb, eqb-false, cond-true}
 use Rattle.std.specs.Global.{Vec}
@@ -18,14 +19,16 @@ by_tests new changed old true false at_true at_false = refl
 by_tests new changed old false true at_true at_false = at_false refl
 by_tests new changed old false false at_true at_false = refl
 
-at_one : (old new : Slab (Vec ℕ)) (at : BlockRef) (slot : Option (Vec ℕ)) → at.slot ≡ 0 → Updates old new at.slab slot → (r : BlockRef) → blocks_at (map bytes_of new.slots) r ≡ with_block (blocks_at (map bytes_of old.slots)) at (bytes_of slot) r
+at_one : (old new : Slab (Vec ℕ)) (at : BlockRef) (slot : Option (Vec ℕ)) → at.slot ≡ 0 → Updates old new at.slab slot → (r : BlockRef)
+    → blocks_at (map bytes_of new.slots) r ≡ with_block (blocks_at (map bytes_of old.slots)) at (bytes_of slot) r
 at_one old new at slot z u r =
     rw z (by_tests _ _ _ (eqb r.slab at.slab) (eqb r.slot 0)
     (λ h. place_of new r.slab ∙ ap (λ n. bytes_of (get_or new.slots n None)) (eqb-true _ _ h) ∙ ap bytes_of u.changed)
     (λ h. place_of new r.slab ∙ ap bytes_of (u.others r.slab (eqb-false _ _ h)) ∙ sym (place_of old r.slab)))
 
 -- the new slab has this in the place, so the store has it under the reference
-pub plain_updated : (old new : Slab (Vec ℕ)) (at : BlockRef) (slot : Option (Vec ℕ)) → at.slot ≡ 0 → Updates old new at.slab slot → blocks_at (map bytes_of new.slots) ≡ with_block (blocks_at (map bytes_of old.slots)) at (bytes_of slot)
+pub plain_updated : (old new : Slab (Vec ℕ)) (at : BlockRef) (slot : Option (Vec ℕ)) → at.slot ≡ 0 → Updates old new at.slab slot
+    → blocks_at (map bytes_of new.slots) ≡ with_block (blocks_at (map bytes_of old.slots)) at (bytes_of slot)
 plain_updated old new at slot z u = λ i r. at_one old new at slot z u r i
 
 slot_by : (z : Bool) (o : Option (List ℕ)) (n : ℕ) → IsSome (cond z o None) → (z ≡ true → n ≡ 0) → n ≡ 0
@@ -37,7 +40,8 @@ pub plain_slot : (places : List (Option (List ℕ))) (at : BlockRef) → IsSome 
 plain_slot places at h = slot_by (eqb at.slot 0) _ at.slot h (eqb-true _ _)
 
 -- a vector that stands in its place is written over
-pub plain_written : (old : Slab (Vec ℕ)) (at : BlockRef) (v : Vec ℕ) → at.slot ≡ 0 → at.slab < length old.slots → blocks_at (map bytes_of (slice_set old.slots at.slab (Some v))) ≡ with_block (blocks_at (map bytes_of old.slots)) at (Some v.items)
+pub plain_written : (old : Slab (Vec ℕ)) (at : BlockRef) (v : Vec ℕ) → at.slot ≡ 0 → at.slab < length old.slots
+    → blocks_at (map bytes_of (slice_set old.slots at.slab (Some v))) ≡ with_block (blocks_at (map bytes_of old.slots)) at (Some v.items)
 plain_written old at v z h =
     plain_updated old (with_value old at.slab v) at (Some v) z (record {
       changed = get_or-set_same old.slots at.slab (Some v) None h;
@@ -55,7 +59,9 @@ in_range (x ∷ xs) zero v h = omega arith
 in_range (x ∷ xs) (suc i) v h = let k : i < length xs = in_range xs i v h in omega arith
 
 -- what a write through `get_mut` leaves
-pub plain_put : (old : Slab (Vec ℕ)) (places : List (Option (List ℕ))) (at : BlockRef) (v w : Vec ℕ) (from : ℕ) (piece : List ℕ) → map bytes_of old.slots ≡ places → IsSome (blocks_at places at) → get_or old.slots at.slab None ≡ Some v → w.items ≡ overwritten v.items from piece → blocks_at (map bytes_of (slice_set old.slots at.slab (Some w))) ≡ with_block (blocks_at places) at (Some (overwritten (bytes_at (blocks_at places) at) from piece))
+pub plain_put : (old : Slab (Vec ℕ)) (places : List (Option (List ℕ))) (at : BlockRef) (v w : Vec ℕ) (from : ℕ) (piece : List ℕ) → map bytes_of old.slots ≡ places
+    → IsSome (blocks_at places at) → get_or old.slots at.slab None ≡ Some v → w.items ≡ overwritten v.items from piece
+    → blocks_at (map bytes_of (slice_set old.slots at.slab (Some w))) ≡ with_block (blocks_at places) at (Some (overwritten (bytes_at (blocks_at places) at) from piece))
 plain_put old places at v w from piece same h is e =
     let z : at.slot ≡ 0 = plain_slot places at h in
     plain_written old at w z (in_range old.slots at.slab v is)

@@ -38,5 +38,7 @@ step_passing m n h k (placed at len fresh is open') = open'
 step_passing m n h k (returned at was is open') = open'
 step_passing m n h k (written at from piece was room is kept) = ap (λ x. x.passing) kept
 
-pub Served-passing : {S : Type 0} {step : S → S → Type 0} (blocks : S → Blocks) (heap : S → Heap) → ((a b : S) → step a b → IsStep (blocks a) (heap a) (blocks b) (heap b)) → (a b : S) → Served step a b → (heap b).passing ≡ (heap a).passing
-Served-passing blocks heap kinds a b p = Served-keeps (λ s t. (heap t).passing ≡ (heap s).passing) (λ s. refl) (λ s t u e step. step_passing (blocks t) (blocks u) (heap t) (heap u) (kinds t u step) ∙ e) a b p
+pub Served-passing : {S : Type 0} {step : S → S → Type 0} (blocks : S → Blocks) (heap : S → Heap) → ((a b : S) → step a b → IsStep (blocks a) (heap a) (blocks b) (heap b)) → (a b : S)
+    → Served step a b → (heap b).passing ≡ (heap a).passing
+Served-passing blocks heap kinds a b p = Served-keeps (λ s t. (heap t).passing ≡ (heap s).passing) (λ s. refl)
+    (λ s t u e step. step_passing (blocks t) (blocks u) (heap t) (heap u) (kinds t u step) ∙ e) a b p

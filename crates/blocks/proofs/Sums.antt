@@ -1,5 +1,6 @@
 -- Sums over the slabs, where some places change.
-use Rattle.std.proofs.Common.{◌≡◌, ◌≢◌, ◌⊎◌, inl, inr, ℕ, zero, suc, ◌+◌, ◌<◌, Bool, cond, List, [], ◌∷◌, get_or, length, slice_set, Option, None, refl, sym, ap, ◌∙◌, arith, sum_by, count_by, get_or-set_same, get_or-set_other}
+use Rattle.std.proofs.Common.{◌≡◌, ◌≢◌, ◌⊎◌, inl, inr, ℕ, zero, suc, ◌+◌, ◌<◌, Bool, cond, List, [], ◌∷◌, get_or, length, slice_set, Option, None, refl, sym, ap, ◌∙◌, arith, sum_by}
+use Rattle.std.proofs.Common.{count_by, get_or-set_same, get_or-set_other}
 use Rattle.std.proofs.lemmas.List.Sums.{sum_by-cons}
 use Rattle.std.proofs.lemmas.Bool.{cases_eq}
 
@@ -29,7 +30,8 @@ module _ {X : Type 0} (f : Option X → ℕ) (none : f None ≡ 0) where
   sum_changed (x ∷ xs) (y ∷ ys) (suc k) h = omega (arith, sum_by-cons f x xs, sum_by-cons f y ys, ap f (h 0 (λ e. omega arith)), sum_changed xs ys k (λ j ne. h (suc j) (λ e. ne (omega arith))))
 
   -- two places change, the second of which is in the list
-  pub sum_two : (xs ys : List (Option X)) (k m : ℕ) → k ≢ m → m < length ys → ((j : ℕ) → j ≢ k → j ≢ m → get_or ys j None ≡ get_or xs j None) → sum_by f ys + f (get_or xs k None) + f (get_or xs m None) ≡ sum_by f xs + f (get_or ys k None) + f (get_or ys m None)
+  pub sum_two : (xs ys : List (Option X)) (k m : ℕ) → k ≢ m → m < length ys → ((j : ℕ) → j ≢ k → j ≢ m → get_or ys j None ≡ get_or xs j None)
+      → sum_by f ys + f (get_or xs k None) + f (get_or xs m None) ≡ sum_by f xs + f (get_or ys k None) + f (get_or ys m None)
   sum_two xs ys k m apart within h =
       let mid : List (Option X) = slice_set ys m (get_or xs m None) in
       let at_m : get_or mid m None ≡ get_or xs m None = get_or-set_same ys m (get_or xs m None) None within in

@@ -1,5 +1,6 @@
 -- A pass over a store's slabs.
-use Rattle.std.specs.Prelude.{◌≡◌, ℕ, zero, suc, ◌+◌, ◌*◌, ◌-◌, ◌/◌, ◌<◌, ◌≤◌, ◌≢◌, Bool, true, false, nat_lt, nat_le, length, ◌==◌, ◌&&◌, not, List, [], ◌∷◌, Option, Some, None, IsSome, sum_by, count_by, map, slice_index_or, refl, ◌⊎◌}
+use Rattle.std.specs.Prelude.{◌≡◌, ℕ, zero, suc, ◌+◌, ◌*◌, ◌-◌, ◌/◌, ◌<◌, ◌≤◌, ◌≢◌, Bool, true, false, nat_lt, nat_le, length, ◌==◌, ◌&&◌, not, List, [], ◌∷◌, Option, Some, None, IsSome}
+use Rattle.std.specs.Prelude.{sum_by, count_by, map, slice_index_or, refl, ◌⊎◌}
 use Rattle.std.proofs.Common.{arith, cond, ap, ◌∙◌, sym, subst, inl, inr, get_or}
 use Rattle.std.proofs.lemmas.Bool.{cases_eq, cases_lt, and_parts}
 use borrow.Author.Tests.{ltb-true, leb-true}
@@ -9,7 +10,8 @@ use Rattle.blocks.specs.declared.BlockRef.{BlockRef}
 use Rattle.blocks.specs.Blocks.{Blocks}
 use Rattle.blocks.proofs.Change.{cases_live}
 use Rattle.blocks.proofs.Sums.{count_cons, sum_two}
-use Rattle.blocks.specs.Slabs.{SlabUse, Heap, per_slab, is_of, is_kept, used_in, waiting_in, spare_in, slabs_of, kept_of, used_of, waiting_of, spare_of, needed, wants, is_other, Calmer, released, ended, IsSoundHeap, Swept, Begun, Moves, one_fewer, one_more_in, unmarked, slab_at, sizes, blocks_in}
+use Rattle.blocks.specs.Slabs.{SlabUse, Heap, per_slab, is_of, is_kept, used_in, waiting_in, spare_in, slabs_of, kept_of, used_of, waiting_of, spare_of, needed, wants, is_other, Calmer}
+use Rattle.blocks.specs.Slabs.{released, ended, IsSoundHeap, Swept, Begun, Moves, one_fewer, one_more_in, unmarked, slab_at, sizes, blocks_in}
 
 -- a heap is at least as calm as itself
 pub Calmer-same : (h : Heap) → Calmer h h
@@ -89,15 +91,18 @@ stay c [] w = omega arith
 stay c (x ∷ rest) w = let w' : waiting_in c x + sum_by (waiting_in c) rest ≡ 0 = sym (sum_by-cons (waiting_in c) x rest) ∙ w in
     let h : cond (is_of c (released x)) 1 0 ≤ cond (is_kept c x) 1 0 = slab_stays c x (omega (arith, w')) in
     let r : count_by (is_of c) (map released rest) ≤ count_by (is_kept c) rest = stay c rest (omega (arith, w')) in
-    let g : cond (is_of c (released x)) 1 0 + count_by (is_of c) (map released rest) ≤ cond (is_kept c x) 1 0 + count_by (is_kept c) rest = omega (arith, h, r) in rw (count_cons (is_of c) (released x) (map released rest), count_cons (is_kept c) x rest) g
+    let g : cond (is_of c (released x)) 1 0 + count_by (is_of c) (map released rest) ≤ cond (is_kept c x) 1 0 + count_by (is_kept c) rest = omega (arith, h, r) in
+    rw (count_cons (is_of c) (released x) (map released rest), count_cons (is_kept c) x rest) g
 
 -- the blocks of a class have room in those of its slabs that are left at the end of a pass
-hold : (c : ℕ) (xs : List (Option SlabUse)) → ((n : ℕ) (s : SlabUse) → slice_index_or xs n None ≡ Some s → s.used ≤ per_slab s.class) → sum_by (used_in c) xs ≤ count_by (is_of c) (map released xs) * per_slab c
+hold : (c : ℕ) (xs : List (Option SlabUse)) → ((n : ℕ) (s : SlabUse) → slice_index_or xs n None ≡ Some s → s.used ≤ per_slab s.class)
+    → sum_by (used_in c) xs ≤ count_by (is_of c) (map released xs) * per_slab c
 hold c [] f = omega arith
 hold c (x ∷ rest) f =
     let h : used_in c x ≤ cond (is_of c (released x)) (per_slab c) 0 = slab_holds c x (λ s e. f 0 s e) in
     let r : sum_by (used_in c) rest ≤ count_by (is_of c) (map released rest) * per_slab c = hold c rest (λ n s e. f (suc n) s e) in
-    rw (sum_by-cons (used_in c) x rest, count_cons (is_of c) (released x) (map released rest)) (by_is (is_of c (released x)) (used_in c x) (sum_by (used_in c) rest) (count_by (is_of c) (map released rest)) (per_slab c) h r)
+    rw (sum_by-cons (used_in c) x rest, count_cons (is_of c) (released x) (map released rest))
+    (by_is (is_of c (released x)) (used_in c x) (sum_by (used_in c) rest) (count_by (is_of c) (map released rest)) (per_slab c) h r)
   where
     by_is : (t : Bool) (u us k p : ℕ) → u ≤ cond t p 0 → us ≤ k * p → u + us ≤ (cond t 1 0 + k) * p
     by_is true u us k p h r = grind (arith, h, r)
@@ -106,7 +111,9 @@ hold c (x ∷ rest) f =
 -- the end of a pass leaves each class as many blocks
 used_kept : (c : ℕ) (xs : List (Option SlabUse)) → sum_by (used_in c) (map released xs) ≡ sum_by (used_in c) xs
 used_kept c [] = refl
-used_kept c (x ∷ rest) = let h : used_in c (released x) ≡ used_in c x = one x in let g : used_in c (released x) + sum_by (used_in c) (map released rest) ≡ used_in c x + sum_by (used_in c) rest = omega (arith, h, used_kept c rest) in sum_by-cons (used_in c) (released x) (map released rest) ∙ (g ∙ sym (sum_by-cons (used_in c) x rest))
+used_kept c (x ∷ rest) = let h : used_in c (released x) ≡ used_in c x = one x in
+    let g : used_in c (released x) + sum_by (used_in c) (map released rest) ≡ used_in c x + sum_by (used_in c) rest = omega (arith, h, used_kept c rest) in
+    sum_by-cons (used_in c) (released x) (map released rest) ∙ (g ∙ sym (sum_by-cons (used_in c) x rest))
   where
     one : (o : Option SlabUse) → used_in c (released o) ≡ used_in c o
     one None = refl
@@ -146,10 +153,12 @@ none_waits blocks h i p calm c = all h.slabs (λ n s e. still n s e)
     all : (xs : List (Option SlabUse)) → ((n : ℕ) (s : SlabUse) → slice_index_or xs n None ≡ Some s → waiting_in c (Some s) ≡ 0) → sum_by (waiting_in c) xs ≡ 0
     all [] f = refl
     all (None ∷ rest) f = let b = all rest (λ n s e. f (suc n) s e) in let g : waiting_in c None + sum_by (waiting_in c) rest ≡ 0 = omega (arith, b) in sum_by-cons (waiting_in c) None rest ∙ g
-    all (Some s ∷ rest) f = let a : waiting_in c (Some s) ≡ 0 = f 0 s refl in let b = all rest (λ n s e. f (suc n) s e) in let g : waiting_in c (Some s) + sum_by (waiting_in c) rest ≡ 0 = omega (arith, a, b) in sum_by-cons (waiting_in c) (Some s) rest ∙ g
+    all (Some s ∷ rest) f = let a : waiting_in c (Some s) ≡ 0 = f 0 s refl in let b = all rest (λ n s e. f (suc n) s e) in let g : waiting_in c (Some s) + sum_by (waiting_in c) rest ≡ 0 =
+        omega (arith, a, b) in sum_by-cons (waiting_in c) (Some s) rest ∙ g
 
 -- a pass that was swept over all live blocks leaves each class the slabs that it needs
-pub Swept-ends : (blocks : Blocks) (h : Heap) (passed : BlockRef → Type 0) → IsSoundHeap blocks h → Swept h passed → ((r : BlockRef) → IsSome (blocks r) → passed r) → (c : ℕ) → c < 36 → slabs_of (ended h) c ≡ needed (ended h) c
+pub Swept-ends : (blocks : Blocks) (h : Heap) (passed : BlockRef → Type 0) → IsSoundHeap blocks h → Swept h passed → ((r : BlockRef) → IsSome (blocks r) → passed r) → (c : ℕ) → c < 36
+    → slabs_of (ended h) c ≡ needed (ended h) c
 Swept-ends blocks h passed i s all c lt = ended_exact h i.fits c (per_slab-pos c) (none_waits blocks h (inhabited blocks h i) s.passing (λ r live. s.calm r (all r live)) c) (s.kept c lt)
 
 -- the blocks in a kept slab of the class
@@ -180,10 +189,12 @@ times_one true k p = grind arith
 times_one false k p = omega arith
 
 -- the free places and the blocks of a class's kept slabs are all places of these slabs
-all_spare : (c : ℕ) (xs : List (Option SlabUse)) → ((n : ℕ) (s : SlabUse) → slice_index_or xs n None ≡ Some s → s.used ≤ per_slab s.class) → sum_by (spare_in c) xs + sum_by (kept_used c) xs ≡ count_by (is_kept c) xs * per_slab c
+all_spare : (c : ℕ) (xs : List (Option SlabUse)) → ((n : ℕ) (s : SlabUse) → slice_index_or xs n None ≡ Some s → s.used ≤ per_slab s.class)
+    → sum_by (spare_in c) xs + sum_by (kept_used c) xs ≡ count_by (is_kept c) xs * per_slab c
 all_spare c [] f = omega arith
 all_spare c (x ∷ rest) f = rw (count_cons (is_kept c) x rest) (let r = all_spare c rest (λ n s e. f (suc n) s e) in let o = one_spares c x (λ s e. f 0 s e) in
-    let g : cond (is_kept c x) (per_slab c) 0 + count_by (is_kept c) rest * per_slab c ≡ (cond (is_kept c x) 1 0 + count_by (is_kept c) rest) * per_slab c = times_one (is_kept c x) (count_by (is_kept c) rest) (per_slab c) in
+    let g : cond (is_kept c x) (per_slab c) 0 + count_by (is_kept c) rest * per_slab c ≡ (cond (is_kept c x) 1 0 + count_by (is_kept c) rest) * per_slab c =
+    times_one (is_kept c x) (count_by (is_kept c) rest) (per_slab c) in
     omega (arith, sum_by-cons (spare_in c) x rest, sum_by-cons (kept_used c) x rest, o, r, g))
 
 -- as many slabs as the quotient rounded up says have room for all the blocks
@@ -192,7 +203,8 @@ up_enough u p pos = grind arith
 
 -- where as many slabs are kept as are needed, the blocks of the others have room in them
 pub begun_room : (h : Heap) → Fits h → (c : ℕ) → 0 < per_slab c → kept_of h c ≡ needed h c → waiting_of h c ≤ spare_of h c
-begun_room h f c pos k = let e : used_of h c ≤ kept_of h c * per_slab c = subst (λ q. used_of h c ≤ q * per_slab c) (sym k) (up_enough (used_of h c) (per_slab c) pos) in omega (arith, all_wait c h.slabs, all_spare c h.slabs f, e)
+begun_room h f c pos k = let e : used_of h c ≤ kept_of h c * per_slab c = subst (λ q. used_of h c ≤ q * per_slab c) (sym k) (up_enough (used_of h c) (per_slab c) pos) in
+    omega (arith, all_wait c h.slabs, all_spare c h.slabs f, e)
 
 -- the start of a pass leaves each class as many blocks
 pub Begun-used : (a b : Heap) → Begun a b → (c : ℕ) → used_of b c ≡ used_of a c
@@ -200,8 +212,10 @@ Begun-used a b p c = sym (unmarked_used c b.slabs) ∙ (ap (sum_by (used_in c)) 
   where
     unmarked_used : (c : ℕ) (xs : List (Option SlabUse)) → sum_by (used_in c) (map unmarked xs) ≡ sum_by (used_in c) xs
     unmarked_used c [] = refl
-    unmarked_used c (None ∷ rest) = let g : used_in c None + sum_by (used_in c) (map unmarked rest) ≡ used_in c None + sum_by (used_in c) rest = omega (arith, unmarked_used c rest) in sum_by-cons (used_in c) None (map unmarked rest) ∙ (g ∙ sym (sum_by-cons (used_in c) None rest))
-    unmarked_used c (Some s ∷ rest) = let g : used_in c (Some s) + sum_by (used_in c) (map unmarked rest) ≡ used_in c (Some s) + sum_by (used_in c) rest = omega (arith, unmarked_used c rest) in sum_by-cons (used_in c) (unmarked (Some s)) (map unmarked rest) ∙ (g ∙ sym (sum_by-cons (used_in c) (Some s) rest))
+    unmarked_used c (None ∷ rest) = let g : used_in c None + sum_by (used_in c) (map unmarked rest) ≡ used_in c None + sum_by (used_in c) rest = omega (arith, unmarked_used c rest) in
+        sum_by-cons (used_in c) None (map unmarked rest) ∙ (g ∙ sym (sum_by-cons (used_in c) None rest))
+    unmarked_used c (Some s ∷ rest) = let g : used_in c (Some s) + sum_by (used_in c) (map unmarked rest) ≡ used_in c (Some s) + sum_by (used_in c) rest =
+        omega (arith, unmarked_used c rest) in sum_by-cons (used_in c) (unmarked (Some s)) (map unmarked rest) ∙ (g ∙ sym (sum_by-cons (used_in c) (Some s) rest))
 
 -- a pass that has begun is swept over nothing
 pub Begun-swept : (a b : Heap) → Begun a b → Swept b (λ r. ⊥)
@@ -262,7 +276,9 @@ module _ (a b : Heap) (at new : BlockRef) (m : Moves a b at new) where
 
   -- a sum over all slabs changes by what its values at these two slabs change
   moved_sum : (f : Option SlabUse → ℕ) → f None ≡ 0 → sum_by f b.slabs + f (Some m.from) + f (Some m.to) ≡ sum_by f a.slabs + f (one_fewer m.from) + f (Some (one_more_in m.to))
-  moved_sum f none = (let two : sum_by f b.slabs + f (slab_at a at.slab) + f (slab_at a new.slab) ≡ sum_by f a.slabs + f (slab_at b at.slab) + f (slab_at b new.slab) = sum_two f none a.slabs b.slabs at.slab new.slab moved_apart (in_slabs b.slabs new.slab _ m.entered) m.others in
+  moved_sum f none =
+      (let two : sum_by f b.slabs + f (slab_at a at.slab) + f (slab_at a new.slab) ≡ sum_by f a.slabs + f (slab_at b at.slab) + f (slab_at b new.slab) =
+      sum_two f none a.slabs b.slabs at.slab new.slab moved_apart (in_slabs b.slabs new.slab _ m.entered) m.others in
       omega (arith, two, ap f m.from_at, ap f m.to_at, ap f m.left, ap f m.entered))
 
   -- each class has as many kept slabs as before

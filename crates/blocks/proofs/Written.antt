@@ -19,7 +19,8 @@ length_zeros : (n : ℕ) → length (replicate {A = ℕ} n 0) ≡ n
 length_zeros n = grind (arith, common_steps)
 
 -- placed with zeros and then written whole
-pub placed-written : (m mid after : Blocks) (at : BlockRef) (piece : List ℕ) → mid ≡ with_block m at (Some (replicate (length piece) 0)) → after ≡ with_block mid at (Some (overwritten (bytes_at mid at) 0 piece)) → after ≡ with_block m at (Some piece)
+pub placed-written : (m mid after : Blocks) (at : BlockRef) (piece : List ℕ) → mid ≡ with_block m at (Some (replicate (length piece) 0))
+    → after ≡ with_block mid at (Some (overwritten (bytes_at mid at) 0 piece)) → after ≡ with_block m at (Some piece)
 placed-written m mid after at piece placed written =
     written
     ∙ ap (λ n. with_block n at (Some (overwritten (bytes_at n at) 0 piece))) placed
@@ -33,9 +34,11 @@ placed-written m mid after at piece placed written =
 pub piece-overwritten : (bytes piece : List ℕ) (from : ℕ) → from ≤ length bytes → take ((from + length piece) - from) (drop from (overwritten bytes from piece)) ≡ piece
 piece-overwritten bytes piece from h = grind (arith, common_steps, h)
 
-pub read-written : (m after : Blocks) (at : BlockRef) (from : ℕ) (piece seen : List ℕ) → after ≡ with_block m at (Some (overwritten (bytes_at m at) from piece)) → after at ≡ Some seen → from ≤ length (bytes_at m at) → pointwise nat_eq (take ((from + length piece) - from) (drop from seen)) piece ≡ true
+pub read-written : (m after : Blocks) (at : BlockRef) (from : ℕ) (piece seen : List ℕ) → after ≡ with_block m at (Some (overwritten (bytes_at m at) from piece)) → after at ≡ Some seen
+    → from ≤ length (bytes_at m at) → pointwise nat_eq (take ((from + length piece) - from) (drop from seen)) piece ≡ true
 read-written m after at from piece seen written read h =
-    let is : overwritten (bytes_at m at) from piece ≡ seen = ap (λ o. unwrap_or o []) (sym (with_block-same m at (Some (overwritten (bytes_at m at) from piece))) ∙ (ap (λ n. n at) (sym written) ∙ read)) in
+    let is : overwritten (bytes_at m at) from piece ≡ seen = ap (λ o. unwrap_or o [])
+    (sym (with_block-same m at (Some (overwritten (bytes_at m at) from piece))) ∙ (ap (λ n. n at) (sym written) ∙ read)) in
     ap (λ xs. pointwise nat_eq xs piece) (ap (λ xs. take ((from + length piece) - from) (drop from xs)) (sym is) ∙ piece-overwritten (bytes_at m at) piece from h) ∙ nat_list_eq_equiv.refl piece
 
 -- a placed block is as long as was asked

@@ -43,12 +43,14 @@ chain_kept words slot w from (suc n) h = elim (cases_eq from slot) [
 ]
 
 -- the head of a chain is free
-pub head_free : (words : List ℕ) (head n : ℕ) → ((s : ℕ) → occurs s (chain words head (suc n)) ≡ is_free words s) → (is_free words head ≡ 1) × (occurs head (chain words (word_at words head - 32768) n) ≡ 0)
+pub head_free : (words : List ℕ) (head n : ℕ) → ((s : ℕ) → occurs s (chain words head (suc n)) ≡ is_free words s) → (is_free words head ≡ 1)
+    × (occurs head (chain words (word_at words head - 32768) n) ≡ 0)
 unfolding chain occurs
 head_free words head n h = (omega (arith, h head, one_same head, free_most words head), omega (arith, h head, one_same head, free_most words head))
 
 -- the head gets a block
-pub chain_taken : (words : List ℕ) (head n w : ℕ) → ((s : ℕ) → occurs s (chain words head (suc n)) ≡ is_free words s) → w < 32768 → (s : ℕ) → occurs s (chain (slice_set words head w) (word_at words head - 32768) n) ≡ is_free (slice_set words head w) s
+pub chain_taken : (words : List ℕ) (head n w : ℕ) → ((s : ℕ) → occurs s (chain words head (suc n)) ≡ is_free words s) → w < 32768 → (s : ℕ)
+    → occurs s (chain (slice_set words head w) (word_at words head - 32768) n) ≡ is_free (slice_set words head w) s
 unfolding chain occurs
 chain_taken words head n w h small s =
     let f = head_free words head n h in let p = free_parts words head (λ z. absurd (omega (arith, f.0, z))) in
@@ -62,13 +64,15 @@ chain_taken words head n w h small s =
     ])
 
 -- a slot that is given back becomes the head
-pub chain_given : (words : List ℕ) (head n slot : ℕ) → ((s : ℕ) → occurs s (chain words head n) ≡ is_free words s) → is_used words slot ≡ true → (s : ℕ) → occurs s (chain (slice_set words slot (32768 + head)) slot (suc n)) ≡ is_free (slice_set words slot (32768 + head)) s
+pub chain_given : (words : List ℕ) (head n slot : ℕ) → ((s : ℕ) → occurs s (chain words head n) ≡ is_free words s) → is_used words slot ≡ true → (s : ℕ)
+    → occurs s (chain (slice_set words slot (32768 + head)) slot (suc n)) ≡ is_free (slice_set words slot (32768 + head)) s
 unfolding chain occurs
 chain_given words head n slot h used s =
     let lt = used_there words slot used in let w = 32768 + head in let new = slice_set words slot w in
     let e : word_at new slot ≡ w = get_or-set_same words slot w 65535 lt in
     let none : occurs slot (chain words head n) ≡ 0 = h slot ∙ free_none words slot used in
-    let kept : chain new (word_at new slot - 32768) n ≡ chain words head n = ap (λ v. chain new (v - 32768) n) e ∙ (ap (λ v. chain new v n) (let m : w - 32768 ≡ head = omega arith in m) ∙ chain_kept words slot w head n none) in
+    let kept : chain new (word_at new slot - 32768) n ≡ chain words head n = ap (λ v. chain new (v - 32768) n) e
+    ∙ (ap (λ v. chain new v n) (let m : w - 32768 ≡ head = omega arith in m) ∙ chain_kept words slot w head n none) in
     let all = ap (occurs s) kept in
     elim (cases_eq s slot) [
       | inl same ↦ (let o : one_if (eqb slot s) ≡ 1 = ap (λ x. one_if (eqb slot x)) same ∙ one_same slot in
@@ -92,7 +96,8 @@ unfolding used_below
 used_changed words slot w zero lt within = absurd (omega arith)
 used_changed words slot w (suc k) lt within = elim (cases_eq k slot) [
   | inl same ↦ (let rest = used_same (slice_set words slot w) words k (λ s l. get_or-set_other words slot s w 65535 (λ q. absurd (omega (arith, q, same, l)))) in
-      let here : one_if (is_used (slice_set words slot w) k) ≡ one_if (nat_lt w 32768) = ap (λ s. one_if (is_used (slice_set words slot w) s)) same ∙ ap (λ v. one_if (nat_lt v 32768)) (get_or-set_same words slot w 65535 within) in
+      let here : one_if (is_used (slice_set words slot w) k) ≡ one_if (nat_lt w 32768) = ap (λ s. one_if (is_used (slice_set words slot w) s)) same
+      ∙ ap (λ v. one_if (nat_lt v 32768)) (get_or-set_same words slot w 65535 within) in
       omega (arith, rest, here, ap (λ s. one_if (is_used words s)) same))
   | inr other ↦ (let rest = used_changed words slot w k (omega (arith, lt, other)) within in
       let here : one_if (is_used (slice_set words slot w) k) ≡ one_if (is_used words k) = ap (λ v. one_if (nat_lt v 32768)) (get_or-set_other words slot k w 65535 other) in

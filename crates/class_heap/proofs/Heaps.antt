@@ -1,5 +1,6 @@
 -- A class heap's blocks and slabs by number, and what one changed number leaves.
-use Rattle.std.specs.Prelude.{◌≡◌, ◌≢◌, ℕ, zero, suc, ◌+◌, ◌^◌, ◌<◌, ◌≤◌, Bool, true, false, ◌&&◌, ◌||◌, not, nat_lt, List, [], ◌∷◌, length, map, sum_by, Option, Some, None, IfSome, IfNone, MatchBool, is_some, refl, ◌⊎◌, slice_index_or}
+use Rattle.std.specs.Prelude.{◌≡◌, ◌≢◌, ℕ, zero, suc, ◌+◌, ◌^◌, ◌<◌, ◌≤◌, Bool, true, false, ◌&&◌, ◌||◌, not, nat_lt, List, [], ◌∷◌, length, map, sum_by, Option, Some, None, IfSome}
+use Rattle.std.specs.Prelude.{IfNone, MatchBool, is_some, refl, ◌⊎◌, slice_index_or}
 use Rattle.std.proofs.Common.{arith, cond, eqb, ap, ◌∙◌, sym, inl, inr, get_or}
 use Rattle.std.proofs.lemmas.Grind.{common_steps}
 use Rattle.std.proofs.lemmas.Bool.{cases_eq, cases_lt, and_parts, and_from, eqb-true, eq-eqb, cond-true}
@@ -77,7 +78,9 @@ labels_take passing (Classed slab) class lt = by_room (has_room passing (use_of 
 pub vacant_labels : (passing : Bool) (e : Entry) → bit_at (labels_of passing e) 36 ≡ 1 → e ≡ Vacant
 vacant_labels passing Vacant h = refl
 vacant_labels passing (Large bytes) h = absurd (omega (arith, h, bit_at-zero 36))
-vacant_labels passing (Classed slab) h = absurd (let b = by_room (has_room passing (use_of slab)) _ slab.class 36 (λ e. omega arith) in let lt = slab.sound.classed in none (has_room passing (use_of slab)) (eqb slab.class 36) (grind (arith, common_steps, lt)) (sym b ∙ h))
+vacant_labels passing (Classed slab) h = absurd
+    (let b = by_room (has_room passing (use_of slab)) _ slab.class 36 (λ e. omega arith) in let lt = slab.sound.classed in
+    none (has_room passing (use_of slab)) (eqb slab.class 36) (grind (arith, common_steps, lt)) (sym b ∙ h))
   where
     none : (b t : Bool) → t ≡ false → one_if (t && b) ≡ 1 → ⊥
     none b t e k = absurd (omega (arith, sym (ap (λ x. one_if (x && b)) e) ∙ k))
@@ -152,7 +155,8 @@ module _ {passing : Bool} {entries : List Entry} {directory : Directory} {margin
       past (x ∷ rest) (suc i) h = past rest i (omega arith)
 
   -- the least number with the label of a class is that of the first slab that takes blocks of the class
-  pub first_takes : (class n : ℕ) → class < 36 → IsLeastWith directory.bound directory.nodes.items class n → (n < length entries) × (takes passing class (use_in (entry_at entries n)) ≡ true) × ((m : ℕ) → m < n → takes passing class (use_in (entry_at entries m)) ≡ false)
+  pub first_takes : (class n : ℕ) → class < 36 → IsLeastWith directory.bound directory.nodes.items class n → (n < length entries)
+      × (takes passing class (use_in (entry_at entries n)) ≡ true) × ((m : ℕ) → m < n → takes passing class (use_in (entry_at entries m)) ≡ false)
   first_takes class n lt f =
       let b = sound.bound in let w = f.within in
       let there : n < length entries = omega (arith, b, w) in (
@@ -164,7 +168,9 @@ module _ {passing : Bool} {entries : List Entry} {directory : Directory} {margin
   -- where no number has the label of a class, no slab takes blocks of the class
   pub none_takes : (class : ℕ) → class < 36 → ((n : ℕ) → n < directory.bound → bit_at (labels_at directory n) class ≡ 0) → (n : ℕ) → takes passing class (use_in (entry_at entries n)) ≡ false
   none_takes class lt none n = elim (cases_lt n (length entries)) [
-    | inl there ↦ (let b = sound.bound in one_false _ (sym (labels_take passing (entry_at entries n) class lt) ∙ (ap (λ l. bit_at l class) (sym (sound.labelled n there)) ∙ none n (omega (arith, there, b)))))
+    | inl there ↦
+        (let b = sound.bound in one_false _
+        (sym (labels_take passing (entry_at entries n) class lt) ∙ (ap (λ l. bit_at l class) (sym (sound.labelled n there)) ∙ none n (omega (arith, there, b)))))
     | inr past ↦ ap (λ e. takes passing class (use_in e)) (beyond n past)
   ]
 
@@ -176,17 +182,23 @@ module _ {passing : Bool} {entries : List Entry} {directory : Directory} {margin
       record {
         within = there;
         vacant = vacant_labels passing (entry_at entries n) (ap (λ l. bit_at l 36) (sym (sound.labelled n there)) ∙ f.has);
-        least = λ m less is. absurd (let one = labels_vacant passing (entry_at entries m) is in let zero' = ap (λ l. bit_at l 36) (sym (sound.labelled m (omega (arith, less, there)))) ∙ f.least m less in omega (arith, one, zero'));
+        least = λ m less is. absurd
+            (let one = labels_vacant passing (entry_at entries m) is in let zero' = ap (λ l. bit_at l 36) (sym (sound.labelled m (omega (arith, less, there))))
+            ∙ f.least m less in omega (arith, one, zero'));
       }
 
   -- where no number has the label of a vacant one, every number of the list has something
   pub none_vacant : ((n : ℕ) → n < directory.bound → bit_at (labels_at directory n) 36 ≡ 0) → (n : ℕ) → n < length entries → entry_at entries n ≢ Vacant
-  none_vacant none n there is = absurd (let b = sound.bound in let one = labels_vacant passing (entry_at entries n) is in let zero' = ap (λ l. bit_at l 36) (sym (sound.labelled n there)) ∙ none n (omega (arith, there, b)) in omega (arith, one, zero'))
+  none_vacant none n there is = absurd
+      (let b = sound.bound in let one = labels_vacant passing (entry_at entries n) is in let zero' = ap (λ l. bit_at l 36) (sym (sound.labelled n there))
+      ∙ none n (omega (arith, there, b)) in omega (arith, one, zero'))
 
   -- where no number has the label of blocks that want to move, none wants to
   pub none_wants : ((n : ℕ) → n < directory.bound → bit_at (labels_at directory n) 37 ≡ 0) → (r : BlockRef) → wants (heap_of passing entries) r ≡ false
   none_wants none r = ap (λ o. passing && is_other o) (slab_read passing entries r.slab) ∙ elim (cases_lt r.slab (length entries)) [
-    | inl there ↦ (let b = sound.bound in one_false _ (sym (labels_wait passing (entry_at entries r.slab)) ∙ (ap (λ l. bit_at l 37) (sym (sound.labelled r.slab there)) ∙ none r.slab (omega (arith, there, b)))))
+    | inl there ↦
+        (let b = sound.bound in one_false _
+        (sym (labels_wait passing (entry_at entries r.slab)) ∙ (ap (λ l. bit_at l 37) (sym (sound.labelled r.slab there)) ∙ none r.slab (omega (arith, there, b)))))
     | inr past ↦ ap (λ e. passing && is_other (use_in e)) (beyond r.slab past) ∙ by_none passing
   ]
     where
@@ -240,7 +252,8 @@ pub record IsChange (old new : List Entry) (n : ℕ) (e : Entry) : Type 0 where
   pub others : (m : ℕ) → m ≢ n → entry_at new m ≡ entry_at old m
 
 -- where an entry changes in one slot, the blocks change under that one reference
-pub blocks_changed : (old new : List Entry) (e : Entry) (at : BlockRef) (content : Option (List ℕ)) → IsChange old new at.slab e → ((slot : ℕ) → block_in e slot ≡ with_slot (block_in (entry_at old at.slab)) at.slot content slot) → blocks_of new ≡ with_block (blocks_of old) at content
+pub blocks_changed : (old new : List Entry) (e : Entry) (at : BlockRef) (content : Option (List ℕ)) → IsChange old new at.slab e
+    → ((slot : ℕ) → block_in e slot ≡ with_slot (block_in (entry_at old at.slab)) at.slot content slot) → blocks_of new ≡ with_block (blocks_of old) at content
 blocks_changed old new e at content c slots = λ i r. one r i
   where
     one : (r : BlockRef) → blocks_of new r ≡ with_block (blocks_of old) at content r
@@ -264,7 +277,8 @@ pub changed_here : (passing : Bool) (old new : List Entry) (n : ℕ) (e : Entry)
 changed_here passing old new n e c = slab_read passing new n ∙ ap use_in c.here
 
 -- a sum over the slabs
-pub sum_after : (f : Option SlabUse → ℕ) → f None ≡ 0 → (old new : List Entry) (n : ℕ) (e : Entry) → IsChange old new n e → sum_by f (map use_in new) + f (use_in (entry_at old n)) ≡ sum_by f (map use_in old) + f (use_in e)
+pub sum_after : (f : Option SlabUse → ℕ) → f None ≡ 0 → (old new : List Entry) (n : ℕ) (e : Entry) → IsChange old new n e
+    → sum_by f (map use_in new) + f (use_in (entry_at old n)) ≡ sum_by f (map use_in old) + f (use_in e)
 sum_after f none old new n e c =
     let s = sum_changed f none (map use_in old) (map use_in new) n (changed_slabs true old new n e c) in
     omega (arith, s, ap f (slab_read true old n), ap f (changed_here true old new n e c))
@@ -275,10 +289,13 @@ pub record IsEntry (passing : Bool) (e : Entry) : Type 0 where
   pub filled : (s : SlabUse) → use_in e ≡ Some s → s.kept ≡ false → 0 < s.used
 
 -- a heap stays sound where one entry, its labels and the margins change in accord
-pub sound_changed : {passing : Bool} {old : List Entry} {directory : Directory} {margins : List ℕ} (sound : IsHeap passing old directory margins) (new : List Entry) (later : Directory) (other_margins : List ℕ) (n : ℕ) (e : Entry)
+pub sound_changed : {passing : Bool} {old : List Entry} {directory : Directory} {margins : List ℕ} (sound : IsHeap passing old directory margins) (new : List Entry) (later : Directory)
+    (other_margins : List ℕ) (n : ℕ) (e : Entry)
     → length new ≡ length old → IsChange old new n e → later.bound ≡ directory.bound → ((m : ℕ) → m < later.bound → labels_at later m ≡ cond (eqb m n) (labels_of passing e) (labels_at directory m))
     → IsEntry passing e → length other_margins ≡ 36
-    → (passing ≡ true → (class : ℕ) → class < 36 → waiting_in class (use_in e) + spare_in class (use_in (entry_at old n)) + slice_index_or other_margins class 0 ≡ waiting_in class (use_in (entry_at old n)) + spare_in class (use_in e) + slice_index_or margins class 0)
+    →
+    (passing ≡ true → (class : ℕ) → class < 36 → waiting_in class (use_in e) + spare_in class (use_in (entry_at old n)) + slice_index_or other_margins class 0 ≡ waiting_in class
+    (use_in (entry_at old n)) + spare_in class (use_in e) + slice_index_or margins class 0)
     → IsHeap passing new later other_margins
 sound_changed {passing = passing} {old = old} {directory = directory} {margins = margins} sound new later other_margins n e long c bound labels is few balance = record {
   bound = long ∙ (sound.bound ∙ sym bound);
@@ -291,8 +308,12 @@ sound_changed {passing = passing} {old = old} {directory = directory} {margins =
 }
   where
     labelled : (m : ℕ) → m < length new → (m ≡ n) ⊎ (m ≢ n) → labels_at later m ≡ labels_of passing (entry_at new m)
-    labelled m lt (inl same) = (let b = sound.bound in labels m (omega (arith, lt, long, b, bound)) ∙ (cond-true (eqb m n) _ _ (eq-eqb m n same) ∙ ap (labels_of passing) (sym c.here ∙ ap (entry_at new) (sym same))))
-    labelled m lt (inr other) = (let b = sound.bound in labels m (omega (arith, lt, long, b, bound)) ∙ (unlike m other ∙ (sound.labelled m (omega (arith, lt, long)) ∙ ap (labels_of passing) (sym (c.others m other)))))
+    labelled m lt (inl same) =
+        (let b = sound.bound in labels m (omega (arith, lt, long, b, bound))
+        ∙ (cond-true (eqb m n) _ _ (eq-eqb m n same) ∙ ap (labels_of passing) (sym c.here ∙ ap (entry_at new) (sym same))))
+    labelled m lt (inr other) =
+        (let b = sound.bound in labels m (omega (arith, lt, long, b, bound))
+        ∙ (unlike m other ∙ (sound.labelled m (omega (arith, lt, long)) ∙ ap (labels_of passing) (sym (c.others m other)))))
       where
         unlike : (m : ℕ) → m ≢ n → cond (eqb m n) (labels_of passing e) (labels_at directory m) ≡ labels_at directory m
         unlike m other = grind (arith, common_steps, other)

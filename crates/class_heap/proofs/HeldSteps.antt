@@ -42,7 +42,8 @@ module _ (E : Bx) {M : Type 1} {𝓤 : Ura M} (𝓛 : Logic 𝓤) where
 
   pub el_room : (x : X E) (b o : ℕ) → ent 𝓤 (sem 𝓛 (part_at (R E) full_share x b o)) (H.room (τ E) b o)
   el_room x b o = qed 𝓛 (‵ (part_at (R E) full_share x b o) ∷ []) ∵
-      use1 𝓛 (some (λ (v : Val). ‵ (fat full_share (τ E) b o v) ⊛ ‵ (own E x (v ∷ [])))) (part_out 𝓛 (R E) refl full_share x b o) $ pick ! (λ v. split ! $ keep ! (0 ∷ []) $ by ! (𝓛.laws.at_room (τ E) b o v))
+      use1 𝓛 (some (λ (v : Val). ‵ (fat full_share (τ E) b o v) ⊛ ‵ (own E x (v ∷ [])))) (part_out 𝓛 (R E) refl full_share x b o) $ pick !
+      (λ v. split ! $ keep ! (0 ∷ []) $ by ! (𝓛.laws.at_room (τ E) b o v))
 
 module _ (E : Bx) {M : Type 1} {𝓤 : Ura M} {𝓛 : Logic 𝓤} {K : Type 0} {Γ : List (Item 𝓤)} {G : Goal 𝓤 𝓛.H} where
   pub el_tells : K → (x : X E) (vs : List Val) → ((v : Val) → vs ≡ v ∷ [] → Good E v → Seq K 𝓛 (‵ (own E x (v ∷ [])) ∷ Γ) G) → Seq K 𝓛 (‵ (own E x vs) ∷ Γ) G
@@ -61,14 +62,18 @@ module _ (E : Bx) {M : Type 1} {𝓤 : Ura M} {𝓛 : Logic 𝓤} {K : Type 0} {
   pub box_in : K → {hv : Val} (d : D E) (b o : ℕ) (x : X E) → d.at ≡ block_ptr b o → d.value ≡ x
       → Step K 𝓛 (‵ ((B E).own_val d (word E hv b o ∷ [])) ∷ Γ) G (‵ (part_at (R E) full_share x b o) ∷ ‵ (token E.al d.alloc (bare (τ E)) (block_ptr b o)) ∷ ‵ (handle E d.alloc hv) ∷ Γ) G
   box_in t {hv} d b o x e f = step (λ s.
-      fjoin t $ rewrite t 0 (λ (y : X E). ‵ (box_owns (token E.al d.alloc) (R E) (block_ptr b o) y)) (sym f) refl $ rewrite t 0 (λ (p : Ptr). ‵ (box_owns (token E.al d.alloc) (R E) p d.value)) (sym e) refl $
+      fjoin t $ rewrite t 0 (λ (y : X E). ‵ (box_owns (token E.al d.alloc) (R E) (block_ptr b o) y)) (sym f) refl $ rewrite t 0
+      (λ (p : Ptr). ‵ (box_owns (token E.al d.alloc) (R E) p d.value)) (sym e) refl $
       nothing t $ move t (2 ∷ 0 ∷ []) $ fjoin t $ feq_i t (List Val) (vptr b o ∷ []) (ptr_val d.at ∷ []) (ap (λ (p : Ptr). ptr_val p ∷ []) (sym e)) $ fjoin t $
       feq_i t (List Val) (word E hv b o ∷ []) (word E hv b o ∷ []) refl $ fjoin t $
       fpack t (Valss (RawPtr ∷ P E ∷ [])) (within (shape (owning E)) (d.at, (d.alloc, tt)) (word E hv b o ∷ [])) (vptr b o ∷ [], (hv ∷ [], tt)) $ fjoin t $ s)
 
 module _ (E : Bx) {M : Type 1} {𝓤 : Ura M} {𝓛 : Logic 𝓤} {K : Type 0} {Γ : List (Item 𝓤)} {G : Goal 𝓤 𝓛.H} where
   pub box_opens : K → Soaks G → {κ : Lft} {q : Share} {γ : GName} (d : D E) (rb ro : ℕ)
-      → ((b o : ℕ) (hv : Val) → d.at ≡ block_ptr b o → Seq K 𝓛 (‵ (part_at (R E) full_share d.value b o) ∷ ‵ (fsep (token E.al d.alloc (bare (τ E)) (block_ptr b o)) (handle E d.alloc hv)) ∷ ‵ (cell_at full_share (B E).mir (word E hv b o ∷ []) rb ro)
+      →
+      ((b o : ℕ) (hv : Val) → d.at ≡ block_ptr b o → Seq K 𝓛
+      (‵ (part_at (R E) full_share d.value b o) ∷ ‵ (fsep (token E.al d.alloc (bare (τ E)) (block_ptr b o)) (handle E d.alloc hv))
+      ∷ ‵ (cell_at full_share (B E).mir (word E hv b o ∷ []) rb ro)
       ∷ ‵ (fobor κ q (Borrowed (mem (B E)) rb ro γ)) ∷ ‵ (fobs γ ((B E).coded.code d)) ∷ ‵ (fauth γ ((B E).coded.code d)) ∷ Γ) G)
       → Seq K 𝓛 (‵ (fobs γ ((B E).coded.code d)) ∷ ‵ (fbor κ (Borrowed (mem (B E)) rb ro γ)) ∷ ‵ (flft κ q) ∷ Γ) G
   box_opens t z d rb ro k =
@@ -77,5 +82,7 @@ module _ (E : Bx) {M : Type 1} {𝓤 : Ura M} {𝓛 : Logic 𝓤} {K : Type 0} {
 
   pub box_closes : K → Soaks G → {κ : Lft} {q : Share} {v w : Gv} {γ : GName} {hv : Val} (d : D E) (b o : ℕ) (x : X E) (rb ro : ℕ) → d.at ≡ block_ptr b o → d.value ≡ x
       → Step K 𝓛 (‵ (fobs γ ((B E).coded.code d)) ∷ ‵ (fbor κ (Borrowed (mem (B E)) rb ro γ)) ∷ ‵ (flft κ q) ∷ Γ) G
-      (‵ (part_at (R E) full_share x b o) ∷ ‵ (fsep (token E.al d.alloc (bare (τ E)) (block_ptr b o)) (handle E d.alloc hv)) ∷ ‵ (cell_at full_share (B E).mir (word E hv b o ∷ []) rb ro) ∷ ‵ (fobor κ q (Borrowed (mem (B E)) rb ro γ)) ∷ ‵ (fobs γ v) ∷ ‵ (fauth γ w) ∷ Γ) G
-  box_closes t z {hv = hv} d b o x rb ro e f = step (λ s. move t (1 ∷ []) $ fsplit t $ move t (2 ∷ []) $ box_in E t d b o x e f $ move t (1 ∷ 0 ∷ []) $ closes t z (B E) d (word E hv b o ∷ []) rb ro $ s)
+      (‵ (part_at (R E) full_share x b o) ∷ ‵ (fsep (token E.al d.alloc (bare (τ E)) (block_ptr b o)) (handle E d.alloc hv)) ∷ ‵ (cell_at full_share (B E).mir (word E hv b o ∷ []) rb ro)
+      ∷ ‵ (fobor κ q (Borrowed (mem (B E)) rb ro γ)) ∷ ‵ (fobs γ v) ∷ ‵ (fauth γ w) ∷ Γ) G
+  box_closes t z {hv = hv} d b o x rb ro e f = step
+      (λ s. move t (1 ∷ []) $ fsplit t $ move t (2 ∷ []) $ box_in E t d b o x e f $ move t (1 ∷ 0 ∷ []) $ closes t z (B E) d (word E hv b o ∷ []) rb ro $ s)

@@ -1,5 +1,6 @@
 -- The marks of a class: how many slabs are kept, and which.
-use Rattle.std.specs.Prelude.{◌≡◌, ◌≢◌, ℕ, zero, suc, ◌+◌, ◌-◌, ◌*◌, ◌/◌, ◌<◌, ◌≤◌, ◌==◌, Bool, true, false, ◌&&◌, ◌||◌, not, nat_lt, List, [], ◌∷◌, ◌++◌, take, drop, length, sum_by, count_by, slice_set, slice_index_or, Option, Some, None, refl, ◌⊎◌}
+use Rattle.std.specs.Prelude.{◌≡◌, ◌≢◌, ℕ, zero, suc, ◌+◌, ◌-◌, ◌*◌, ◌/◌, ◌<◌, ◌≤◌, ◌==◌, Bool, true, false, ◌&&◌, ◌||◌, not, nat_lt, List, [], ◌∷◌, ◌++◌, take, drop, length, sum_by}
+use Rattle.std.specs.Prelude.{count_by, slice_set, slice_index_or, Option, Some, None, refl, ◌⊎◌}
 use Rattle.std.proofs.Common.{arith, cond, ap, ◌∙◌, sym, subst, inl, inr, get_or, get_or-set_same, get_or-set_other, length-set}
 use Rattle.std.proofs.lemmas.Grind.{common_steps}
 use Rattle.std.proofs.lemmas.Bool.{cases_eq, cases_lt, cases_Bool, eqb-true}
@@ -20,26 +21,35 @@ use Rattle.class_heap.specs.Laws.{slab_read, fits_in}
 
 -- after one slab was marked, marking those behind it comes to what marking from it on would have
 pub marked_step : (class least equal : ℕ) (us : List (Option SlabUse)) (i : ℕ) → i < length us
-    → take (suc i) (slice_set us i (marked class least equal (get_or us i None))) ++ all_marked class least (equal_after class least equal (get_or us i None)) (drop (suc i) (slice_set us i (marked class least equal (get_or us i None)))) ≡ take i us ++ all_marked class least equal (drop i us)
+    → take (suc i) (slice_set us i (marked class least equal (get_or us i None)))
+    ++ all_marked class least (equal_after class least equal (get_or us i None)) (drop (suc i) (slice_set us i (marked class least equal (get_or us i None)))) ≡ take i us
+    ++ all_marked class least equal (drop i us)
 marked_step class least equal [] i lt = absurd (omega arith)
 marked_step class least equal (x ∷ rest) zero lt = refl
 marked_step class least equal (x ∷ rest) (suc i) lt = ap (λ l. x ∷ l) (marked_step class least equal rest i (omega arith))
 
 -- the same over the entries
-pub keep_step : (class least equal left : ℕ) (entries : List Entry) (i : ℕ) (e : Entry) → i < length entries → use_in e ≡ marked class least equal (use_in (entry_at entries i)) → left ≡ equal_after class least equal (use_in (entry_at entries i))
-    → take (i + 1) (uses (slice_set entries i e)) ++ all_marked class least left (drop (i + 1) (uses (slice_set entries i e))) ≡ take i (uses entries) ++ all_marked class least equal (drop i (uses entries))
+pub keep_step : (class least equal left : ℕ) (entries : List Entry) (i : ℕ) (e : Entry) → i < length entries → use_in e ≡ marked class least equal (use_in (entry_at entries i))
+    → left ≡ equal_after class least equal (use_in (entry_at entries i))
+    → take (i + 1) (uses (slice_set entries i e)) ++ all_marked class least left (drop (i + 1) (uses (slice_set entries i e))) ≡ take i (uses entries)
+    ++ all_marked class least equal (drop i (uses entries))
 keep_step class least equal left entries i e lt is after =
     let us = uses entries in let r = sym (slab_read true entries i) in
     let set : uses (slice_set entries i e) ≡ slice_set us i (marked class least equal (get_or us i None)) = map-set use_in entries i e ∙ ap (slice_set us i) (is ∙ ap (marked class least equal) r) in
     ap (λ n. take n (uses (slice_set entries i e)) ++ all_marked class least left (drop n (uses (slice_set entries i e)))) (let q : i + 1 ≡ suc i = omega arith in q)
     ∙ (ap (λ vs. take (suc i) vs ++ all_marked class least left (drop (suc i) vs)) set
-    ∙ (ap (λ n. take (suc i) (slice_set us i (marked class least equal (get_or us i None))) ++ all_marked class least n (drop (suc i) (slice_set us i (marked class least equal (get_or us i None))))) (after ∙ ap (equal_after class least equal) r)
+    ∙
+    (ap
+    (λ n. take (suc i) (slice_set us i (marked class least equal (get_or us i None)))
+    ++ all_marked class least n (drop (suc i) (slice_set us i (marked class least equal (get_or us i None))))) (after ∙ ap (equal_after class least equal) r)
     ∙ marked_step class least equal us i (omega (arith, lt, length-map entries use_in))))
 
 -- an entry put in place of one with the same blocks leaves the blocks of every number
-pub block_step : (entries : List Entry) (i : ℕ) (e : Entry) → i < length entries → ((slot : ℕ) → block_in e slot ≡ block_in (entry_at entries i) slot) → (n slot : ℕ) → block_in (entry_at (slice_set entries i e) n) slot ≡ block_in (entry_at entries n) slot
+pub block_step : (entries : List Entry) (i : ℕ) (e : Entry) → i < length entries → ((slot : ℕ) → block_in e slot ≡ block_in (entry_at entries i) slot) → (n slot : ℕ)
+    → block_in (entry_at (slice_set entries i e) n) slot ≡ block_in (entry_at entries n) slot
 block_step entries i e lt same n slot = elim (cases_eq n i) [
-  | inl here ↦ ap (λ m. block_in (entry_at (slice_set entries i e) m) slot) here ∙ (ap (λ x. block_in x slot) (get_or-set_same entries i e Vacant lt) ∙ (same slot ∙ ap (λ m. block_in (entry_at entries m) slot) (sym here)))
+  | inl here ↦ ap (λ m. block_in (entry_at (slice_set entries i e) m) slot) here
+      ∙ (ap (λ x. block_in x slot) (get_or-set_same entries i e Vacant lt) ∙ (same slot ∙ ap (λ m. block_in (entry_at entries m) slot) (sym here)))
   | inr other ↦ ap (λ x. block_in x slot) (get_or-set_other entries i n e Vacant other)
 ]
 
@@ -94,7 +104,9 @@ module _ (class least : ℕ) where
   Unkept us = (n : ℕ) (s : SlabUse) → get_or us n None ≡ Some s → s.class ≡ class → s.kept ≡ false
 
   -- one slab is kept where it is above, or with exactly so many while some are to be kept
-  kept_one : (equal : ℕ) (o : Option SlabUse) → ((s : SlabUse) → o ≡ Some s → s.class ≡ class → s.kept ≡ false) → one_if (is_kept class (marked class least equal o)) + equal_after class least equal o ≡ one_if (holds_at_least class (least + 1) o) + cond (exactly o && not (nat_lt 0 equal)) (equal - 1) equal
+  kept_one : (equal : ℕ) (o : Option SlabUse) → ((s : SlabUse) → o ≡ Some s → s.class ≡ class → s.kept ≡ false)
+      → one_if (is_kept class (marked class least equal o)) + equal_after class least equal o ≡ one_if (holds_at_least class (least + 1) o) + cond (exactly o && not (nat_lt 0 equal))
+      (equal - 1) equal
   kept_one equal None u = refl
   kept_one equal (Some s) u = elim (cases_eq s.class class) [
     | inl same ↦ (let k = u s refl same in grind (arith, common_steps, same, k))
@@ -102,12 +114,21 @@ module _ (class least : ℕ) where
   ]
 
   -- as many slabs are kept as have more blocks than the limit, and as many more as are to be kept of those at it
-  pub kept_count : (us : List (Option SlabUse)) (equal : ℕ) → Unkept us → equal ≤ count_by exactly us → count_by (is_kept class) (all_marked class least equal us) ≡ count_by (holds_at_least class (least + 1)) us + equal
+  pub kept_count : (us : List (Option SlabUse)) (equal : ℕ) → Unkept us → equal ≤ count_by exactly us
+      → count_by (is_kept class) (all_marked class least equal us) ≡ count_by (holds_at_least class (least + 1)) us + equal
   kept_count [] equal u le = omega (arith, le)
   kept_count (x ∷ rest) equal u le =
       let k = kept_one equal x (u 0) in let a = after_is x in let le' = after x in
       let r = kept_count rest (equal_after class least equal x) (λ n. u (suc n)) le' in
-      omega (arith, count_cons (is_kept class) (marked class least equal x) (all_marked class least (equal_after class least equal x) rest), count_cons (holds_at_least class (least + 1)) x rest, r, k, none x)
+      omega (
+        arith,
+        count_cons (is_kept class) (marked class least equal x) (all_marked class least (equal_after class least equal x) rest),
+        count_cons (holds_at_least class (least + 1)) x
+            rest,
+        r,
+        k,
+        none x,
+      )
     where
       after_is : (o : Option SlabUse) → equal_after class least equal o ≡ cond (exactly o) (equal - 1) equal
       after_is None = refl
@@ -131,11 +152,13 @@ module _ (class least : ℕ) where
   -- ---- which slabs are kept
 
   -- a kept slab of the class has more blocks, or as many while some of these are to be kept
-  kept_parts : (equal : ℕ) (o : Option SlabUse) (s : SlabUse) → ((t : SlabUse) → o ≡ Some t → t.class ≡ class → t.kept ≡ false) → marked class least equal o ≡ Some s → s.class ≡ class → s.kept ≡ true → (least < s.used) ⊎ ((s.used ≡ least) × (0 < equal))
+  kept_parts : (equal : ℕ) (o : Option SlabUse) (s : SlabUse) → ((t : SlabUse) → o ≡ Some t → t.class ≡ class → t.kept ≡ false) → marked class least equal o ≡ Some s → s.class ≡ class
+      → s.kept ≡ true → (least < s.used) ⊎ ((s.used ≡ least) × (0 < equal))
   kept_parts equal None s u is same kept = cc
   kept_parts equal (Some t) s u is same kept = by_test (cases_lt least t.used) (cases_eq t.used least) (cases_lt 0 equal)
     where
-      unmoved : cond ((t.class == class) && (nat_lt least t.used || ((t.used == least) && nat_lt 0 equal))) (Some (record { class = t.class; used = t.used; kept = true })) (Some t) ≡ Some t → (least < s.used) ⊎ ((s.used ≡ least) × (0 < equal))
+      unmoved : cond ((t.class == class) && (nat_lt least t.used || ((t.used == least) && nat_lt 0 equal))) (Some (record { class = t.class; used = t.used; kept = true })) (Some t) ≡ Some
+          t → (least < s.used) ⊎ ((s.used ≡ least) × (0 < equal))
       unmoved e = absurd (no (let q : t ≡ s = (let r = sym e ∙ is in cc) in u t refl (ap (λ x. x.class) q ∙ same)) (let q : t ≡ s = (let r = sym e ∙ is in cc) in ap (λ x. x.kept) q ∙ kept))
         where
           no : t.kept ≡ false → t.kept ≡ true → ⊥
@@ -176,7 +199,8 @@ module _ (class least : ℕ) where
       by_test (inr le) (inr ne) q = (let p = parts in (omega (arith, p.0, le), λ q. absurd (ne (sym p.0 ∙ q))))
 
   -- a kept slab of the class has more blocks than the limit, or as many while some of these are to be kept
-  pub kept_at : (us : List (Option SlabUse)) (equal n : ℕ) (s : SlabUse) → Unkept us → get_or (all_marked class least equal us) n None ≡ Some s → s.class ≡ class → s.kept ≡ true → (least < s.used) ⊎ ((s.used ≡ least) × (0 < equal))
+  pub kept_at : (us : List (Option SlabUse)) (equal n : ℕ) (s : SlabUse) → Unkept us → get_or (all_marked class least equal us) n None ≡ Some s → s.class ≡ class → s.kept ≡ true
+      → (least < s.used) ⊎ ((s.used ≡ least) × (0 < equal))
   kept_at [] equal n s u is same kept = cc
   kept_at (x ∷ rest) equal zero s u is same kept = kept_parts equal x s (u 0) is same kept
   kept_at (x ∷ rest) equal (suc n) s u is same kept = elim (kept_at rest (equal_after class least equal x) n s (λ m. u (suc m)) is same kept) [
@@ -199,7 +223,8 @@ module _ (class least : ℕ) where
   unkept_at (x ∷ rest) equal (suc n) s is same kept = unkept_at rest (equal_after class least equal x) n s is same kept
 
   -- a kept slab of the class is fuller than any that isn't, or as full with a lower number
-  pub fullest_at : (us : List (Option SlabUse)) (equal m n : ℕ) (s t : SlabUse) → Unkept us → get_or (all_marked class least equal us) m None ≡ Some s → get_or (all_marked class least equal us) n None ≡ Some t → s.class ≡ class → t.class ≡ class → s.kept ≡ true → t.kept ≡ false → IsFuller m s n t
+  pub fullest_at : (us : List (Option SlabUse)) (equal m n : ℕ) (s t : SlabUse) → Unkept us → get_or (all_marked class least equal us) m None ≡ Some s
+      → get_or (all_marked class least equal us) n None ≡ Some t → s.class ≡ class → t.class ≡ class → s.kept ≡ true → t.kept ≡ false → IsFuller m s n t
   fullest_at [] equal m n s t u at_m at_n c_m c_n kept unkept = cc
   fullest_at (x ∷ rest) equal zero zero s t u at_m at_n c_m c_n kept unkept = absurd (no (let q : s ≡ t = (let r = sym at_m ∙ at_n in cc) in sym kept ∙ (ap (λ y. y.kept) q ∙ unkept)))
     where
@@ -239,7 +264,8 @@ pub uses_fit : (entries : List Entry) → AllFit (uses entries)
 uses_fit entries n s is = (fits_in (entry_at entries n) s (sym (slab_read true entries n) ∙ is)).0
 
 -- of one slab: its waiting blocks and its places while kept are its blocks and its free places while kept
-balance_one : (class : ℕ) (o : Option SlabUse) → ((s : SlabUse) → o ≡ Some s → s.used ≤ per_slab s.class) → waiting_in class o + cond (is_kept class o) (per_slab class) 0 ≡ used_in class o + spare_in class o
+balance_one : (class : ℕ) (o : Option SlabUse) → ((s : SlabUse) → o ≡ Some s → s.used ≤ per_slab s.class)
+    → waiting_in class o + cond (is_kept class o) (per_slab class) 0 ≡ used_in class o + spare_in class o
 balance_one class None f = refl
 balance_one class (Some s) f = grind (arith, common_steps, f s refl)
 
@@ -249,7 +275,8 @@ times_one true k p = grind arith
 times_one false k p = omega arith
 
 -- the blocks that wait and the places of the kept slabs are the blocks and the free places
-pub balance : (class : ℕ) (us : List (Option SlabUse)) → AllFit us → sum_by (waiting_in class) us + count_by (is_kept class) us * per_slab class ≡ sum_by (used_in class) us + sum_by (spare_in class) us
+pub balance : (class : ℕ) (us : List (Option SlabUse)) → AllFit us
+    → sum_by (waiting_in class) us + count_by (is_kept class) us * per_slab class ≡ sum_by (used_in class) us + sum_by (spare_in class) us
 balance class [] f = omega arith
 balance class (x ∷ rest) f =
     let b = balance_one class x (f 0) in let r = balance class rest (λ n. f (suc n)) in
@@ -322,8 +349,10 @@ sum_alike f none (x ∷ xs) [] h = omega (arith, sum_by-cons f x xs, none, h 0, 
 sum_alike f none (x ∷ xs) (y ∷ ys) h = omega (arith, sum_by-cons f x xs, sum_by-cons f y ys, h 0, sum_alike f none xs ys (λ n. h (suc n)))
 
 -- a count of slabs that their marks don't change
-bare_same : {class : ℕ} (old new : List Entry) → IsMarking class old new → (f : Option SlabUse → ℕ) → f None ≡ 0 → ((o : Option SlabUse) → f (unmarked o) ≡ f o) → sum_by f (uses new) ≡ sum_by f (uses old)
-bare_same old new m f none bare = sum_alike f none (uses old) (uses new) (λ n. sym (bare (get_or (uses new) n None)) ∙ (ap f (ap unmarked (slab_read true new n) ∙ (m.same n ∙ ap unmarked (sym (slab_read true old n)))) ∙ bare (get_or (uses old) n None)))
+bare_same : {class : ℕ} (old new : List Entry) → IsMarking class old new → (f : Option SlabUse → ℕ) → f None ≡ 0 → ((o : Option SlabUse) → f (unmarked o) ≡ f o)
+    → sum_by f (uses new) ≡ sum_by f (uses old)
+bare_same old new m f none bare = sum_alike f none (uses old) (uses new)
+    (λ n. sym (bare (get_or (uses new) n None)) ∙ (ap f (ap unmarked (slab_read true new n) ∙ (m.same n ∙ ap unmarked (sym (slab_read true old n)))) ∙ bare (get_or (uses old) n None)))
 
 -- a marking leaves each class as many blocks
 pub used_marked : {class : ℕ} (old new : List Entry) → IsMarking class old new → (c : ℕ) → sum_by (used_in c) (uses new) ≡ sum_by (used_in c) (uses old)
@@ -334,7 +363,8 @@ pub marking_same : (class : ℕ) (entries : List Entry) → IsMarking class entr
 marking_same class entries = record { long = refl; blocks = λ n slot. refl; same = λ n. refl; others = λ n h. refl }
 
 -- entries with the same blocks, and with the slabs of a marked list, are a marking of the class
-pub marking_made : (class least equal : ℕ) (old new : List Entry) → length new ≡ length old → ((n slot : ℕ) → block_in (entry_at new n) slot ≡ block_in (entry_at old n) slot) → uses new ≡ all_marked class least equal (uses old) → IsMarking class old new
+pub marking_made : (class least equal : ℕ) (old new : List Entry) → length new ≡ length old → ((n slot : ℕ) → block_in (entry_at new n) slot ≡ block_in (entry_at old n) slot)
+    → uses new ≡ all_marked class least equal (uses old) → IsMarking class old new
 marking_made class least equal old new long blocks is = record {
   long = long;
   blocks = blocks;
@@ -350,9 +380,11 @@ bare_unkept : (class : ℕ) (entries : List Entry) → IsUnmarked class entries 
 bare_unkept class entries u n s is = u n s (sym (slab_read true entries n) ∙ is)
 
 -- as many as needed are kept, and the fullest
-pub marked_made : (class least needed above : ℕ) (old new : List Entry) → IsUnmarked class old → needed ≤ count_by (holds_at_least class least) (uses old) → above ≡ count_by (holds_at_least class (least + 1)) (uses old) → above ≤ needed → uses new ≡ all_marked class least (needed - above) (uses old) → IsMarked class needed new
+pub marked_made : (class least needed above : ℕ) (old new : List Entry) → IsUnmarked class old → needed ≤ count_by (holds_at_least class least) (uses old)
+    → above ≡ count_by (holds_at_least class (least + 1)) (uses old) → above ≤ needed → uses new ≡ all_marked class least (needed - above) (uses old) → IsMarked class needed new
 marked_made class least needed above old new u enough is le made = record {
-  kept = ap (count_by (is_kept class)) made ∙ omega (arith, kept_count class least (uses old) (needed - above) (bare_unkept class old u) (omega (arith, split class least (uses old), enough, is, le)), is, le);
+  kept = ap (count_by (is_kept class)) made ∙ omega
+      (arith, kept_count class least (uses old) (needed - above) (bare_unkept class old u) (omega (arith, split class least (uses old), enough, is, le)), is, le);
   fullest = λ m n s t at_m at_n c_m c_n kept unkept. fullest_at class least (uses old) (needed - above) m n s t (bare_unkept class old u) (read m s at_m) (read n t at_n) c_m c_n kept unkept;
 }
   where
@@ -370,7 +402,8 @@ marked_none class entries u = record {
     no h = cc
 
 -- what is kept over what is needed is the margin
-pub margin_made : (class needed : ℕ) (entries : List Entry) → class < 36 → count_by (is_kept class) (uses entries) ≡ needed → needed ≡ needed_in class entries → sum_by (waiting_in class) (uses entries) + (needed * per_slab class - sum_by (used_in class) (uses entries)) ≡ sum_by (spare_in class) (uses entries)
+pub margin_made : (class needed : ℕ) (entries : List Entry) → class < 36 → count_by (is_kept class) (uses entries) ≡ needed → needed ≡ needed_in class entries
+    → sum_by (waiting_in class) (uses entries) + (needed * per_slab class - sum_by (used_in class) (uses entries)) ≡ sum_by (spare_in class) (uses entries)
 margin_made class needed entries lt kept is =
     let b = balance class (uses entries) (uses_fit entries) in let e = up_enough (sum_by (used_in class) (uses entries)) (per_slab class) (slots_bounds class lt).0 in
     let k : count_by (is_kept class) (uses entries) * per_slab class ≡ needed * per_slab class = ap (λ n. n * per_slab class) kept in
@@ -379,7 +412,8 @@ margin_made class needed entries lt kept is =
 
 -- a class has at least as many slabs as its blocks need
 pub enough_slabs : (class : ℕ) (entries : List Entry) → class < 36 → needed_in class entries ≤ count_by (holds_at_least class 0) (uses entries)
-enough_slabs class entries lt = div_up (sum_by (used_in class) (uses entries)) (count_by (holds_at_least class 0) (uses entries)) (per_slab class) (slots_bounds class lt).0 (slabs_hold class (uses entries) (uses_fit entries))
+enough_slabs class entries lt = div_up (sum_by (used_in class) (uses entries)) (count_by (holds_at_least class 0) (uses entries)) (per_slab class) (slots_bounds class lt).0
+    (slabs_hold class (uses entries) (uses_fit entries))
 
 -- no slab of the entries counts as one with more blocks than places
 pub few_slabs : (class : ℕ) (entries : List Entry) → count_by (holds_at_least class (per_slab class + 1)) (uses entries) ≡ 0
@@ -397,8 +431,10 @@ not_of : (f : Option SlabUse → ℕ) (a : ℕ) → ((o : Option SlabUse) → is
 not_of f a zero' o p bare h = zero' p (sym (is_of_bare a p) ∙ (ap (is_of a) bare ∙ (is_of_bare a o ∙ h))) ∙ sym (zero' o h)
 
 -- what counts only slabs of another class stays
-beside : {class : ℕ} (old new : List Entry) → IsMarking class old new → (c : ℕ) → c ≢ class → (f : Option SlabUse → ℕ) → f None ≡ 0 → ((o : Option SlabUse) → is_of c o ≡ false → f o ≡ 0) → sum_by f (uses new) ≡ sum_by f (uses old)
-beside {class = class} old new m c ne f none zero' = sum_alike f none (uses old) (uses new) (λ n. ap f (slab_read true new n) ∙ (one n (cases_Bool (is_of class (use_in (entry_at old n)))) ∙ sym (ap f (slab_read true old n))))
+beside : {class : ℕ} (old new : List Entry) → IsMarking class old new → (c : ℕ) → c ≢ class → (f : Option SlabUse → ℕ) → f None ≡ 0 → ((o : Option SlabUse) → is_of c o ≡ false → f o ≡ 0)
+    → sum_by f (uses new) ≡ sum_by f (uses old)
+beside {class = class} old new m c ne f none zero' = sum_alike f none (uses old) (uses new)
+    (λ n. ap f (slab_read true new n) ∙ (one n (cases_Bool (is_of class (use_in (entry_at old n)))) ∙ sym (ap f (slab_read true old n))))
   where
     one : (n : ℕ) → (is_of class (use_in (entry_at old n)) ≡ true) ⊎ (is_of class (use_in (entry_at old n)) ≡ false) → f (use_in (entry_at new n)) ≡ f (use_in (entry_at old n))
     one n (inl of_class) = not_of f c zero' (use_in (entry_at old n)) (use_in (entry_at new n)) (m.same n) (apart_classes c class (use_in (entry_at old n)) ne of_class)
@@ -430,7 +466,10 @@ spare_beside old new m c ne = beside old new m c ne (spare_in c) refl (spare_oth
 -- a slab of a class that isn't marked is as it was
 slab_beside : {class : ℕ} (old new : List Entry) → IsMarking class old new → (n : ℕ) (s : SlabUse) → s.class ≢ class → use_in (entry_at new n) ≡ Some s → use_in (entry_at old n) ≡ Some s
 slab_beside {class = class} old new m n s ne is = elim (cases_Bool (is_of class (use_in (entry_at old n)))) [
-  | inl of_class ↦ absurd (ne (let t : is_of class (Some s) ≡ true = sym (ap (is_of class) is) ∙ (sym (is_of_bare class (use_in (entry_at new n))) ∙ (ap (is_of class) (m.same n) ∙ (is_of_bare class (use_in (entry_at old n)) ∙ of_class))) in eqb-true s.class class t))
+  | inl of_class ↦ absurd
+      (ne
+      (let t : is_of class (Some s) ≡ true = sym (ap (is_of class) is)
+      ∙ (sym (is_of_bare class (use_in (entry_at new n))) ∙ (ap (is_of class) (m.same n) ∙ (is_of_bare class (use_in (entry_at old n)) ∙ of_class))) in eqb-true s.class class t))
   | inr other ↦ sym (m.others n other) ∙ is
 ]
 
@@ -438,7 +477,8 @@ slab_beside {class = class} old new m n s ne is = elim (cases_Bool (is_of class 
 pub marked_beside : {class : ℕ} (old new : List Entry) → IsMarking class old new → (c needed : ℕ) → c ≢ class → IsMarked c needed old → IsMarked c needed new
 marked_beside {class = class} old new m c needed ne is = record {
   kept = beside old new m c ne (λ o. cond (is_kept c o) 1 0) refl (kept_other c) ∙ is.kept;
-  fullest = λ i j s t at_i at_j c_i c_j kept unkept. is.fullest i j s t (slab_beside old new m i s (λ e. ne (sym c_i ∙ e)) at_i) (slab_beside old new m j t (λ e. ne (sym c_j ∙ e)) at_j) c_i c_j kept unkept;
+  fullest = λ i j s t at_i at_j c_i c_j kept unkept. is.fullest i j s t (slab_beside old new m i s (λ e. ne (sym c_i ∙ e)) at_i) (slab_beside old new m j t (λ e. ne (sym c_j ∙ e)) at_j)
+      c_i c_j kept unkept;
 }
 
 -- a class without a kept slab stays so when another one is marked
@@ -446,8 +486,12 @@ pub unmarked_beside : {class : ℕ} (old new : List Entry) → IsMarking class o
 unmarked_beside old new m c ne u n s at' same = u n s (slab_beside old new m n s (λ e. ne (sym same ∙ e)) at') same
 
 -- the count of needed slabs, as it is computed
-pub needed_is : (class used slots needed : ℕ) (entries : List Entry) → class < 36 → used ≡ sum_by (used_in class) (uses entries) → slots ≡ per_slab class → needed ≡ div_ceil used slots → needed ≡ needed_in class entries
-needed_is class used slots needed entries lt is full ceil = ceil ∙ (ap (λ n. div_ceil n slots) is ∙ (ap (div_ceil (sum_by (used_in class) (uses entries))) full ∙ ceil_is (sum_by (used_in class) (uses entries)) (per_slab class) (slots_bounds class lt).0))
+pub needed_is : (class used slots needed : ℕ) (entries : List Entry) → class < 36 → used ≡ sum_by (used_in class) (uses entries) → slots ≡ per_slab class → needed ≡ div_ceil used slots
+    → needed ≡ needed_in class entries
+needed_is class used slots needed entries lt is full ceil = ceil
+    ∙
+    (ap (λ n. div_ceil n slots) is ∙
+    (ap (div_ceil (sum_by (used_in class) (uses entries))) full ∙ ceil_is (sum_by (used_in class) (uses entries)) (per_slab class) (slots_bounds class lt).0))
 
 -- a marking doesn't change how many slabs a class needs
 pub needed_marked : {class : ℕ} (old new : List Entry) → IsMarking class old new → (c : ℕ) → needed_in c new ≡ needed_in c old
@@ -466,7 +510,9 @@ pub record IsMarkedBelow (class : ℕ) (before entries : List Entry) (margins : 
   pub margin : (c : ℕ) → c < class → sum_by (waiting_in c) (uses entries) + slice_index_or margins c 0 ≡ sum_by (spare_in c) (uses entries)
 
 -- where the classes below this one are marked and then this one is, all below the next are
-pub marked_more : (class : ℕ) (before entries later : List Entry) (margins : List ℕ) (margin : ℕ) → class < 36 → IsMarkedBelow class before entries margins → IsMarking class entries later → IsMarked class (needed_in class later) later → sum_by (waiting_in class) (uses later) + margin ≡ sum_by (spare_in class) (uses later) → IsMarkedBelow (class + 1) before later (slice_set margins class margin)
+pub marked_more : (class : ℕ) (before entries later : List Entry) (margins : List ℕ) (margin : ℕ) → class < 36 → IsMarkedBelow class before entries margins → IsMarking class entries later
+    → IsMarked class (needed_in class later) later → sum_by (waiting_in class) (uses later) + margin ≡ sum_by (spare_in class) (uses later)
+    → IsMarkedBelow (class + 1) before later (slice_set margins class margin)
 marked_more class before entries later margins margin lt i m is eq = record {
   long = m.long ∙ i.long;
   blocks = λ n slot. m.blocks n slot ∙ i.blocks n slot;
@@ -479,9 +525,12 @@ marked_more class before entries later margins margin lt i m is eq = record {
   where
     marked' : (c : ℕ) → c < class + 1 → (c ≡ class) ⊎ (c ≢ class) → IsMarked c (needed_in c later) later
     marked' c less (inl same) = subst (λ k. IsMarked k (needed_in k later) later) (sym same) is
-    marked' c less (inr other) = subst (λ n. IsMarked c n later) (sym (needed_marked entries later m c)) (marked_beside entries later m c (needed_in c entries) other (i.marked c (omega (arith, less, other))))
+    marked' c less (inr other) = subst (λ n. IsMarked c n later) (sym (needed_marked entries later m c))
+        (marked_beside entries later m c (needed_in c entries) other (i.marked c (omega (arith, less, other))))
 
     margin' : (c : ℕ) → c < class + 1 → (c ≡ class) ⊎ (c ≢ class) → sum_by (waiting_in c) (uses later) + slice_index_or (slice_set margins class margin) c 0 ≡ sum_by (spare_in c) (uses later)
     margin' c less (inl same) = subst (λ k. sum_by (waiting_in k) (uses later) + slice_index_or (slice_set margins class margin) k 0 ≡ sum_by (spare_in k) (uses later)) (sym same)
         (ap (λ n. sum_by (waiting_in class) (uses later) + n) (get_or-set_same margins class margin 0 (let f = i.classes in omega (arith, f, lt))) ∙ eq)
-    margin' c less (inr other) = (let k = i.margin c (omega (arith, less, other)) in omega (arith, waiting_beside entries later m c other, spare_beside entries later m c other, get_or-set_other margins class c margin 0 other, k))
+    margin' c less (inr other) =
+        (let k = i.margin c (omega (arith, less, other)) in omega
+        (arith, waiting_beside entries later m c other, spare_beside entries later m c other, get_or-set_other margins class c margin 0 other, k))

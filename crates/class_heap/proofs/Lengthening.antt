@@ -1,5 +1,6 @@
 -- A block that stands alone is lengthened in its memory. By the rule that is a placing, a write and a return.
-use Rattle.std.specs.Prelude.{◌≡◌, ◌≢◌, ℕ, ◌+◌, ◌-◌, ◌^◌, ◌<◌, ◌≤◌, Bool, true, false, List, [], ◌++◌, length, take, replicate, slice_set, slice_index_or, Some, None, IsSome, unwrap_or, Result, IfOk, OnErr, refl, ◌⊎◌}
+use Rattle.std.specs.Prelude.{◌≡◌, ◌≢◌, ℕ, ◌+◌, ◌-◌, ◌^◌, ◌<◌, ◌≤◌, Bool, true, false, List, [], ◌++◌, length, take, replicate, slice_set, slice_index_or, Some, None, IsSome, unwrap_or}
+use Rattle.std.specs.Prelude.{Result, IfOk, OnErr, refl, ◌⊎◌}
 use Rattle.std.specs.declared.result.Result.TheVariants.{Ok, Err}
 use Rattle.std.proofs.Common.{arith, cond, eqb, ap, ◌∙◌, sym, subst, inl, inr, length-set, get_or-set_same, get_or-set_other}
 use Rattle.std.proofs.lemmas.Grind.{common_steps}
@@ -28,12 +29,14 @@ use Rattle.class_heap.proofs.Placings.{change_set, placing, goes_alone, large_sl
 use Rattle.class_heap.proofs.Returns.{slabs_written, calm_returned}
 
 -- what a vector holds that was filled up with zeros to a length
-pub filled_up : (v : Vec ℕ) (len : ℕ) (was after : List ℕ) (ok : Bool) → was ≡ v.items → length was ≤ len → ok ≡ true → after ≡ cond ok (take len v.items ++ replicate (len - v.len) 0) v.items → after ≡ widened was len
+pub filled_up : (v : Vec ℕ) (len : ℕ) (was after : List ℕ) (ok : Bool) → was ≡ v.items → length was ≤ len → ok ≡ true
+    → after ≡ cond ok (take len v.items ++ replicate (len - v.len) 0) v.items → after ≡ widened was len
 filled_up v len was after ok same room filled is =
     is
     ∙ ap (λ t. cond t (take len v.items ++ replicate (len - v.len) 0) v.items) filled
     ∙ ap (λ n. take len v.items ++ replicate (len - n) 0) v.ok.0
-    ∙ ap (λ xs. xs ++ replicate (len - length v.items) 0) (let short : length v.items ≤ len = subst (λ xs. length xs ≤ len) same room in let e : take len v.items ≡ v.items = grind (arith, common_steps, short) in e)
+    ∙ ap (λ xs. xs ++ replicate (len - length v.items) 0)
+    (let short : length v.items ≤ len = subst (λ xs. length xs ≤ len) same room in let e : take len v.items ≡ v.items = grind (arith, common_steps, short) in e)
     ∙ ap (λ xs. widened xs len) (sym same)
 
 -- ---- in its memory
@@ -61,10 +64,13 @@ alone_reserved (Large block) slot len live room = alone_of (Large block) slot li
 alone_reserved (Classed slab) slot len live room = absurd room
 
 -- a heap stays sound where a large block leaves its number
-pub sound_left : {passing : Bool} {old : List Entry} {directory : Directory} {margins : List ℕ} (sound : IsHeap passing old directory margins) (new : List Entry) (n : ℕ) (block : Vec ℕ) (later : Directory) → length new ≡ length old → IsChange old new n Vacant → entry_at old n ≡ Large block → later.bound ≡ directory.bound → ((m : ℕ) → m < later.bound → labels_at later m ≡ cond (eqb m n) (2 ^ 36) (labels_at directory m)) → IsHeap passing new later margins
+pub sound_left : {passing : Bool} {old : List Entry} {directory : Directory} {margins : List ℕ} (sound : IsHeap passing old directory margins) (new : List Entry) (n : ℕ) (block : Vec ℕ)
+    (later : Directory) → length new ≡ length old → IsChange old new n Vacant → entry_at old n ≡ Large block → later.bound ≡ directory.bound
+    → ((m : ℕ) → m < later.bound → labels_at later m ≡ cond (eqb m n) (2 ^ 36) (labels_at directory m)) → IsHeap passing new later margins
 sound_left {margins = margins} sound new n block later long change large bound labels =
     sound_changed sound new later margins n Vacant long change bound labels (record { marked = λ s at kept. cc; filled = λ s at kept. cc }) sound.classes
-    (λ open' class within. ap (λ x. waiting_in class None + spare_in class (use_in x) + slice_index_or margins class 0) large ∙ sym (ap (λ x. waiting_in class (use_in x) + spare_in class None + slice_index_or margins class 0) large))
+    (λ open' class within. ap (λ x. waiting_in class None + spare_in class (use_in x) + slice_index_or margins class 0) large
+    ∙ sym (ap (λ x. waiting_in class (use_in x) + spare_in class None + slice_index_or margins class 0) large))
 
 -- A large block is about to go from its number to the least one with nothing, n, and has been lengthened. The labels of n are
 -- those of a large block already.
@@ -86,11 +92,13 @@ pub record IsLeaving (first mid : ClassHeap) (at : BlockRef) (n len : ℕ) (put 
 -- this is so where a block that had room was taken from its number and lengthened
 pub leaving : (first mid : ClassHeap) (at : BlockRef) (n len : ℕ) (taken put : Entry) (early : Directory)
     → IsSome (heap_blocks first at) → HasRoom len (entry_at first.entries.items at.slab) → length (bytes_at (heap_blocks first) at) ≤ len → 14336 < len
-    → mid.passing ≡ first.passing → SameEntries first.entries.items mid.entries.items → IsLeastVacant mid.entries.items n → taken ≡ entry_at mid.entries.items at.slab → IsLarge (widened (unwrap_or (block_in taken 0) []) len) put
+    → mid.passing ≡ first.passing → SameEntries first.entries.items mid.entries.items → IsLeastVacant mid.entries.items n → taken ≡ entry_at mid.entries.items at.slab
+    → IsLarge (widened (unwrap_or (block_in taken 0) []) len) put
     → early.bound ≡ mid.directory.bound → ((m : ℕ) → m < early.bound → labels_at early m ≡ cond (eqb m n) 0 (labels_at mid.directory m)) → IsLeaving first mid at n len put early
 leaving first mid at n len taken put early live has longer large passing same vacant took long bound labels =
     let alone = alone_reserved (entry_at first.entries.items at.slab) at.slot len live has in
-    let were : bytes_at (heap_blocks first) at ≡ alone.block.items = ap (λ e. unwrap_or (block_in e at.slot) []) alone.is ∙ ap (λ t. unwrap_or (cond t (Some alone.block.items) None) []) (eq-eqb at.slot 0 alone.first) in
+    let were : bytes_at (heap_blocks first) at ≡ alone.block.items = ap (λ e. unwrap_or (block_in e at.slot) []) alone.is
+    ∙ ap (λ t. unwrap_or (cond t (Some alone.block.items) None) []) (eq-eqb at.slot 0 alone.first) in
     record {
       from = alone.block;
       grown = long.block;
@@ -143,11 +151,27 @@ module _ {first mid : ClassHeap} {at : BlockRef} {n len : ℕ} {put : Entry} {ea
 
   -- the heap with another block of so many zeros
   placed : ClassHeap
-  placed = record { alloc = mid.alloc; passing = mid.passing; entries = with_item mid.entries n (Large zeros); directory = early; margins = mid.margins; sound = sound_alone mid.sound n zeros early h.vacant.within h.vacant.vacant h.bound h.labels }
+  placed = record {
+    alloc = mid.alloc;
+    passing = mid.passing;
+    entries = with_item mid.entries n (Large zeros);
+    directory = early;
+    margins = mid.margins;
+    sound =
+        sound_alone mid.sound n zeros early h.vacant.within h.vacant.vacant h.bound h.labels;
+  }
 
   -- the heap with the bytes in it
   written : ClassHeap
-  written = record { alloc = mid.alloc; passing = mid.passing; entries = with_item mid.entries n (Large h.grown); directory = early; margins = mid.margins; sound = sound_alone mid.sound n h.grown early h.vacant.within h.vacant.vacant h.bound h.labels }
+  written = record {
+    alloc = mid.alloc;
+    passing = mid.passing;
+    entries = with_item mid.entries n (Large h.grown);
+    directory = early;
+    margins = mid.margins;
+    sound =
+        sound_alone mid.sound n h.grown early h.vacant.within h.vacant.vacant h.bound h.labels;
+  }
 
   -- an entry put at the free number
   change : (e : Entry) → IsChange old (slice_set old n e) n e
@@ -167,7 +191,8 @@ module _ {first mid : ClassHeap} {at : BlockRef} {n len : ℕ} {put : Entry} {ea
 
   -- with a large block at the free number
   blocks_with : (block : Vec ℕ) → blocks_of (slice_set old n (Large block)) ≡ with_block (blocks_of old) longer (Some block.items)
-  blocks_with block = blocks_changed old (slice_set old n (Large block)) (Large block) longer (Some block.items) (change (Large block)) (λ s. large_slots block.items (entry_at old n) s h.vacant.vacant)
+  blocks_with block = blocks_changed old (slice_set old n (Large block)) (Large block) longer (Some block.items) (change (Large block))
+      (λ s. large_slots block.items (entry_at old n) s h.vacant.vacant)
 
   -- which is no slab
   slabs_with : (block : Vec ℕ) → heap_of mid.passing (slice_set old n (Large block)) ≡ heap_of mid.passing old
@@ -187,7 +212,10 @@ module _ {first mid : ClassHeap} {at : BlockRef} {n len : ℕ} {put : Entry} {ea
     written =
         blocks_with h.grown
         ∙ ap (λ xs. with_block (blocks_of old) longer (Some xs)) h.wide
-        ∙ sym (placed_over (blocks_of old) (heap_blocks placed) (with_block (heap_blocks placed) longer (Some (overwritten (bytes_at (heap_blocks placed) longer) 0 (bytes_at (heap_blocks first) at)))) longer len (bytes_at (heap_blocks first) at) h.from.items
+        ∙ sym
+        (placed_over (blocks_of old) (heap_blocks placed)
+        (with_block (heap_blocks placed) longer (Some (overwritten (bytes_at (heap_blocks placed) longer) 0 (bytes_at (heap_blocks first) at)))) longer len
+        (bytes_at (heap_blocks first) at) h.from.items
         (blocks_with zeros ∙ ap (λ xs. with_block (blocks_of old) longer (Some xs)) are_zeros) refl bytes_were short);
     slabs = slabs_with h.grown ∙ sym (slabs_with zeros);
   }
@@ -202,13 +230,18 @@ module _ {first mid : ClassHeap} {at : BlockRef} {n len : ℕ} {put : Entry} {ea
 
   -- nothing stands at the old number when the block has gone to the other
   gone_by : (gap : Entry) → gap ≡ Vacant → IsChange (slice_set old n (Large h.grown)) (slice_set (slice_set old at.slab gap) n put) at.slab Vacant
-  gone_by gap empty = record { here = get_or-set_other (slice_set old at.slab gap) n at.slab put Vacant apart ∙ (get_or-set_same old at.slab gap Vacant there ∙ empty); others = λ m ne. by_number m ne (cases_eq m n) }
+  gone_by gap empty = record {
+    here = get_or-set_other (slice_set old at.slab gap) n at.slab put Vacant apart
+        ∙ (get_or-set_same old at.slab gap Vacant there ∙ empty);
+    others = λ m ne. by_number m ne (cases_eq m n);
+  }
     where
       lt : n < length (slice_set old at.slab gap)
       lt = (let w = h.vacant.within in omega (arith, length-set old at.slab gap, w))
 
       by_number : (m : ℕ) → m ≢ at.slab → (m ≡ n) ⊎ (m ≢ n) → entry_at (slice_set (slice_set old at.slab gap) n put) m ≡ entry_at (slice_set old n (Large h.grown)) m
-      by_number m ne (inl here) = ap (entry_at (slice_set (slice_set old at.slab gap) n put)) here ∙ (get_or-set_same (slice_set old at.slab gap) n put Vacant lt ∙ (h.full ∙ (sym ((change (Large h.grown)).here) ∙ ap (entry_at (slice_set old n (Large h.grown))) (sym here))))
+      by_number m ne (inl here) = ap (entry_at (slice_set (slice_set old at.slab gap) n put)) here
+          ∙ (get_or-set_same (slice_set old at.slab gap) n put Vacant lt ∙ (h.full ∙ (sym ((change (Large h.grown)).here) ∙ ap (entry_at (slice_set old n (Large h.grown))) (sym here))))
       by_number m ne (inr other) = get_or-set_other (slice_set old at.slab gap) n m put Vacant other ∙ (get_or-set_other old at.slab m gap Vacant ne ∙ sym ((change (Large h.grown)).others m other))
 
   module _ (last : ClassHeap) (open' : last.passing ≡ mid.passing) (gone : IsChange (slice_set old n (Large h.grown)) last.entries.items at.slab Vacant) where
@@ -219,7 +252,8 @@ module _ {first mid : ClassHeap} {at : BlockRef} {n len : ℕ} {put : Entry} {ea
       was = subst (λ o. IsSome o) (sym (ap (λ e. block_in e at.slot) stands ∙ ap (λ t. cond t (Some h.from.items) None) (eq-eqb at.slot 0 h.slot))) refl;
       ended = blocks_changed (slice_set old n (Large h.grown)) last.entries.items Vacant at None gone (λ s. sym (ap (λ e. with_slot (block_in e) at.slot None s) stands ∙ none_left s));
       passing = open';
-      left = changed_here last.passing (slice_set old n (Large h.grown)) last.entries.items at.slab Vacant gone ∙ sym (ap returned (slab_read mid.passing (slice_set old n (Large h.grown)) at.slab ∙ ap use_in stands));
+      left = changed_here last.passing (slice_set old n (Large h.grown)) last.entries.items at.slab Vacant gone
+          ∙ sym (ap returned (slab_read mid.passing (slice_set old n (Large h.grown)) at.slab ∙ ap use_in stands));
       others = λ m ne. ap (λ p. slab_at (heap_of p last.entries.items) m) open' ∙ others_stay mid.passing (slice_set old n (Large h.grown)) last.entries.items at.slab Vacant gone m ne;
     }
       where
@@ -235,21 +269,25 @@ module _ {first mid : ClassHeap} {at : BlockRef} {n len : ℕ} {put : Entry} {ea
     lengthens_alone = record { placed = placed; written = written; places = places_longer; writes = writes_bytes; returns = returns_old }
 
   -- when it has gone, the heap is sound
-  pub leaving-sound : (gap : Entry) (late : Directory) → gap ≡ Vacant → late.bound ≡ early.bound → ((m : ℕ) → m < late.bound → labels_at late m ≡ cond (eqb m at.slab) (2 ^ 36) (labels_at early m)) → IsHeap mid.passing (slice_set (slice_set old at.slab gap) n put) late mid.margins
+  pub leaving-sound : (gap : Entry) (late : Directory) → gap ≡ Vacant → late.bound ≡ early.bound
+      → ((m : ℕ) → m < late.bound → labels_at late m ≡ cond (eqb m at.slab) (2 ^ 36) (labels_at early m))
+      → IsHeap mid.passing (slice_set (slice_set old at.slab gap) n put) late mid.margins
   unfolding written
   leaving-sound gap late empty bound labels =
       sound_left written.sound (slice_set (slice_set old at.slab gap) n put) at.slab h.from late
       (length-set (slice_set old at.slab gap) n put ∙ (length-set old at.slab gap ∙ sym (length-set old n (Large h.grown)))) (gone_by gap empty) stands bound labels
 
   -- and the block was lengthened by the rule
-  pub leaving-lengthens : (last : ClassHeap) (gap : Entry) → gap ≡ Vacant → last.passing ≡ mid.passing → last.entries.items ≡ slice_set (slice_set old at.slab gap) n put → Lengthens first last at len longer
+  pub leaving-lengthens : (last : ClassHeap) (gap : Entry) → gap ≡ Vacant → last.passing ≡ mid.passing → last.entries.items ≡ slice_set (slice_set old at.slab gap) n put
+      → Lengthens first last at len longer
   leaving-lengthens last gap empty open' stood = lengthens_alone last open' (subst (λ xs. IsChange (slice_set old n (Large h.grown)) xs at.slab Vacant) (sym stood) (gone_by gap empty))
 
 -- ---- what a block has that was lengthened by the rule
 
 module _ {first last : ClassHeap} {at new : BlockRef} {len : ℕ} (l : Lengthens first last at len new) where
   pub lengthened-served : Served IsClassHeapStep first last
-  lengthened-served = one_more l.written last (one_more l.placed l.written (one_more first l.placed no_step (places len new l.places)) (writes new 0 (bytes_at (heap_blocks first) at) l.writes)) (returns at l.returns)
+  lengthened-served = one_more l.written last
+      (one_more l.placed l.written (one_more first l.placed no_step (places len new l.places)) (writes new 0 (bytes_at (heap_blocks first) at) l.writes)) (returns at l.returns)
 
   pub lengthened-calm : wants (heap_slabs last) new ≡ false
   lengthened-calm = calm_returned l.returns new (ap (λ h. wants h new) l.writes.slabs ∙ calm_placed l.places)
@@ -257,15 +295,19 @@ module _ {first last : ClassHeap} {at new : BlockRef} {len : ℕ} (l : Lengthens
   pub lengthened-passing : last.passing ≡ first.passing
   lengthened-passing = l.returns.passing ∙ (ap (λ h. h.passing) l.writes.slabs ∙ l.places.passing)
 
-  pub lengthened-blocks : IsSome (heap_blocks first at) → length (bytes_at (heap_blocks first) at) ≤ len → heap_blocks last ≡ with_block (with_block (heap_blocks first) at None) new (Some (widened (bytes_at (heap_blocks first) at) len))
+  pub lengthened-blocks : IsSome (heap_blocks first at) → length (bytes_at (heap_blocks first) at) ≤ len
+      → heap_blocks last ≡ with_block (with_block (heap_blocks first) at None) new (Some (widened (bytes_at (heap_blocks first) at) len))
   lengthened-blocks live room =
       lengthened_by (heap_blocks first) (heap_blocks l.placed) (heap_blocks l.written) (heap_blocks last) at new len live l.places.fresh room l.places.placed
-      (l.writes.written ∙ ap (λ xs. with_block (heap_blocks l.placed) new (Some (overwritten (bytes_at (heap_blocks l.placed) new) 0 xs))) (sym (bytes_beside (heap_blocks first) (heap_blocks l.placed) at new _ live l.places.fresh l.places.placed)))
+      (l.writes.written ∙ ap (λ xs. with_block (heap_blocks l.placed) new (Some (overwritten (bytes_at (heap_blocks l.placed) new) 0 xs)))
+      (sym (bytes_beside (heap_blocks first) (heap_blocks l.placed) at new _ live l.places.fresh l.places.placed)))
       l.returns.ended
 
 -- ---- the same of an answer that may be want of memory
 
-pub ok-blocks : {E : Type 0} (first last : ClassHeap) (at : BlockRef) (len : ℕ) (r : Result BlockRef E) → IfOk r (Lengthens first last at len) → IsSome (heap_blocks first at) → length (bytes_at (heap_blocks first) at) ≤ len → IfOk r (λ new. heap_blocks last ≡ with_block (with_block (heap_blocks first) at None) new (Some (widened (bytes_at (heap_blocks first) at) len)))
+pub ok-blocks : {E : Type 0} (first last : ClassHeap) (at : BlockRef) (len : ℕ) (r : Result BlockRef E) → IfOk r (Lengthens first last at len) → IsSome (heap_blocks first at)
+    → length (bytes_at (heap_blocks first) at) ≤ len → IfOk r
+    (λ new. heap_blocks last ≡ with_block (with_block (heap_blocks first) at None) new (Some (widened (bytes_at (heap_blocks first) at) len)))
 ok-blocks first last at len (Ok new) l live room = lengthened-blocks l live room
 ok-blocks first last at len (Err e) l live room = l
 
@@ -273,16 +315,19 @@ pub ok-calm : {E : Type 0} (first last : ClassHeap) (at : BlockRef) (len : ℕ) 
 ok-calm first last at len (Ok new) l = lengthened-calm l
 ok-calm first last at len (Err e) l = l
 
-pub ok-served : {E : Type 0} (first last : ClassHeap) (at : BlockRef) (len : ℕ) (r : Result BlockRef E) → IfOk r (Lengthens first last at len) → OnErr r (heap_blocks last ≡ heap_blocks first) → OnErr r (heap_slabs last ≡ heap_slabs first) → Served IsClassHeapStep first last
+pub ok-served : {E : Type 0} (first last : ClassHeap) (at : BlockRef) (len : ℕ) (r : Result BlockRef E) → IfOk r (Lengthens first last at len)
+    → OnErr r (heap_blocks last ≡ heap_blocks first) → OnErr r (heap_slabs last ≡ heap_slabs first) → Served IsClassHeapStep first last
 ok-served first last at len (Ok new) l blocks slabs = lengthened-served l
 ok-served first last at len (Err e) l blocks slabs = one_more first last no_step (stays blocks slabs)
 
 -- what changes no block and no slab may come before
-pub lengthens_from : {E : Type 0} (first mid last : ClassHeap) (at : BlockRef) (len : ℕ) (r : Result BlockRef E) → heap_blocks mid ≡ heap_blocks first → heap_slabs mid ≡ heap_slabs first → IfOk r (Lengthens mid last at len) → IfOk r (Lengthens first last at len)
+pub lengthens_from : {E : Type 0} (first mid last : ClassHeap) (at : BlockRef) (len : ℕ) (r : Result BlockRef E) → heap_blocks mid ≡ heap_blocks first → heap_slabs mid ≡ heap_slabs first
+    → IfOk r (Lengthens mid last at len) → IfOk r (Lengthens first last at len)
 lengthens_from first mid last at len (Ok new) blocks slabs l = record {
   placed = l.placed;
   written = l.written;
-  places = subst (λ b. IsPlacing b (heap_slabs first) (heap_blocks l.placed) (heap_slabs l.placed) len new) blocks (subst (λ s. IsPlacing (heap_blocks mid) s (heap_blocks l.placed) (heap_slabs l.placed) len new) slabs l.places);
+  places = subst (λ b. IsPlacing b (heap_slabs first) (heap_blocks l.placed) (heap_slabs l.placed) len new) blocks
+      (subst (λ s. IsPlacing (heap_blocks mid) s (heap_blocks l.placed) (heap_slabs l.placed) len new) slabs l.places);
   writes = subst (λ b. IsWrite (heap_blocks l.placed) (heap_slabs l.placed) (heap_blocks l.written) (heap_slabs l.written) new 0 (bytes_at b at)) blocks l.writes;
   returns = l.returns;
 }

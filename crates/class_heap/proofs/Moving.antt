@@ -50,13 +50,15 @@ record IsFrom (passing : Bool) (o : Option SlabUse) (class : ℕ) : Type 0 where
 -- where the blocks of a slab want to move, a pass is open and the slab isn't kept
 from_slab : (passing : Bool) (o : Option SlabUse) (class : ℕ) → (passing && is_other o) ≡ true → class_in o ≡ Some class → IsFrom passing o class
 from_slab passing None class h c = cc
-from_slab passing (Some s) class h c = (let p = and_parts passing (not s.kept) h in record { open' = p.0; slab = s; is = refl; one_class = (let q : s.class ≡ class = cc in q); other = off s.kept p.1 })
+from_slab passing (Some s) class h c =
+    (let p = and_parts passing (not s.kept) h in record { open' = p.0; slab = s; is = refl; one_class = (let q : s.class ≡ class = cc in q); other = off s.kept p.1 })
   where
     off : (b : Bool) → not b ≡ true → b ≡ false
     off true e = cc
     off false e = refl
 
-module _ {passing : Bool} {entries : List Entry} {directory : Directory} {margins : List ℕ} (sound : IsHeap passing entries directory margins) (at : BlockRef) (class : ℕ) (wants' : wants (heap_of passing entries) at ≡ true) (is : class_in (use_in (entry_at entries at.slab)) ≡ Some class) (lt : class < 36) where
+module _ {passing : Bool} {entries : List Entry} {directory : Directory} {margins : List ℕ} (sound : IsHeap passing entries directory margins) (at : BlockRef) (class : ℕ)
+    (wants' : wants (heap_of passing entries) at ≡ true) (is : class_in (use_in (entry_at entries at.slab)) ≡ Some class) (lt : class < 36) where
   -- the block that wants to move stands in a slab of the class that isn't kept
   start : IsFrom passing (use_in (entry_at entries at.slab)) class
   start = from_slab passing (use_in (entry_at entries at.slab)) class (ap (λ o. passing && is_other o) (sym (slab_read passing entries at.slab)) ∙ wants') is
@@ -65,11 +67,13 @@ module _ {passing : Bool} {entries : List Entry} {directory : Directory} {margin
   pub room_waits : IsSome (block_in (entry_at entries at.slab) at.slot) → ((n : ℕ) → n < directory.bound → bit_at (labels_at directory n) class ≡ 0) → ⊥
   room_waits live none =
       let s = start in
-      let z = none_spare class (map use_in entries) (λ n. ap (takes true class) (slab_read true entries n) ∙ subst (λ p. takes p class (use_in (entry_at entries n)) ≡ false) s.open' (none_takes sound class lt none n)) in
+      let z = none_spare class (map use_in entries)
+      (λ n. ap (takes true class) (slab_read true entries n) ∙ subst (λ p. takes p class (use_in (entry_at entries n)) ≡ false) s.open' (none_takes sound class lt none n)) in
       let m = sound.margin s.open' class lt in
       let used = sound.filled at.slab s.slab s.is s.other in
       let w = get_or-le-sum_by (waiting_in class) (map use_in entries) at.slab None (omega (arith, slab_there entries at.slab at.slot live, length-map entries use_in)) in
-      let here : waiting_in class (get_or (map use_in entries) at.slab None) ≡ s.slab.used = ap (waiting_in class) (slab_read passing entries at.slab ∙ s.is) ∙ waits_all class s.slab s.one_class s.other in
+      let here : waiting_in class (get_or (map use_in entries) at.slab None) ≡ s.slab.used = ap (waiting_in class) (slab_read passing entries at.slab ∙ s.is)
+      ∙ waits_all class s.slab s.one_class s.other in
       absurd (omega (arith, z, m, used, w, here))
     where
       waits_all : (c : ℕ) (s : SlabUse) → s.class ≡ c → s.kept ≡ false → waiting_in c (Some s) ≡ s.used
@@ -109,7 +113,8 @@ pub record IsChangedTwice (old new : List Entry) (a b : ℕ) (source target : En
   pub others : (m : ℕ) → m ≢ a → m ≢ b → entry_at new m ≡ entry_at old m
 
 -- where one number is written over, then another and then the first again, these two have changed
-pub changed_twice : (old : List Entry) (a b : ℕ) (gap source target : Entry) → a ≢ b → a < length old → b < length old → IsChangedTwice old (slice_set (slice_set (slice_set old a gap) b target) a source) a b source target
+pub changed_twice : (old : List Entry) (a b : ℕ) (gap source target : Entry) → a ≢ b → a < length old → b < length old
+    → IsChangedTwice old (slice_set (slice_set (slice_set old a gap) b target) a source) a b source target
 changed_twice old a b gap source target apart a_in b_in =
     let one = slice_set old a gap in let two = slice_set one b target in
     let l1 = length-set old a gap in let l2 = length-set one b target in
@@ -133,7 +138,9 @@ last_off false kept o k = refl
 fewer_is : (s : SlabUse) → s.kept ≡ false → returned (Some s) ≡ one_fewer s
 fewer_is s k = last_off (eqb s.used 1) s.kept _ k
 
-module _ {passing : Bool} {entries : List Entry} {directory : Directory} {margins : List ℕ} (sound : IsHeap passing entries directory margins) (a n class : ℕ) (m : IsMoving passing entries a n class) (lt : class < 36) (new : List Entry) (source target : Entry) (two : IsChangedTwice entries new a n source target) (left : use_in source ≡ returned (use_in (entry_at entries a))) (more : use_in target ≡ fuller (use_in (entry_at entries n))) where
+module _ {passing : Bool} {entries : List Entry} {directory : Directory} {margins : List ℕ} (sound : IsHeap passing entries directory margins) (a n class : ℕ)
+    (m : IsMoving passing entries a n class) (lt : class < 36) (new : List Entry) (source target : Entry) (two : IsChangedTwice entries new a n source target)
+    (left : use_in source ≡ returned (use_in (entry_at entries a))) (more : use_in target ≡ fuller (use_in (entry_at entries n))) where
   -- the slab that the block left has one block fewer, or has gone
   left_is : use_in source ≡ one_fewer m.from
   left_is = left ∙ (ap returned m.from_is ∙ fewer_is m.from m.from_other)
@@ -180,11 +187,16 @@ module _ {passing : Bool} {entries : List Entry} {directory : Directory} {margin
   source_used s is = by_last (cases_eq m.from.used 1)
     where
       by_last : (m.from.used ≡ 1) ⊎ (m.from.used ≢ 1) → 0 < s.used
-      by_last (inl last) = absurd (let e : one_fewer m.from ≡ None = ap (λ t. cond t None (Some (record { class = m.from.class; used = m.from.used - 1; kept = m.from.kept }))) (eq-eqb m.from.used 1 last) in none (sym e ∙ (sym left_is ∙ is)))
+      by_last (inl last) = absurd
+          (let e : one_fewer m.from ≡ None = ap (λ t. cond t None (Some (record { class = m.from.class; used = m.from.used - 1; kept = m.from.kept }))) (eq-eqb m.from.used 1 last) in
+          none (sym e ∙ (sym left_is ∙ is)))
         where
           none : None ≡ Some s → ⊥
           none h = cc
-      by_last (inr ne) = (let u = m.from_used in let e : one_fewer m.from ≡ Some (record { class = m.from.class; used = m.from.used - 1; kept = m.from.kept }) = other_one ne in let q : record { class = m.from.class; used = m.from.used - 1; kept = m.from.kept } ≡ s = (let r = sym e ∙ (sym left_is ∙ is) in cc) in subst (λ x. 0 < x.used) q (omega (arith, u, ne)))
+      by_last (inr ne) =
+          (let u = m.from_used in let e : one_fewer m.from ≡ Some (record { class = m.from.class; used = m.from.used - 1; kept = m.from.kept }) = other_one ne in
+          let q : record { class = m.from.class; used = m.from.used - 1; kept = m.from.kept } ≡ s = (let r = sym e ∙ (sym left_is ∙ is) in cc) in
+          subst (λ x. 0 < x.used) q (omega (arith, u, ne)))
         where
           other_one : m.from.used ≢ 1 → one_fewer m.from ≡ Some (record { class = m.from.class; used = m.from.used - 1; kept = m.from.kept })
           other_one h = grind (arith, nat_tests, h)
@@ -233,8 +245,18 @@ module _ {passing : Bool} {entries : List Entry} {directory : Directory} {margin
   sums : (f : Option SlabUse → ℕ) → f None ≡ 0 → sum_by f (map use_in new) + f (Some m.from) + f (Some m.to) ≡ sum_by f (map use_in entries) + f (use_in source) + f (use_in target)
   sums f none =
       let there = m.there in let long = two.long in
-      let s : sum_by f (map use_in new) + f (slab_at (heap_of passing entries) a) + f (slab_at (heap_of passing entries) n) ≡ sum_by f (map use_in entries) + f (slab_at (heap_of passing new) a) + f (slab_at (heap_of passing new) n) = sum_two f none (map use_in entries) (map use_in new) a n m.apart (omega (arith, length-map new use_in, long, there)) slabs_others in
-      omega (arith, s, ap f (slab_read passing entries a ∙ m.from_is), ap f (slab_read passing entries n ∙ m.to_is), ap f (slab_read passing new a ∙ ap use_in two.at_a), ap f (slab_read passing new n ∙ ap use_in two.at_b))
+      let s : sum_by f (map use_in new) + f (slab_at (heap_of passing entries) a) + f (slab_at (heap_of passing entries) n) ≡ sum_by f (map use_in entries) + f
+      (slab_at (heap_of passing new) a) + f (slab_at (heap_of passing new) n) =
+      sum_two f none (map use_in entries) (map use_in new) a n m.apart (omega (arith, length-map new use_in, long, there)) slabs_others in
+      omega (
+        arith,
+        s,
+        ap f (slab_read passing entries a ∙ m.from_is),
+        ap f (slab_read passing entries n ∙ m.to_is),
+        ap f (slab_read passing new a ∙ ap use_in two.at_a),
+        ap f
+            (slab_read passing new n ∙ ap use_in two.at_b),
+      )
 
   -- the heap is sound after the move, with the labels of its entries and the same margins
   pub sound_moved : (later : Directory) → later.bound ≡ directory.bound → ((i : ℕ) → i < later.bound → labels_at later i ≡ labels_of passing (entry_at new i)) → IsHeap passing new later margins
@@ -250,13 +272,18 @@ module _ {passing : Bool} {entries : List Entry} {directory : Directory} {margin
     where
       filled : (i : ℕ) (s : SlabUse) → use_in (entry_at new i) ≡ Some s → s.kept ≡ false → (i ≡ a) ⊎ (i ≢ a) → (i ≡ n) ⊎ (i ≢ n) → 0 < s.used
       filled i s is kept (inl at_a) q = source_used s (ap use_in (sym two.at_a ∙ ap (entry_at new) (sym at_a)) ∙ is)
-      filled i s is kept (inr not_a) (inl at_n) = (let e : Some (one_more_in m.to) ≡ Some s = sym more_is ∙ (ap use_in (sym two.at_b ∙ ap (entry_at new) (sym at_n)) ∙ is) in let r : one_more_in m.to ≡ s = cc in subst (λ x. 0 < x.used) r (omega arith))
+      filled i s is kept (inr not_a) (inl at_n) =
+          (let e : Some (one_more_in m.to) ≡ Some s = sym more_is ∙ (ap use_in (sym two.at_b ∙ ap (entry_at new) (sym at_n)) ∙ is) in let r : one_more_in m.to ≡ s = cc in
+          subst (λ x. 0 < x.used) r (omega arith))
       filled i s is kept (inr not_a) (inr not_n) = sound.filled i s (ap use_in (sym (two.others i not_a not_n)) ∙ is) kept
 
 -- ---- the blocks
 
 -- the block's bytes stand under the new reference and no longer under the old one, and all others stay
-pub moved_blocks : (old new : List Entry) (at to : BlockRef) (source target : Entry) → at.slab ≢ to.slab → IsChangedTwice old new at.slab to.slab source target → ((slot : ℕ) → block_in source slot ≡ with_slot (block_in (entry_at old at.slab)) at.slot None slot) → ((slot : ℕ) → block_in target slot ≡ with_slot (block_in (entry_at old to.slab)) to.slot (blocks_of old at) slot) → blocks_of new ≡ with_block (with_block (blocks_of old) at None) to (blocks_of old at)
+pub moved_blocks : (old new : List Entry) (at to : BlockRef) (source target : Entry) → at.slab ≢ to.slab → IsChangedTwice old new at.slab to.slab source target
+    → ((slot : ℕ) → block_in source slot ≡ with_slot (block_in (entry_at old at.slab)) at.slot None slot)
+    → ((slot : ℕ) → block_in target slot ≡ with_slot (block_in (entry_at old to.slab)) to.slot (blocks_of old at) slot)
+    → blocks_of new ≡ with_block (with_block (blocks_of old) at None) to (blocks_of old at)
 moved_blocks old new at to source target apart two ended entered = λ i r. one r (cases_eq r.slab at.slab) (cases_eq r.slab to.slab) i
   where
     refs_apart : (r p : BlockRef) → r.slab ≢ p.slab → ref_eq r p ≡ false
@@ -268,26 +295,33 @@ moved_blocks old new at to source target apart two ended entered = λ i r. one r
     one : (r : BlockRef) → (r.slab ≡ at.slab) ⊎ (r.slab ≢ at.slab) → (r.slab ≡ to.slab) ⊎ (r.slab ≢ to.slab) → blocks_of new r ≡ with_block (with_block (blocks_of old) at None) to (blocks_of old at) r
     one r (inl here) q =
         let not_to = refs_apart r to (λ e. apart (sym here ∙ e)) in
-        ap (λ n. block_in (entry_at new n) r.slot) here ∙ (ap (λ x. block_in x r.slot) two.at_a ∙ (ended r.slot ∙ (ap (λ n. cond (eqb r.slot at.slot) None (block_in (entry_at old n) r.slot)) (sym here)
+        ap (λ n. block_in (entry_at new n) r.slot) here ∙
+        (ap (λ x. block_in x r.slot) two.at_a ∙ (ended r.slot ∙ (ap (λ n. cond (eqb r.slot at.slot) None (block_in (entry_at old n) r.slot)) (sym here)
         ∙ (ap (λ t. cond t None (blocks_of old r)) (sym (refs_here r at here)) ∙ sym (ap (λ t. cond t (blocks_of old at) (with_block (blocks_of old) at None r)) not_to)))))
     one r (inr not_at) (inl here) =
         let off = refs_apart r at not_at in
-        ap (λ n. block_in (entry_at new n) r.slot) here ∙ (ap (λ x. block_in x r.slot) two.at_b ∙ (entered r.slot ∙ (ap (λ n. cond (eqb r.slot to.slot) (blocks_of old at) (block_in (entry_at old n) r.slot)) (sym here)
+        ap (λ n. block_in (entry_at new n) r.slot) here ∙
+        (ap (λ x. block_in x r.slot) two.at_b ∙ (entered r.slot ∙ (ap (λ n. cond (eqb r.slot to.slot) (blocks_of old at) (block_in (entry_at old n) r.slot)) (sym here)
         ∙ (ap (λ t. cond t (blocks_of old at) (blocks_of old r)) (sym (refs_here r to here)) ∙ ap (λ o. cond (ref_eq r to) (blocks_of old at) o) (sym (ap (λ t. cond t None (blocks_of old r)) off))))))
     one r (inr not_at) (inr not_to) =
         let off = refs_apart r at not_at in let off' = refs_apart r to not_to in
-        ap (λ x. block_in x r.slot) (two.others r.slab not_at not_to) ∙ (sym (ap (λ t. cond t None (blocks_of old r)) off) ∙ sym (ap (λ t. cond t (blocks_of old at) (with_block (blocks_of old) at None r)) off'))
+        ap (λ x. block_in x r.slot) (two.others r.slab not_at not_to)
+        ∙ (sym (ap (λ t. cond t None (blocks_of old r)) off) ∙ sym (ap (λ t. cond t (blocks_of old at) (with_block (blocks_of old) at None r)) off'))
 
 -- both numbers get the labels of what stands there
-pub labels_moved : {passing : Bool} {entries : List Entry} {directory : Directory} {margins : List ℕ} (sound : IsHeap passing entries directory margins) (a n : ℕ) (new : List Entry) (source target : Entry) (first later : Directory) (one two : ℕ) → IsChangedTwice entries new a n source target → a ≢ n → first.bound ≡ directory.bound → later.bound ≡ first.bound → one ≡ labels_of passing target → two ≡ labels_of passing source
-    → ((i : ℕ) → i < first.bound → labels_at first i ≡ cond (eqb i n) one (labels_at directory i)) → ((i : ℕ) → i < later.bound → labels_at later i ≡ cond (eqb i a) two (labels_at first i)) → (i : ℕ) → i < later.bound → labels_at later i ≡ labels_of passing (entry_at new i)
-labels_moved {passing = passing} {entries = entries} {directory = directory} sound a n new source target first later one two changed apart b1 b2 is_one is_two set_one set_two i lt = set_two i lt ∙ (elim (cases_eq i a) [
-  | inl at_a ↦ cond-true (eqb i a) _ _ (eq-eqb i a at_a) ∙ (is_two ∙ ap (labels_of passing) (sym changed.at_a ∙ ap (entry_at new) (sym at_a)))
-  | inr not_a ↦ other i a _ _ not_a ∙ (set_one i (omega (arith, lt, b2)) ∙ (elim (cases_eq i n) [
-    | inl at_n ↦ cond-true (eqb i n) _ _ (eq-eqb i n at_n) ∙ (is_one ∙ ap (labels_of passing) (sym changed.at_b ∙ ap (entry_at new) (sym at_n)))
-    | inr not_n ↦ other i n _ _ not_n ∙ ((let b = sound.bound in sound.labelled i (omega (arith, lt, b1, b2, b))) ∙ ap (labels_of passing) (sym (changed.others i not_a not_n)))
-  ]))
-])
+pub labels_moved : {passing : Bool} {entries : List Entry} {directory : Directory} {margins : List ℕ} (sound : IsHeap passing entries directory margins) (a n : ℕ) (new : List Entry)
+    (source target : Entry) (first later : Directory) (one two : ℕ) → IsChangedTwice entries new a n source target → a ≢ n → first.bound ≡ directory.bound → later.bound ≡ first.bound
+    → one ≡ labels_of passing target → two ≡ labels_of passing source
+    → ((i : ℕ) → i < first.bound → labels_at first i ≡ cond (eqb i n) one (labels_at directory i))
+    → ((i : ℕ) → i < later.bound → labels_at later i ≡ cond (eqb i a) two (labels_at first i)) → (i : ℕ) → i < later.bound → labels_at later i ≡ labels_of passing (entry_at new i)
+labels_moved {passing = passing} {entries = entries} {directory = directory} sound a n new source target first later one two changed apart b1 b2 is_one is_two set_one set_two i lt =
+    set_two i lt ∙ (elim (cases_eq i a) [
+      | inl at_a ↦ cond-true (eqb i a) _ _ (eq-eqb i a at_a) ∙ (is_two ∙ ap (labels_of passing) (sym changed.at_a ∙ ap (entry_at new) (sym at_a)))
+      | inr not_a ↦ other i a _ _ not_a ∙ (set_one i (omega (arith, lt, b2)) ∙ (elim (cases_eq i n) [
+        | inl at_n ↦ cond-true (eqb i n) _ _ (eq-eqb i n at_n) ∙ (is_one ∙ ap (labels_of passing) (sym changed.at_b ∙ ap (entry_at new) (sym at_n)))
+        | inr not_n ↦ other i n _ _ not_n ∙ ((let b = sound.bound in sound.labelled i (omega (arith, lt, b1, b2, b))) ∙ ap (labels_of passing) (sym (changed.others i not_a not_n)))
+      ]))
+    ])
   where
     other : (x y p q : ℕ) → x ≢ y → cond (eqb x y) p q ≡ q
     other x y p q ne = grind (arith, nat_tests, ne)

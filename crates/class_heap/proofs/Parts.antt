@@ -8,7 +8,8 @@ use Rattle.blocks.specs.Blocks.{overwritten}
 use Rattle.blocks.specs.Slabs.{IsClassOf, per_slab, size_of}
 use Rattle.blocks.proofs.Written.{overwritten-all}
 use Rattle.class_heap.specs.Slots.{word_at, is_used, is_free, used_below, chain, occurs, block_in_slot, IsSlab}
-use Rattle.class_heap.specs.Live.{used_there, used_some, apart, known, unused, not_used, live_used, bounds, cut, slots_most, slot_fits, short, part_fits, live_there, block_known, block_length, used_fits}
+use Rattle.class_heap.specs.Live.{used_there, used_some, apart, known, unused, not_used, live_used, bounds, cut, slots_most, slot_fits, short, part_fits, live_there, block_known}
+use Rattle.class_heap.specs.Live.{block_length, used_fits}
 use Rattle.class_heap.proofs.Pieces.{after, before, within}
 use Rattle.class_heap.proofs.Chains.{free_parts, head_free, chain_taken, chain_given, used_changed, one_if, IsFresh, fresh_used, fresh_chained}
 
@@ -26,7 +27,8 @@ block_same size a b mem s e = ap (λ w. cond (nat_lt w 32768) (Some (take w (dro
 
 module _ {class size used head : ℕ} {words mem : List ℕ} (sound : IsSlab class size used head words mem) where
   -- another slot keeps its block where the piece lies within this one
-  elsewhere : (slot at : ℕ) (piece : List ℕ) → slot < length words → slot * size ≤ at → at + length piece ≤ slot * size + size → (other : ℕ) → other ≢ slot → block_in_slot size words (overwritten mem at piece) other ≡ block_in_slot size words mem other
+  elsewhere : (slot at : ℕ) (piece : List ℕ) → slot < length words → slot * size ≤ at → at + length piece ≤ slot * size + size → (other : ℕ) → other ≢ slot
+      → block_in_slot size words (overwritten mem at piece) other ≡ block_in_slot size words mem other
   elsewhere slot at piece within' low high other ne =
       let f = slot_fits sound slot within' in let l = sound.long in let fit : at + length piece ≤ length mem = omega (arith, f, l, high) in
       elim (cases_Bool (is_used words other)) [
@@ -38,7 +40,8 @@ module _ {class size used head : ℕ} {words mem : List ℕ} (sound : IsSlab cla
       ]
 
   -- the slot has the piece
-  here : (slot from : ℕ) (piece : List ℕ) → IsSome (block_in_slot size words mem slot) → from + length piece ≤ word_at words slot → block_in_slot size words (overwritten mem (slot * size + from) piece) slot ≡ Some (overwritten (unwrap_or (block_in_slot size words mem slot) []) from piece)
+  here : (slot from : ℕ) (piece : List ℕ) → IsSome (block_in_slot size words mem slot) → from + length piece ≤ word_at words slot
+      → block_in_slot size words (overwritten mem (slot * size + from) piece) slot ≡ Some (overwritten (unwrap_or (block_in_slot size words mem slot) []) from piece)
   here slot from piece live fit =
       let used' = live_used size words mem slot live in let f = part_fits sound slot live in let l = sound.long in
       known size words (overwritten mem (slot * size + from) piece) slot used'
@@ -48,7 +51,8 @@ module _ {class size used head : ℕ} {words mem : List ℕ} (sound : IsSlab cla
 
   -- a write into a live block changes that block alone
   pub written : (slot from : ℕ) (piece : List ℕ) → IsSome (block_in_slot size words mem slot) → from + length piece ≤ length (unwrap_or (block_in_slot size words mem slot) []) → (other : ℕ)
-      → block_in_slot size words (overwritten mem (slot * size + from) piece) other ≡ cond (eqb other slot) (Some (overwritten (unwrap_or (block_in_slot size words mem slot) []) from piece)) (block_in_slot size words mem other)
+      → block_in_slot size words (overwritten mem (slot * size + from) piece) other ≡ cond (eqb other slot)
+      (Some (overwritten (unwrap_or (block_in_slot size words mem slot) []) from piece)) (block_in_slot size words mem other)
   written slot from piece live room other =
       let fit : from + length piece ≤ word_at words slot = subst (λ n. from + length piece ≤ n) (block_length sound slot live) room in
       let s = short sound slot (live_used size words mem slot live) in
@@ -57,7 +61,8 @@ module _ {class size used head : ℕ} {words mem : List ℕ} (sound : IsSlab cla
         | inr ne ↦ elsewhere slot (slot * size + from) piece (live_there sound slot live) (omega arith) (omega (arith, s, fit)) other ne ∙ sym (pick_other other slot _ _ ne)
       ]
 
-  pub written_fits : (slot from : ℕ) (piece : List ℕ) → IsSome (block_in_slot size words mem slot) → from + length piece ≤ length (unwrap_or (block_in_slot size words mem slot) []) → slot * size + from + length piece ≤ 65536
+  pub written_fits : (slot from : ℕ) (piece : List ℕ) → IsSome (block_in_slot size words mem slot) → from + length piece ≤ length (unwrap_or (block_in_slot size words mem slot) [])
+      → slot * size + from + length piece ≤ 65536
   written_fits slot from piece live room = (let e = block_length sound slot live in let f = part_fits sound slot live in omega (arith, e, f, room))
 
   pub sound_over : (at : ℕ) (piece : List ℕ) → at + length piece ≤ 65536 → IsSlab class size used head words (overwritten mem at piece)
@@ -78,7 +83,8 @@ module _ {class size used head : ℕ} {words mem : List ℕ} (sound : IsSlab cla
   -- ---- a free slot is taken
 
   linked : used < per_slab class → (slot : ℕ) → occurs slot (chain words head (suc (length words - (used + 1)))) ≡ is_free words slot
-  linked room slot = (let c = sound.cut in ap (λ n. occurs slot (chain words head n)) (let e : suc (length words - (used + 1)) ≡ length words - used = omega (arith, c, room) in e) ∙ sound.chained slot)
+  linked room slot =
+      (let c = sound.cut in ap (λ n. occurs slot (chain words head n)) (let e : suc (length words - (used + 1)) ≡ length words - used = omega (arith, c, room) in e) ∙ sound.chained slot)
 
   pub head_there : used < per_slab class → (head < length words) × (32768 ≤ word_at words head)
   head_there room = free_parts words head (let f = head_free words head (length words - (used + 1)) (linked room) in λ z. absurd (omega (arith, z, f.0)))
@@ -96,10 +102,13 @@ module _ {class size used head : ℕ} {words mem : List ℕ} (sound : IsSlab cla
         sized = sound.sized;
         long = sound.long;
         cut = same ∙ sound.cut;
-        counted = (let c = used_changed words head len (length words) lt lt in let z : one_if (is_used words head) ≡ 0 = ap one_if (not_used words head free) in let o : one_if (nat_lt len 32768) ≡ 1 = grind (arith, common_steps, small) in let k = sound.counted in
+        counted =
+            (let c = used_changed words head len (length words) lt lt in let z : one_if (is_used words head) ≡ 0 = ap one_if (not_used words head free) in
+            let o : one_if (nat_lt len 32768) ≡ 1 = grind (arith, common_steps, small) in let k = sound.counted in
             ap (used_below (slice_set words head len)) same ∙ omega (arith, c, z, o, k));
         headed = omega (arith, word);
-        chained = λ slot. ap (λ n. occurs slot (chain (slice_set words head len) (word_at words head - 32768) (n - (used + 1)))) same ∙ chain_taken words head (length words - (used + 1)) len (linked room) small slot;
+        chained = λ slot. ap (λ n. occurs slot (chain (slice_set words head len) (word_at words head - 32768) (n - (used + 1)))) same
+            ∙ chain_taken words head (length words - (used + 1)) len (linked room) small slot;
         held = λ slot h'. by_slot slot h' lt (cases_eq slot head);
       }
     where
@@ -128,10 +137,15 @@ module _ {class size used head : ℕ} {words mem : List ℕ} (sound : IsSlab cla
         sized = sound.sized;
         long = sound.long;
         cut = same ∙ sound.cut;
-        counted = (let c = used_changed words slot (32768 + head) (length words) lt lt in let z : one_if (nat_lt (32768 + head) 32768) ≡ 0 = grind (arith, common_steps) in let o : one_if (is_used words slot) ≡ 1 = ap one_if used' in let k = sound.counted in
+        counted =
+            (let c = used_changed words slot (32768 + head) (length words) lt lt in let z : one_if (nat_lt (32768 + head) 32768) ≡ 0 = grind (arith, common_steps) in
+            let o : one_if (is_used words slot) ≡ 1 = ap one_if used' in let k = sound.counted in
             ap (used_below (slice_set words slot (32768 + head))) same ∙ omega (arith, c, z, o, k));
         headed = omega (arith, lt, m);
-        chained = λ s. ap (λ n. occurs s (chain (slice_set words slot (32768 + head)) slot (n - (used - 1)))) same ∙ (ap (λ n. occurs s (chain (slice_set words slot (32768 + head)) slot n)) (let e : length words - (used - 1) ≡ suc (length words - used) = omega (arith, some, f) in e) ∙ chain_given words head (length words - used) slot sound.chained used' s);
+        chained = λ s. ap (λ n. occurs s (chain (slice_set words slot (32768 + head)) slot (n - (used - 1)))) same
+            ∙
+            (ap (λ n. occurs s (chain (slice_set words slot (32768 + head)) slot n)) (let e : length words - (used - 1) ≡ suc (length words - used) = omega (arith, some, f) in e)
+            ∙ chain_given words head (length words - used) slot sound.chained used' s);
         held = λ s h'. by_slot s h' lt (cases_eq s slot);
       }
     where
@@ -139,7 +153,8 @@ module _ {class size used head : ℕ} {words mem : List ℕ} (sound : IsSlab cla
       by_slot s h' lt (inl same) = absurd (let e = ap (word_at (slice_set words slot (32768 + head))) same ∙ get_or-set_same words slot (32768 + head) 65535 lt in grind (arith, common_steps, e, h'))
       by_slot s h' lt (inr other) = (let e = get_or-set_other words slot s (32768 + head) 65535 other in subst (λ n. IsClassOf n class) (sym e) (sound.held s (sym (ap (λ w. nat_lt w 32768) e) ∙ h')))
 
-  pub given : (slot : ℕ) → IsSome (block_in_slot size words mem slot) → (other : ℕ) → block_in_slot size (slice_set words slot (32768 + head)) mem other ≡ cond (eqb other slot) None (block_in_slot size words mem other)
+  pub given : (slot : ℕ) → IsSome (block_in_slot size words mem slot) → (other : ℕ)
+      → block_in_slot size (slice_set words slot (32768 + head)) mem other ≡ cond (eqb other slot) None (block_in_slot size words mem other)
   given slot live other = elim (cases_eq other slot) [
     | inl same ↦ (let lt = live_there sound slot live in let e = ap (word_at (slice_set words slot (32768 + head))) same ∙ get_or-set_same words slot (32768 + head) 65535 lt in
         unused size (slice_set words slot (32768 + head)) mem other (not_used (slice_set words slot (32768 + head)) other (omega (arith, e))) ∙ sym (pick_same other slot _ _ same))
@@ -176,10 +191,13 @@ placed_over slot other new y mid x was is at_slot elsewhere' = is ∙ (elim (cas
 ])
 
 -- a block in a slot that was taken for it holds the piece that is copied there
-pub carried : {class size used head : ℕ} {words mem : List ℕ} (sound : IsSlab class size used head words mem) (slot : ℕ) (piece copied : List ℕ) → IsSome (block_in_slot size words mem slot) → length (unwrap_or (block_in_slot size words mem slot) []) ≡ length piece → copied ≡ overwritten mem (slot * size) piece → (other : ℕ) → block_in_slot size words copied other ≡ cond (eqb other slot) (Some piece) (block_in_slot size words mem other)
+pub carried : {class size used head : ℕ} {words mem : List ℕ} (sound : IsSlab class size used head words mem) (slot : ℕ) (piece copied : List ℕ)
+    → IsSome (block_in_slot size words mem slot) → length (unwrap_or (block_in_slot size words mem slot) []) ≡ length piece → copied ≡ overwritten mem (slot * size) piece → (other : ℕ)
+    → block_in_slot size words copied other ≡ cond (eqb other slot) (Some piece) (block_in_slot size words mem other)
 carried {size = size} {words = words} {mem = mem} sound slot piece copied live long is other =
     placed_over slot other _ _ _ _ _
-    (ap (λ m. block_in_slot size words m other) (is ∙ ap (λ at. overwritten mem at piece) (let e : slot * size ≡ slot * size + 0 = omega arith in e)) ∙ written sound slot 0 piece live (omega (arith, long)) other)
+    (ap (λ m. block_in_slot size words m other) (is ∙ ap (λ at. overwritten mem at piece) (let e : slot * size ≡ slot * size + 0 = omega arith in e))
+    ∙ written sound slot 0 piece live (omega (arith, long)) other)
     (ap Some (overwritten-all _ piece long)) (λ ne. refl)
 
 -- a slab whose count is 0 has no block

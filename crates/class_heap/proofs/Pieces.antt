@@ -23,7 +23,8 @@ before bytes piece at k n fit le =
     ∙ (ap (λ q. take n (drop k (take q bytes))) (sym e) ∙ (ap (take n) (drop-take k m bytes) ∙ take_less n m (drop k bytes) (omega arith) (omega (arith, length-drop k bytes))))))
 
 -- the part that the piece lies in
-pub within : (bytes piece : List ℕ) (at k n : ℕ) → k + n ≤ length bytes → k ≤ at → at + length piece ≤ k + n → take n (drop k (overwritten bytes at piece)) ≡ overwritten (take n (drop k bytes)) (at - k) piece
+pub within : (bytes piece : List ℕ) (at k n : ℕ) → k + n ≤ length bytes → k ≤ at → at + length piece ≤ k + n
+    → take n (drop k (overwritten bytes at piece)) ≡ overwritten (take n (drop k bytes)) (at - k) piece
 within bytes piece at k n long le fit =
     let p = length piece in let d = at - k in let ys = drop k bytes in let A = take at bytes in let T = drop (at + p) bytes in let X = take d ys ++ piece in let rest = n - (d + p) in
     let e : k + d ≡ at = omega arith in let en : (d + p) + rest ≡ n = omega arith in

@@ -1,5 +1,6 @@
 -- Each way of placing a block keeps what holds of a class heap, and is by the rule.
-use Rattle.std.specs.Prelude.{◌≡◌, ◌≢◌, ℕ, ◌+◌, ◌-◌, ◌^◌, ◌<◌, ◌≤◌, Bool, true, false, ◌&&◌, ◌||◌, not, nat_lt, List, length, replicate, slice_set, slice_index_or, Option, Some, None, is_some, refl, ◌⊎◌}
+use Rattle.std.specs.Prelude.{◌≡◌, ◌≢◌, ℕ, ◌+◌, ◌-◌, ◌^◌, ◌<◌, ◌≤◌, Bool, true, false, ◌&&◌, ◌||◌, not, nat_lt, List, length, replicate, slice_set, slice_index_or, Option, Some, None}
+use Rattle.std.specs.Prelude.{is_some, refl, ◌⊎◌}
 use Rattle.std.proofs.Common.{arith, cond, eqb, ap, ◌∙◌, sym, subst, inl, inr, get_or-set_same, get_or-set_other, length-set}
 use Rattle.std.proofs.lemmas.Grind.{common_steps}
 use Rattle.std.proofs.lemmas.Bool.{cases_eq, cases_lt}
@@ -19,24 +20,32 @@ use Rattle.class_heap.specs.Tree.{IsLeastWith}
 use Rattle.class_heap.specs.Entries.{use_in, block_in, labels_of, entry_at, blocks_of, heap_of, IsHeap, IsLeastVacant, fuller, IsRoomFor}
 use Rattle.class_heap.specs.Placing.{takes, is_taken, IsLeastFree, GoesTo, into_slab, into_new_slab, alone, IsPlacing}
 use Rattle.class_heap.specs.Laws.{slab_read}
-use Rattle.class_heap.proofs.Heaps.{SameEntries, blocks_same, slab_same, waiting_same, spare_same, beyond, taking, first_takes, IsChange, IsEntry, blocks_changed, others_stay, changed_here, sound_changed}
+use Rattle.class_heap.proofs.Heaps.{SameEntries, blocks_same, slab_same, waiting_same, spare_same, beyond, taking, first_takes, IsChange, IsEntry, blocks_changed, others_stay}
+use Rattle.class_heap.proofs.Heaps.{changed_here, sound_changed}
 
 -- an entry written over at a number within the list is a change of that number
 pub change_set : (old : List Entry) (n : ℕ) (e : Entry) → n < length old → IsChange old (slice_set old n e) n e
 change_set old n e lt = record { here = get_or-set_same old n e Vacant lt; others = λ m ne. get_or-set_other old n m e Vacant ne }
 
 -- a heap after one entry was written over and has its labels
-pub sound_set : {passing : Bool} {old : List Entry} {directory : Directory} {margins : List ℕ} (sound : IsHeap passing old directory margins) (n : ℕ) (e : Entry) (labels : ℕ) (later : Directory) (other_margins : List ℕ)
-    → n < length old → labels ≡ labels_of passing e → later.bound ≡ directory.bound → ((m : ℕ) → m < later.bound → labels_at later m ≡ cond (eqb m n) labels (labels_at directory m)) → IsEntry passing e → length other_margins ≡ 36
-    → (passing ≡ true → (class : ℕ) → class < 36 → waiting_in class (use_in e) + spare_in class (use_in (entry_at old n)) + slice_index_or other_margins class 0 ≡ waiting_in class (use_in (entry_at old n)) + spare_in class (use_in e) + slice_index_or margins class 0)
+pub sound_set : {passing : Bool} {old : List Entry} {directory : Directory} {margins : List ℕ} (sound : IsHeap passing old directory margins) (n : ℕ) (e : Entry) (labels : ℕ)
+    (later : Directory) (other_margins : List ℕ)
+    → n < length old → labels ≡ labels_of passing e → later.bound ≡ directory.bound → ((m : ℕ) → m < later.bound → labels_at later m ≡ cond (eqb m n) labels (labels_at directory m))
+    → IsEntry passing e → length other_margins ≡ 36
+    →
+    (passing ≡ true → (class : ℕ) → class < 36 → waiting_in class (use_in e) + spare_in class (use_in (entry_at old n)) + slice_index_or other_margins class 0 ≡ waiting_in class
+    (use_in (entry_at old n)) + spare_in class (use_in e) + slice_index_or margins class 0)
     → IsHeap passing (slice_set old n e) later other_margins
 sound_set {old = old} {directory = directory} sound n e labels later other_margins lt is bound set entry few balance =
-    sound_changed sound (slice_set old n e) later other_margins n e (length-set old n e) (change_set old n e lt) bound (λ m less. set m less ∙ ap (λ l. cond (eqb m n) l (labels_at directory m)) is) entry few balance
+    sound_changed sound (slice_set old n e) later other_margins n e (length-set old n e) (change_set old n e lt) bound
+    (λ m less. set m less ∙ ap (λ l. cond (eqb m n) l (labels_at directory m)) is) entry few balance
 
 -- ---- a list with further numbers
 
 -- a heap stays sound where its list gets further numbers with nothing, and their labels
-pub sound_wider : {passing : Bool} {old : List Entry} {directory : Directory} {margins : List ℕ} (sound : IsHeap passing old directory margins) (new : List Entry) (later : Directory) (labels : ℕ) → SameEntries old new → length new ≡ later.bound → labels ≡ 2 ^ 36 → ((n : ℕ) → n < later.bound → labels_at later n ≡ cond (nat_lt n directory.bound) (labels_at directory n) labels) → IsHeap passing new later margins
+pub sound_wider : {passing : Bool} {old : List Entry} {directory : Directory} {margins : List ℕ} (sound : IsHeap passing old directory margins) (new : List Entry) (later : Directory)
+    (labels : ℕ) → SameEntries old new → length new ≡ later.bound → labels ≡ 2 ^ 36
+    → ((n : ℕ) → n < later.bound → labels_at later n ≡ cond (nat_lt n directory.bound) (labels_at directory n) labels) → IsHeap passing new later margins
 sound_wider {passing = passing} {old = old} {directory = directory} {margins = margins} sound new later labels same long is wide = record {
   bound = long;
   classes = sound.classes;
@@ -47,7 +56,9 @@ sound_wider {passing = passing} {old = old} {directory = directory} {margins = m
 }
   where
     labelled : (n : ℕ) → n < length new → (n < directory.bound) ⊎ (directory.bound ≤ n) → labels_at later n ≡ labels_of passing (entry_at new n)
-    labelled n lt (inl before) = (let b = sound.bound in wide n (omega (arith, lt, long)) ∙ (grind (arith, nat_tests, before) ∙ (sound.labelled n (omega (arith, before, b)) ∙ ap (labels_of passing) (sym (same n)))))
+    labelled n lt (inl before) =
+        (let b = sound.bound in wide n (omega (arith, lt, long)) ∙
+        (grind (arith, nat_tests, before) ∙ (sound.labelled n (omega (arith, before, b)) ∙ ap (labels_of passing) (sym (same n)))))
     labelled n lt (inr past) = (let b = sound.bound in let v : entry_at new n ≡ Vacant = same n ∙ beyond sound n (omega (arith, past, b)) in
         wide n (omega (arith, lt, long)) ∙ (by_test n past ∙ (is ∙ ap (labels_of passing) (sym v))))
       where
@@ -73,7 +84,8 @@ least_free passing entries n v = record {
     taken (Classed slab) o is ne = ap (λ x. is_some x || is_some (block_in (Classed slab) 0)) is
 
 -- a block of zeros that was put into a free slot of one entry, by the rule, was placed
-pub placing : {passing later : Bool} (old mid new : List Entry) (e : Entry) (at : BlockRef) (len : ℕ) → later ≡ passing → SameEntries old mid → IsChange mid new at.slab e → block_in (entry_at mid at.slab) at.slot ≡ None → ((slot : ℕ) → block_in e slot ≡ with_slot (block_in (entry_at mid at.slab)) at.slot (Some (replicate len 0)) slot)
+pub placing : {passing later : Bool} (old mid new : List Entry) (e : Entry) (at : BlockRef) (len : ℕ) → later ≡ passing → SameEntries old mid → IsChange mid new at.slab e
+    → block_in (entry_at mid at.slab) at.slot ≡ None → ((slot : ℕ) → block_in e slot ≡ with_slot (block_in (entry_at mid at.slab)) at.slot (Some (replicate len 0)) slot)
     → GoesTo (blocks_of old) (heap_of passing old) (heap_of later new) len at → IsPlacing (blocks_of old) (heap_of passing old) (blocks_of new) (heap_of later new) len at
 placing {passing = passing} {later = later} old mid new e at len kept same c fresh slots goes = record {
   fresh = ap (λ x. block_in x at.slot) (sym (same at.slab)) ∙ fresh;
@@ -93,7 +105,8 @@ least_vacant_same passing old mid n same v =
     }
   where
     taken_same : (m : ℕ) → is_taken (blocks_of mid) (heap_of passing mid) m ≡ is_taken (blocks_of old) (heap_of passing old) m
-    taken_same m = ap (λ o. is_some o || is_some (block_in (entry_at mid m) 0)) (slab_same passing old mid same m) ∙ ap (λ e. is_some (slab_at (heap_of passing old) m) || is_some (block_in e 0)) (same m)
+    taken_same m = ap (λ o. is_some o || is_some (block_in (entry_at mid m) 0)) (slab_same passing old mid same m)
+        ∙ ap (λ e. is_some (slab_at (heap_of passing old) m) || is_some (block_in e 0)) (same m)
 
 -- ---- a large block
 
@@ -102,19 +115,26 @@ pub large_slots : (bytes : List ℕ) (old : Entry) (slot : ℕ) → old ≡ Vaca
 large_slots bytes old slot is = ap (λ e. cond (eqb slot 0) (Some bytes) (block_in e slot)) (sym is)
 
 -- a block that no class holds stands alone at the least vacant number, as the rule says
-pub goes_alone : {passing later : Bool} (old mid new : List Entry) (e : Entry) (len n : ℕ) → 14336 < len → SameEntries old mid → IsLeastVacant mid n → IsChange mid new n e → use_in e ≡ None → GoesTo (blocks_of old) (heap_of passing old) (heap_of later new) len (record { slab = n; slot = 0 })
-goes_alone {passing = passing} {later = later} old mid new e len n large same v c none = alone (record { large = large; free = least_vacant_same passing old mid n same v; first = refl; none = changed_here later mid new n e c ∙ none })
+pub goes_alone : {passing later : Bool} (old mid new : List Entry) (e : Entry) (len n : ℕ) → 14336 < len → SameEntries old mid → IsLeastVacant mid n → IsChange mid new n e
+    → use_in e ≡ None → GoesTo (blocks_of old) (heap_of passing old) (heap_of later new) len (record { slab = n; slot = 0 })
+goes_alone {passing = passing} {later = later} old mid new e len n large same v c none =
+    alone (record { large = large; free = least_vacant_same passing old mid n same v; first = refl; none = changed_here later mid new n e c ∙ none })
 
 -- a heap stays sound where a large block comes to a number with nothing
-pub sound_alone : {passing : Bool} {old : List Entry} {directory : Directory} {margins : List ℕ} (sound : IsHeap passing old directory margins) (n : ℕ) (block : Vec ℕ) (later : Directory) → n < length old → entry_at old n ≡ Vacant → later.bound ≡ directory.bound → ((m : ℕ) → m < later.bound → labels_at later m ≡ cond (eqb m n) 0 (labels_at directory m)) → IsHeap passing (slice_set old n (Large block)) later margins
+pub sound_alone : {passing : Bool} {old : List Entry} {directory : Directory} {margins : List ℕ} (sound : IsHeap passing old directory margins) (n : ℕ) (block : Vec ℕ) (later : Directory)
+    → n < length old → entry_at old n ≡ Vacant → later.bound ≡ directory.bound → ((m : ℕ) → m < later.bound → labels_at later m ≡ cond (eqb m n) 0 (labels_at directory m))
+    → IsHeap passing (slice_set old n (Large block)) later margins
 sound_alone {margins = margins} sound n block later lt vacant bound labels =
     sound_set sound n (Large block) 0 later margins lt refl bound labels (record { marked = λ s at kept. cc; filled = λ s at kept. cc }) sound.classes
-    (λ open' class within. ap (λ x. waiting_in class None + spare_in class (use_in x) + slice_index_or margins class 0) vacant ∙ sym (ap (λ x. waiting_in class (use_in x) + spare_in class None + slice_index_or margins class 0) vacant))
+    (λ open' class within. ap (λ x. waiting_in class None + spare_in class (use_in x) + slice_index_or margins class 0) vacant
+    ∙ sym (ap (λ x. waiting_in class (use_in x) + spare_in class None + slice_index_or margins class 0) vacant))
 
 -- ---- into a slab
 
 -- a block goes by the rule into the slab at the least number with the label of its class
-pub goes_in : {passing : Bool} {old : List Entry} {directory : Directory} {margins : List ℕ} (sound : IsHeap passing old directory margins) (new : List Entry) (e : Entry) (class len n slot : ℕ) → class < 36 → IsClassOf len class → IsLeastWith directory.bound directory.nodes.items class n → (passing ≡ true → 0 < slice_index_or margins class 0) → IsChange old new n e → use_in e ≡ fuller (use_in (entry_at old n)) → GoesTo (blocks_of old) (heap_of passing old) (heap_of passing new) len (record { slab = n; slot = slot })
+pub goes_in : {passing : Bool} {old : List Entry} {directory : Directory} {margins : List ℕ} (sound : IsHeap passing old directory margins) (new : List Entry) (e : Entry)
+    (class len n slot : ℕ) → class < 36 → IsClassOf len class → IsLeastWith directory.bound directory.nodes.items class n → (passing ≡ true → 0 < slice_index_or margins class 0)
+    → IsChange old new n e → use_in e ≡ fuller (use_in (entry_at old n)) → GoesTo (blocks_of old) (heap_of passing old) (heap_of passing new) len (record { slab = n; slot = slot })
 goes_in {passing = passing} {old = old} {margins = margins} sound new e class len n slot lt holds first room c more =
     let f = first_takes sound class n lt first in let t = taking passing class (use_in (entry_at old n)) f.1 in
     into_slab (record {
@@ -123,18 +143,21 @@ goes_in {passing = passing} {old = old} {margins = margins} sound new e class le
       class = subst (λ k. IsClassOf len k) (sym t.one_class) holds;
       taken = subst (λ k. takes passing k (Some t.slab) ≡ true) (sym t.one_class) (subst (λ o. takes passing class o ≡ true) t.is f.1);
       lowest = λ m less. ap (takes passing t.slab.class) (slab_read passing old m) ∙ subst (λ k. takes passing k (use_in (entry_at old m)) ≡ false) (sym t.one_class) (f.2 m less);
-      room = λ open'. subst (λ k. waiting_of (heap_of passing old) k < spare_of (heap_of passing old) k) (sym t.one_class) (let m = sound.margin open' class lt in let r = room open' in omega (arith, m, r));
+      room = λ open'. subst (λ k. waiting_of (heap_of passing old) k < spare_of (heap_of passing old) k) (sym t.one_class)
+          (let m = sound.margin open' class lt in let r = room open' in omega (arith, m, r));
       stands = changed_here passing old new n e c ∙ (more ∙ ap fuller t.is);
     })
 
 -- the slab that is found has room
-pub room_found : {passing : Bool} {old : List Entry} {directory : Directory} {margins : List ℕ} (sound : IsHeap passing old directory margins) (class len n : ℕ) → class < 36 → IsClassOf len class → IsLeastWith directory.bound directory.nodes.items class n → IsRoomFor len (use_in (entry_at old n))
+pub room_found : {passing : Bool} {old : List Entry} {directory : Directory} {margins : List ℕ} (sound : IsHeap passing old directory margins) (class len n : ℕ) → class < 36
+    → IsClassOf len class → IsLeastWith directory.bound directory.nodes.items class n → IsRoomFor len (use_in (entry_at old n))
 room_found {passing = passing} {old = old} sound class len n lt holds first =
     let f = first_takes sound class n lt first in let t = taking passing class (use_in (entry_at old n)) f.1 in
     subst (λ o. IsRoomFor len o) (sym t.is) (t.room, subst (λ k. IsClassOf len k) (sym t.one_class) holds)
 
 -- with one block more it is as it should be
-pub entry_in : {passing : Bool} {old : List Entry} {directory : Directory} {margins : List ℕ} (sound : IsHeap passing old directory margins) (class n : ℕ) (e : Entry) → class < 36 → IsLeastWith directory.bound directory.nodes.items class n → use_in e ≡ fuller (use_in (entry_at old n)) → IsEntry passing e
+pub entry_in : {passing : Bool} {old : List Entry} {directory : Directory} {margins : List ℕ} (sound : IsHeap passing old directory margins) (class n : ℕ) (e : Entry) → class < 36
+    → IsLeastWith directory.bound directory.nodes.items class n → use_in e ≡ fuller (use_in (entry_at old n)) → IsEntry passing e
 entry_in {passing = passing} {old = old} sound class n e lt first more =
     let f = first_takes sound class n lt first in let t = taking passing class (use_in (entry_at old n)) f.1 in
     let is : use_in e ≡ Some (one_more_in t.slab) = more ∙ ap fuller t.is in
@@ -150,7 +173,8 @@ entry_in {passing = passing} {old = old} sound class n e lt first more =
     some_used a s e = (let q : one_more_in a ≡ s = cc in subst (λ x. 0 < x.used) q (omega arith))
 
 -- how the margin changes
-one_class_in : (c u p : ℕ) (s : SlabUse) → s.kept ≡ true → s.used < per_slab s.class → s.class ≡ c → (waiting_in c (Some (one_more_in s)) ≡ 0) × (waiting_in c (Some s) ≡ 0) × (spare_in c (Some (one_more_in s)) + 1 ≡ spare_in c (Some s))
+one_class_in : (c u p : ℕ) (s : SlabUse) → s.kept ≡ true → s.used < per_slab s.class → s.class ≡ c → (waiting_in c (Some (one_more_in s)) ≡ 0) × (waiting_in c (Some s) ≡ 0)
+    × (spare_in c (Some (one_more_in s)) + 1 ≡ spare_in c (Some s))
 one_class_in c u p s kept room is = (grind (arith, common_steps, kept), grind (arith, common_steps, kept), spare (per_slab s.class) s.used c kept is room)
   where
     spare : (q u c : ℕ) → s.kept ≡ true → s.class ≡ c → s.used < per_slab s.class → spare_in c (Some (one_more_in s)) + 1 ≡ spare_in c (Some s)
@@ -161,16 +185,25 @@ pub other_class : (c : ℕ) (s : SlabUse) → s.class ≢ c → (waiting_in c (S
 other_class c s ne = (grind (arith, common_steps, ne), grind (arith, common_steps, ne))
 
 -- when a block goes into a slab of an open pass, the margins balance with that of its class less by one
-pub margin_in : {passing : Bool} {old : List Entry} {directory : Directory} {margins : List ℕ} (sound : IsHeap passing old directory margins) (class n : ℕ) (e : Entry) → class < 36 → IsLeastWith directory.bound directory.nodes.items class n → (passing ≡ true → 0 < slice_index_or margins class 0) → use_in e ≡ fuller (use_in (entry_at old n)) → passing ≡ true → (c : ℕ) → c < 36
-    → waiting_in c (use_in e) + spare_in c (use_in (entry_at old n)) + slice_index_or (slice_set margins class (slice_index_or margins class 0 - 1)) c 0 ≡ waiting_in c (use_in (entry_at old n)) + spare_in c (use_in e) + slice_index_or margins c 0
+pub margin_in : {passing : Bool} {old : List Entry} {directory : Directory} {margins : List ℕ} (sound : IsHeap passing old directory margins) (class n : ℕ) (e : Entry) → class < 36
+    → IsLeastWith directory.bound directory.nodes.items class n → (passing ≡ true → 0 < slice_index_or margins class 0) → use_in e ≡ fuller (use_in (entry_at old n)) → passing ≡ true
+    → (c : ℕ) → c < 36
+    → waiting_in c (use_in e) + spare_in c (use_in (entry_at old n)) + slice_index_or (slice_set margins class (slice_index_or margins class 0 - 1)) c 0 ≡ waiting_in c
+    (use_in (entry_at old n)) + spare_in c (use_in e) + slice_index_or margins c 0
 margin_in {passing = passing} {old = old} {margins = margins} sound class n e lt first room more open' c within =
     let f = first_takes sound class n lt first in let t = taking passing class (use_in (entry_at old n)) f.1 in
     let k = t.kept open' in
-    subst (λ o. waiting_in c (use_in e) + spare_in c o + slice_index_or (slice_set margins class (slice_index_or margins class 0 - 1)) c 0 ≡ waiting_in c o + spare_in c (use_in e) + slice_index_or margins c 0) (sym t.is)
-    (subst (λ o. waiting_in c o + spare_in c (Some t.slab) + slice_index_or (slice_set margins class (slice_index_or margins class 0 - 1)) c 0 ≡ waiting_in c (Some t.slab) + spare_in c o + slice_index_or margins c 0) (sym (more ∙ ap fuller t.is))
+    subst
+    (λ o. waiting_in c (use_in e) + spare_in c o + slice_index_or (slice_set margins class (slice_index_or margins class 0 - 1)) c 0 ≡ waiting_in c o + spare_in c (use_in e) +
+    slice_index_or margins c 0) (sym t.is)
+    (subst
+    (λ o. waiting_in c o + spare_in c (Some t.slab) + slice_index_or (slice_set margins class (slice_index_or margins class 0 - 1)) c 0 ≡ waiting_in c (Some t.slab) + spare_in c o +
+    slice_index_or margins c 0) (sym (more ∙ ap fuller t.is))
     (elim (cases_eq c class) [
       | inl same ↦ (let o = one_class_in c 0 0 t.slab k t.room (t.one_class ∙ sym same) in let r = room open' in let few = sound.classes in
-          let m : slice_index_or (slice_set margins class (slice_index_or margins class 0 - 1)) c 0 ≡ slice_index_or margins class 0 - 1 = ap (λ i. slice_index_or (slice_set margins class (slice_index_or margins class 0 - 1)) i 0) same ∙ get_or-set_same margins class (slice_index_or margins class 0 - 1) 0 (omega (arith, few, lt)) in
+          let m : slice_index_or (slice_set margins class (slice_index_or margins class 0 - 1)) c 0 ≡ slice_index_or margins class 0 - 1 =
+          ap (λ i. slice_index_or (slice_set margins class (slice_index_or margins class 0 - 1)) i 0) same
+          ∙ get_or-set_same margins class (slice_index_or margins class 0 - 1) 0 (omega (arith, few, lt)) in
           omega (arith, o.0, o.1, o.2, m, r, ap (λ i. slice_index_or margins i 0) same))
       | inr other ↦ (let ne : t.slab.class ≢ c = λ q. other (sym q ∙ t.one_class) in let a = other_class c (one_more_in t.slab) ne in let b = other_class c t.slab ne in
           omega (arith, a.0, a.1, b.0, b.1, get_or-set_other margins class c (slice_index_or margins class 0 - 1) 0 other))
@@ -179,8 +212,10 @@ margin_in {passing = passing} {old = old} {margins = margins} sound class n e lt
 -- ---- into a new slab
 
 -- a block goes by the rule into a new slab, where no slab takes it or an open pass has no place to spare
-pub goes_anew : {passing later : Bool} (old mid new : List Entry) (e : Entry) (class len n slot : ℕ) → class < 36 → IsClassOf len class → (passing ≡ false → (m : ℕ) → takes false class (use_in (entry_at old m)) ≡ false) → (passing ≡ true → spare_of (heap_of passing old) class ≤ waiting_of (heap_of passing old) class)
-    → SameEntries old mid → IsLeastVacant mid n → IsChange mid new n e → use_in e ≡ Some (record { class = class; used = 1; kept = passing }) → GoesTo (blocks_of old) (heap_of passing old) (heap_of later new) len (record { slab = n; slot = slot })
+pub goes_anew : {passing later : Bool} (old mid new : List Entry) (e : Entry) (class len n slot : ℕ) → class < 36 → IsClassOf len class
+    → (passing ≡ false → (m : ℕ) → takes false class (use_in (entry_at old m)) ≡ false) → (passing ≡ true → spare_of (heap_of passing old) class ≤ waiting_of (heap_of passing old) class)
+    → SameEntries old mid → IsLeastVacant mid n → IsChange mid new n e → use_in e ≡ Some (record { class = class; used = 1; kept = passing })
+    → GoesTo (blocks_of old) (heap_of passing old) (heap_of later new) len (record { slab = n; slot = slot })
 goes_anew {passing = passing} {later = later} old mid new e class len n slot lt holds none full same v c is =
     into_new_slab (record {
       class = class;
@@ -206,20 +241,28 @@ entry_anew passing class e is = record {
     some_used a s e more = (let q : a ≡ s = cc in subst (λ x. 0 < x.used) q more)
 
 -- when a block goes into a new slab of an open pass, the margins balance with the places left added
-pub margin_anew : (margins : List ℕ) (class per : ℕ) (old e : Entry) → length margins ≡ 36 → class < 36 → per ≡ per_slab class → old ≡ Vacant → use_in e ≡ Some (record { class = class; used = 1; kept = true }) → (c : ℕ) → c < 36
-    → waiting_in c (use_in e) + spare_in c (use_in old) + slice_index_or (slice_set margins class (slice_index_or margins class 0 + (per - 1))) c 0 ≡ waiting_in c (use_in old) + spare_in c (use_in e) + slice_index_or margins c 0
+pub margin_anew : (margins : List ℕ) (class per : ℕ) (old e : Entry) → length margins ≡ 36 → class < 36 → per ≡ per_slab class → old ≡ Vacant
+    → use_in e ≡ Some (record { class = class; used = 1; kept = true }) → (c : ℕ) → c < 36
+    → waiting_in c (use_in e) + spare_in c (use_in old) + slice_index_or (slice_set margins class (slice_index_or margins class 0 + (per - 1))) c 0 ≡ waiting_in c (use_in old) + spare_in c
+    (use_in e) + slice_index_or margins c 0
 margin_anew margins class per old e few lt full none is c within =
-    subst (λ x. waiting_in c (use_in e) + spare_in c (use_in x) + slice_index_or (slice_set margins class (slice_index_or margins class 0 + (per - 1))) c 0 ≡ waiting_in c (use_in x) + spare_in c (use_in e) + slice_index_or margins c 0) (sym none)
+    subst
+    (λ x. waiting_in c (use_in e) + spare_in c (use_in x) + slice_index_or (slice_set margins class (slice_index_or margins class 0 + (per - 1))) c 0 ≡ waiting_in c (use_in x) +
+    spare_in c (use_in e) + slice_index_or margins c 0) (sym none)
     (subst (λ o. waiting_in c o + 0 + slice_index_or (slice_set margins class (slice_index_or margins class 0 + (per - 1))) c 0 ≡ 0 + spare_in c o + slice_index_or margins c 0) (sym is)
     (elim (cases_eq c class) [
-      | inl same ↦ (let m : slice_index_or (slice_set margins class (slice_index_or margins class 0 + (per - 1))) c 0 ≡ slice_index_or margins class 0 + (per - 1) = ap (λ i. slice_index_or (slice_set margins class (slice_index_or margins class 0 + (per - 1))) i 0) same ∙ get_or-set_same margins class (slice_index_or margins class 0 + (per - 1)) 0 (omega (arith, few, lt)) in
+      | inl same ↦
+          (let m : slice_index_or (slice_set margins class (slice_index_or margins class 0 + (per - 1))) c 0 ≡ slice_index_or margins class 0 + (per - 1) =
+          ap (λ i. slice_index_or (slice_set margins class (slice_index_or margins class 0 + (per - 1))) i 0) same
+          ∙ get_or-set_same margins class (slice_index_or margins class 0 + (per - 1)) 0 (omega (arith, few, lt)) in
           let o = new_here (per_slab c) same in
           omega (arith, o.0, o.1, m, full, ap per_slab same, ap (λ i. slice_index_or margins i 0) same))
       | inr other ↦ (let a = other_class c (record { class = class; used = 1; kept = true }) (λ q. other (sym q)) in
           omega (arith, a.0, a.1, get_or-set_other margins class c (slice_index_or margins class 0 + (per - 1)) 0 other))
     ]))
   where
-    new_here : (p : ℕ) → c ≡ class → (waiting_in c (Some (record { class = class; used = 1; kept = true })) ≡ 0) × (spare_in c (Some (record { class = class; used = 1; kept = true })) ≡ per_slab c - 1)
+    new_here : (p : ℕ) → c ≡ class → (waiting_in c (Some (record { class = class; used = 1; kept = true })) ≡ 0)
+        × (spare_in c (Some (record { class = class; used = 1; kept = true })) ≡ per_slab c - 1)
     new_here p same = (grind (arith, common_steps, same), grind (arith, common_steps, same))
 
 -- a new slab has room, and then one block
@@ -227,11 +270,13 @@ pub fresh_room : (slab : Slab) (class len : ℕ) (kept : Bool) → use_of slab �
 fresh_room slab class len kept made lt holds = subst (λ u. IsRoomFor len (Some u)) (sym made) ((slots_bounds class lt).0, holds)
 
 -- an empty slab with one block more has one block
-pub made_one : (slab : Slab) (class : ℕ) (kept : Bool) → use_of slab ≡ record { class = class; used = 0; kept = kept } → fuller (use_in (Classed slab)) ≡ Some (record { class = class; used = 1; kept = kept })
+pub made_one : (slab : Slab) (class : ℕ) (kept : Bool) → use_of slab ≡ record { class = class; used = 0; kept = kept }
+    → fuller (use_in (Classed slab)) ≡ Some (record { class = class; used = 1; kept = kept })
 made_one slab class kept made = ap (λ u. Some (one_more_in u)) made
 
 -- a block put into a slab without a block leaves the same slots as one put into a vacant entry
-pub fresh_slots : (slab : Slab) (old : Entry) (at slot : ℕ) (content : Option (List ℕ)) → ((s : ℕ) → block_in (Classed slab) s ≡ None) → old ≡ Vacant → with_slot (block_in (Classed slab)) at content slot ≡ with_slot (block_in old) at content slot
+pub fresh_slots : (slab : Slab) (old : Entry) (at slot : ℕ) (content : Option (List ℕ)) → ((s : ℕ) → block_in (Classed slab) s ≡ None) → old ≡ Vacant
+    → with_slot (block_in (Classed slab)) at content slot ≡ with_slot (block_in old) at content slot
 fresh_slots slab old at slot content empty is = ap (λ o. cond (eqb slot at) content o) (empty slot ∙ ap (λ e. block_in e slot) (sym is))
 
 -- ---- a placed block wants no move
@@ -245,6 +290,8 @@ calm_placed {before = before} {h = h} {later = later} {len = len} {at = at} p = 
     settled false o is kept e = ap (λ x. x && is_other (slab_at later at.slab)) is
 
     by_goes : GoesTo before h later len at → wants later at ≡ false
-    by_goes (into_slab g) = settled h.passing (Some (one_more_in g.slab)) p.passing (λ open'. (let t = taking h.passing g.slab.class (Some g.slab) g.taken in let q : t.slab ≡ g.slab = (let u = t.is in cc) in ap not (sym (ap (λ x. x.kept) q) ∙ t.kept open'))) g.stands
+    by_goes (into_slab g) = settled h.passing (Some (one_more_in g.slab)) p.passing
+        (λ open'. (let t = taking h.passing g.slab.class (Some g.slab) g.taken in let q : t.slab ≡ g.slab = (let u = t.is in cc) in ap not (sym (ap (λ x. x.kept) q) ∙ t.kept open')))
+        g.stands
     by_goes (into_new_slab g) = settled h.passing (Some (record { class = g.class; used = 1; kept = h.passing })) p.passing (λ open'. ap not open') g.stands
     by_goes (alone g) = settled h.passing None p.passing (λ open'. refl) g.none

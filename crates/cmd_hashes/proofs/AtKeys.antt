@@ -49,7 +49,8 @@ not_hash (kinds.Zset box) other = refl
 not_hash (kinds.Stream box) other = refl
 
 -- the hash that was found at a key
-pub hash_item : (bases : Bases) (m : Blocks) (at : Ctx) (key : List ℕ) (number : ℕ) (value : Value) (box : Box kept.Fields) → value ≡ kinds.Hash box → StandsAt bases m at.db key at.moment number → Found bases m at.db key at.moment value → HashItem (seen at bases m) bases m at.db key at.moment number
+pub hash_item : (bases : Bases) (m : Blocks) (at : Ctx) (key : List ℕ) (number : ℕ) (value : Value) (box : Box kept.Fields) → value ≡ kinds.Hash box
+    → StandsAt bases m at.db key at.moment number → Found bases m at.db key at.moment value → HashItem (seen at bases m) bases m at.db key at.moment number
 hash_item bases m at key number value box is there found = record {
   there = there;
   fields = object.fields m box.value;
@@ -71,10 +72,12 @@ limits_known limits seed m (kinds.Zset box) own sound is = sym (ap (limits_or ow
 limits_known limits seed m (kinds.Stream box) own sound is = cc
 
 kept_by : (bases : Bases) (m : Blocks) (db : ℕ) (key : List ℕ) (value : Value) (own : Limits) → Sound bases m → HasValue bases m db key value → limits_of value ≡ Some own → own ≡ bases.limits
-kept_by bases m db key value own sound had is = limits_known bases.limits bases.seed m value own (subst (IsSound bases.limits bases.seed m) had.is (sound.arranged.values db had.at had.element had.found)) is
+kept_by bases m db key value own sound had is = limits_known bases.limits bases.seed m value own
+    (subst (IsSound bases.limits bases.seed m) had.is (sound.arranged.values db had.at had.element had.found)) is
 
 -- the value that was found at a key is a hash
-pub found_hash : (bases : Bases) (m : Blocks) (at : Ctx) (key : List ℕ) (value : Value) (box : Box kept.Fields) → value ≡ kinds.Hash box → Sound bases m → Found bases m at.db key at.moment value → FoundHash (seen at bases m) m key box.value
+pub found_hash : (bases : Bases) (m : Blocks) (at : Ctx) (key : List ℕ) (value : Value) (box : Box kept.Fields) → value ≡ kinds.Hash box → Sound bases m
+    → Found bases m at.db key at.moment value → FoundHash (seen at bases m) m key box.value
 found_hash bases m at key value box is sound found =
     let own = subst (Found bases m at.db key at.moment) is found in
     record {
@@ -96,12 +99,14 @@ abbrev HoldsThere : (Fields → Type 0) → Option Entry → Type 0
 HoldsThere Is None = Unit {0}
 HoldsThere Is (Some entry) = IsHashThat Is entry.value
 
-pub takes_there : (Is : Fields → Type 0) (world : World) (key : List ℕ) (fields : Fields) → HasHash world key fields → Is fields → (entry : Entry) → look world key ≡ Some entry → IsHashThat Is entry.value
+pub takes_there : (Is : Fields → Type 0) (world : World) (key : List ℕ) (fields : Fields) → HasHash world key fields → Is fields → (entry : Entry) → look world key ≡ Some entry
+    → IsHashThat Is entry.value
 takes_there Is world key fields has holds entry is = subst (HoldsThere Is) (sym has.stands ∙ is) holds
 
 module _ {S T X : Type 0} (makes : T → T → Shape → Shape → Type 0) (own : Made) (left : ℕ) (first last : T) (blocks : S → Blocks) (old new : Keyspace S) (at : Ctx) (key : List ℕ)
     (same : (o n : Shape) → makes first last o n → MakesHash own left o n) where
-  pub hash_new : (fresh : Value) → value_of (blocks old.store) fresh ≡ HashOf empty → limits_of fresh ≡ Some old.bases.limits → ((f : Form) → encoding_of fresh ≡ OfForm f → IsLeast (FitsFields old.bases.limits empty) f) → look (sight blocks old at) key ≡ None
+  pub hash_new : (fresh : Value) → value_of (blocks old.store) fresh ≡ HashOf empty → limits_of fresh ≡ Some old.bases.limits
+      → ((f : Form) → encoding_of fresh ≡ OfForm f → IsLeast (FitsFields old.bases.limits empty) f) → look (sight blocks old at) key ≡ None
       → (result : Result (Unit {0}) X) → OnOk result (MakesNew makes first last blocks old new at key fresh) → OnOk result (HashChanged (Counting own left) keep_any blocks old new at key)
   hash_new fresh blank limits least none (Err e) p = tt
   hash_new fresh blank limits least none (Ok u) p =
@@ -116,13 +121,15 @@ module _ {S T X : Type 0} (makes : T → T → Shape → Shape → Type 0) (own 
         form = q.form;
         made = (subst (λ (n : Limits). own n empty q.from q.now q.form) by (subst (λ (l : Fields). own q.limits l q.from q.now q.form) nothing q.made), q.counted);
         was_form = least q.from q.was_form;
-        world = p.world ∙ ap (λ (v : model.Value). put (sight blocks old at) key (record { value = v; deadline = None })) q.is ∙ ap (λ (d : Option ℕ). put (sight blocks old at) key (record { value = HashOf q.now; deadline = d })) (sym (ap deadline_of none));
+        world = p.world ∙ ap (λ (v : model.Value). put (sight blocks old at) key (record { value = v; deadline = None })) q.is
+            ∙ ap (λ (d : Option ℕ). put (sight blocks old at) key (record { value = HashOf q.now; deadline = d })) (sym (ap deadline_of none));
         value = p.now;
         only = p.only;
         encoded = p.encoded ∙ q.is_form;
       }
 
-  pub hash_there : Sound old.bases (blocks old.store) → (result : Result (Unit {0}) X) → OnOk result (Edits makes first last blocks old new at key) → OnOk result (HashChanged (Counting own left) keep_any blocks old new at key)
+  pub hash_there : Sound old.bases (blocks old.store) → (result : Result (Unit {0}) X) → OnOk result (Edits makes first last blocks old new at key)
+      → OnOk result (HashChanged (Counting own left) keep_any blocks old new at key)
   hash_there sound (Err e) p = tt
   hash_there sound (Ok u) p =
       let q = same (shape (blocks old.store) p.was) (shape (blocks new.store) p.now) p.made in
@@ -135,7 +142,8 @@ module _ {S T X : Type 0} (makes : T → T → Shape → Shape → Type 0) (own 
         form = q.form;
         made = (subst (λ (n : Limits). own n q.fields q.from q.now q.form) by q.made, q.counted);
         was_form = (p.was, p.had, q.was_form);
-        world = p.world ∙ ap (λ (v : model.Value). put (sight blocks old at) key (record { value = v; deadline = p.deadline })) q.is ∙ ap (λ (d : Option ℕ). put (sight blocks old at) key (record { value = HashOf q.now; deadline = d })) (sym (ap deadline_of p.stands));
+        world = p.world ∙ ap (λ (v : model.Value). put (sight blocks old at) key (record { value = v; deadline = p.deadline })) q.is
+            ∙ ap (λ (d : Option ℕ). put (sight blocks old at) key (record { value = HashOf q.now; deadline = d })) (sym (ap deadline_of p.stands));
         value = p.now;
         only = p.only;
         encoded = q.is_form;
@@ -172,7 +180,8 @@ module _ {S : Type 0} (own : Made) (left : ℕ) (blocks : S → Blocks) (old mid
     encoded = p.encoded;
   }
 
-  pub hash_gone : left ≡ 0 → (new : Keyspace S) → sight blocks new at ≡ remove (sight blocks mid at) key → Within (no_key at.db) mid.bases new.bases (blocks mid.store) (blocks new.store) → HashChanged own keep_hash blocks old new at key
+  pub hash_gone : left ≡ 0 → (new : Keyspace S) → sight blocks new at ≡ remove (sight blocks mid at) key → Within (no_key at.db) mid.bases new.bases (blocks mid.store) (blocks new.store)
+      → HashChanged own keep_hash blocks old new at key
   hash_gone none new world within = record {
     before = p.before;
     stands = p.stands;
@@ -181,14 +190,17 @@ module _ {S : Type 0} (own : Made) (left : ℕ) (blocks : S → Blocks) (old mid
     form = p.form;
     made = p.made.0;
     was_form = p.was_form;
-    world = gone_is (sight blocks old at) (sight blocks new at) key p.now (omega (arith, none, p.made.1)) (world ∙ ap (λ (w : World). remove w key) p.world ∙ remove_put (sight blocks old at) key (record { value = HashOf p.now; deadline = deadline_of (look (sight blocks old at) key) }));
+    world = gone_is (sight blocks old at) (sight blocks new at) key p.now (omega (arith, none, p.made.1))
+        (world ∙ ap (λ (w : World). remove w key) p.world ∙ remove_put (sight blocks old at) key
+        (record { value = HashOf p.now; deadline = deadline_of (look (sight blocks old at) key) }));
     value = p.value;
     only = only_on mid.bases new.bases (blocks mid.store) (blocks new.store) at.db key p.value p.only within;
     encoded = p.encoded;
   }
 
 -- a key is removed after it was changed
-pub held_gone : {S : Type 0} (blocks : S → Blocks) (step : S → S → Type 0) (db : ℕ) (key : List ℕ) (old mid new : Keyspace S) → Held blocks step (one_key db key) old mid → Held blocks step (no_key db) mid new → Held blocks step (one_key db key) old new
+pub held_gone : {S : Type 0} (blocks : S → Blocks) (step : S → S → Type 0) (db : ℕ) (key : List ℕ) (old mid new : Keyspace S) → Held blocks step (one_key db key) old mid
+    → Held blocks step (no_key db) mid new → Held blocks step (one_key db key) old new
 held_gone blocks step db key old mid new p q =
     held_then blocks step (one_key db key) old mid new p
     (record {

@@ -27,20 +27,23 @@ reads_all text (Some n) number fits none = reads_number_of text (Some n) ((fits,
 
 module _ (old : World) (key field : List ℕ) (by : ℤ) (value : Option (List ℕ)) (v : IsValue old key field value) where
   -- what HINCRBY makes of the number that was found
-  counts : (before : Option Fields) → IsBefore old key before → (n : Option ℤ) → number_in value ≡ n → hash_outcome old (hashes.HIncrBy key field by) ≡ count_on_field old key field (or_no_fields before) by n
+  counts : (before : Option Fields) → IsBefore old key before → (n : Option ℤ) → number_in value ≡ n
+      → hash_outcome old (hashes.HIncrBy key field by) ≡ count_on_field old key field (or_no_fields before) by n
   counts before stands n is =
       on_before old key before (λ b. count_on_field old key field (or_no_fields b) by (number_in (get (or_no_fields b) field))) stands
       ∙ ap (λ o. count_on_field old key field (or_no_fields before) by (number_in o)) (value_is old key field value before v stands)
       ∙ ap (count_on_field old key field (or_no_fields before) by) is
 
   -- a value that is no number
-  pub no_number_told : {X : Type 0} → number_in value ≡ None → (result : Result (List Part) X) → IfOk result (λ reply. reply ≡ Refused NotAnInteger ∷ []) → IfOk result (λ reply. hash_outcome old (hashes.HIncrBy key field by) ≡ leaves reply old)
+  pub no_number_told : {X : Type 0} → number_in value ≡ None → (result : Result (List Part) X) → IfOk result (λ reply. reply ≡ Refused NotAnInteger ∷ [])
+      → IfOk result (λ reply. hash_outcome old (hashes.HIncrBy key field by) ≡ leaves reply old)
   no_number_told none (Err x) told = tt
   no_number_told none (Ok reply) told = counts v.before v.stands None none ∙ ap (λ r. leaves r old) (sym told)
 
   module _ (n : ℤ) (is : number_in value ≡ Some n) where
     -- a number that is too large
-    pub large_told : {X : Type 0} → ¬ (FitsSigned w64 (n +ℤ by)) → (result : Result (List Part) X) → IfOk result (λ reply. reply ≡ Refused Overflow ∷ []) → IfOk result (λ reply. hash_outcome old (hashes.HIncrBy key field by) ≡ leaves reply old)
+    pub large_told : {X : Type 0} → ¬ (FitsSigned w64 (n +ℤ by)) → (result : Result (List Part) X) → IfOk result (λ reply. reply ≡ Refused Overflow ∷ [])
+        → IfOk result (λ reply. hash_outcome old (hashes.HIncrBy key field by) ≡ leaves reply old)
     large_told large (Err x) told = tt
     large_told large (Ok reply) told =
         let map = or_no_fields v.before in
@@ -49,7 +52,8 @@ module _ (old : World) (key field : List ℕ) (by : ℤ) (value : Option (List �
         ∙ ap (λ r. leaves r old) (sym told)
 
     -- a number that is written
-    pub counted_told : {X : Type 0} (new : World) (sum : ℤ) → FitsSigned w64 sum → sum ≡ n +ℤ by → (result : Result (List Part) X) → OnOk result ((fresh : ℕ) × IsSet old key ((field, canonical sum) ∷ []) fresh new) → IfOk result (λ reply. reply ≡ Number sum ∷ [])
+    pub counted_told : {X : Type 0} (new : World) (sum : ℤ) → FitsSigned w64 sum → sum ≡ n +ℤ by → (result : Result (List Part) X)
+        → OnOk result ((fresh : ℕ) × IsSet old key ((field, canonical sum) ∷ []) fresh new) → IfOk result (λ reply. reply ≡ Number sum ∷ [])
         → IfOk result (λ reply. hash_outcome old (hashes.HIncrBy key field by) ≡ leaves reply new)
     counted_told new sum fits sums (Err x) set told = tt
     counted_told new sum fits sums (Ok reply) set told =
@@ -62,7 +66,8 @@ module _ (old : World) (key field : List ℕ) (by : ℤ) (value : Option (List �
         ∙ ap (leaves reply) (sym s.world)
 
     -- its form
-    pub counted_formed : {S A X : Type 0} (blocks : S → Blocks) (from to : Keyspace S) (db : ℕ) (sum : ℤ) → sum ≡ n +ℤ by → (result : Result A X) → OnOk result (Formed blocks (hash_to db old key ((field, canonical sum) ∷ [])) from to)
+    pub counted_formed : {S A X : Type 0} (blocks : S → Blocks) (from to : Keyspace S) (db : ℕ) (sum : ℤ) → sum ≡ n +ℤ by → (result : Result A X)
+        → OnOk result (Formed blocks (hash_to db old key ((field, canonical sum) ∷ [])) from to)
         → IfOk result (λ reply. Formed blocks (counted_to db old key field by (number_in (get (hash_at old key) field))) from to)
     counted_formed blocks from to db sum sums (Err x) formed = tt
     counted_formed blocks from to db sum sums (Ok a) formed =

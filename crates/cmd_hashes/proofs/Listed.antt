@@ -1,5 +1,6 @@
 -- All fields of a hash, each once, and what is told of them.
-use Rattle.std.proofs.Common.{◌≡◌, inl, inr, ℕ, suc, ◌+◌, ◌*◌, ◌<◌, ◌≤◌, Bool, true, false, cond, List, [], ◌∷◌, ◌++◌, length, map, take, get_or, flat_map, is_some, Option, None, Some, Result, Ok, Err, IfOk, refl, sym, ap, ◌∙◌, subst, arith}
+use Rattle.std.proofs.Common.{◌≡◌, inl, inr, ℕ, suc, ◌+◌, ◌*◌, ◌<◌, ◌≤◌, Bool, true, false, cond, List, [], ◌∷◌, ◌++◌, length, map, take, get_or, flat_map, is_some, Option, None, Some}
+use Rattle.std.proofs.Common.{Result, Ok, Err, IfOk, refl, sym, ap, ◌∙◌, subst, arith}
 use Rattle.std.specs.Prelude.{bytes_eq, MatchOption}
 use Rattle.std.specs.List.{Contains, count_by}
 use Rattle.std.specs.declared.cmp.Ordering.{Ordering}
@@ -166,7 +167,8 @@ both fields (p ∷ rest) are =
     ∙ ap (λ o. Bulk p.0 ∷ value_or_null o ∷ flat_map (λ name. Bulk name ∷ value_or_null (get fields name) ∷ []) (names_of rest)) (sym are.0)
 
 -- the head of an array and what is told behind it
-pub telling_is : (told : Told) (fields : Fields) (list : Pairs) → AreValues (λ name. get fields name) list → Array (replies_of told (length list)) ∷ flat_map (told_of told) list ≡ telling told fields (names_of list)
+pub telling_is : (told : Told) (fields : Fields) (list : Pairs) → AreValues (λ name. get fields name) list → Array (replies_of told (length list))
+    ∷ flat_map (told_of told) list ≡ telling told fields (names_of list)
 telling_is OnlyFields fields list are =
     ap (λ l. Array (length list) ∷ l) (only_fields list) ∙ ap (λ n. Array n ∷ map Bulk (names_of list)) (sym (length-map list (λ (p : List ℕ × List ℕ). p.0)))
 telling_is OnlyValues fields list are =
@@ -181,8 +183,10 @@ told_are_replies : (told : Told) (list : Pairs) → AreReplies (replies_of told 
 told_are_replies OnlyFields [] = tt
 told_are_replies OnlyValues [] = tt
 told_are_replies Both [] = tt
-told_are_replies OnlyFields (p ∷ list) = let e : length list + 0 ≡ length list = omega arith in subst (λ n. AreReplies n (flat_map (told_of OnlyFields) list)) (sym e) (told_are_replies OnlyFields list)
-told_are_replies OnlyValues (p ∷ list) = let e : length list + 0 ≡ length list = omega arith in subst (λ n. AreReplies n (flat_map (told_of OnlyValues) list)) (sym e) (told_are_replies OnlyValues list)
+told_are_replies OnlyFields (p ∷ list) = let e : length list + 0 ≡ length list = omega arith in
+    subst (λ n. AreReplies n (flat_map (told_of OnlyFields) list)) (sym e) (told_are_replies OnlyFields list)
+told_are_replies OnlyValues (p ∷ list) = let e : length list + 0 ≡ length list = omega arith in
+    subst (λ n. AreReplies n (flat_map (told_of OnlyValues) list)) (sym e) (told_are_replies OnlyValues list)
 told_are_replies Both (p ∷ list) =
     let n = 2 * length list in
     let parts = flat_map (told_of Both) list in
@@ -206,7 +210,8 @@ match_as None f g h = f h
 match_as (Some x) f g h = g x h
 
 -- one field more
-pub one_more : (told : Told) (list : Pairs) (k : ℕ) (first parts new : List Part) (p : List ℕ × List ℕ) → k < length list → parts ≡ first ++ flat_map (told_of told) (take k list) → p ≡ get_or list k ([], [])
+pub one_more : (told : Told) (list : Pairs) (k : ℕ) (first parts new : List Part) (p : List ℕ × List ℕ) → k < length list → parts ≡ first ++ flat_map (told_of told) (take k list)
+    → p ≡ get_or list k ([], [])
     → new ≡ parts ++ told_of told p → new ≡ first ++ flat_map (told_of told) (take (k + 1) list)
 one_more told list k first parts new p h so_far is pushed =
     let e : take (k + 1) list ≡ take k list ++ p ∷ [] = take_more list k ([], []) h ∙ ap (λ q. take k list ++ q ∷ []) (sym is) in
@@ -217,14 +222,16 @@ pub all_told : (told : Told) (list : Pairs) (k : ℕ) (first parts : List Part) 
 all_told told list k first parts h so_far = so_far ∙ ap (λ l. first ++ flat_map (told_of told) l) (take_all k list h)
 
 -- the head of an array, and what is told behind it
-pub told_parts : (told : Told) (list : Pairs) (len count : ℕ) (first mid new : List Part) → first ≡ [] → len ≡ length list → count ≡ replies_of told len → mid ≡ first ++ Array count ∷ [] → new ≡ mid ++ flat_map (told_of told) list
+pub told_parts : (told : Told) (list : Pairs) (len count : ℕ) (first mid new : List Part) → first ≡ [] → len ≡ length list → count ≡ replies_of told len → mid ≡ first ++ Array count ∷ []
+    → new ≡ mid ++ flat_map (told_of told) list
     → new ≡ Array (replies_of told (length list)) ∷ flat_map (told_of told) list
 told_parts told list len count first mid new e l n f h =
     h ∙ ap (λ ps. ps ++ flat_map (told_of told) list) (f ∙ ap (λ ps. ps ++ Array count ∷ []) e) ∙ ap (λ k. Array k ∷ flat_map (told_of told) list) (n ∙ ap (replies_of told) l)
 
 -- ---- the fields of a hash in its own order
 
-pub tells_fields : (told : Told) (m : Blocks) (hash : object.Fields) → object_of.IsFields m hash → (reply : List Part) → reply ≡ Array (replies_of told (length (object_of.listed m hash))) ∷ flat_map (told_of told) (object_of.listed m hash)
+pub tells_fields : (told : Told) (m : Blocks) (hash : object.Fields) → object_of.IsFields m hash → (reply : List Part) → reply ≡ Array (replies_of told (length (object_of.listed m hash)))
+    ∷ flat_map (told_of told) (object_of.listed m hash)
     → TellsFields (telling told) (Some (object_of.fields m hash)) reply
 tells_fields told m hash sound reply is =
     let a = arranged m hash sound in
@@ -238,7 +245,8 @@ once_len : (list : Pairs) → Once list → len (from_entries {R = slice_cmp nat
 once_len [] once = len-empty (slice_cmp nat_cmp) (List ℕ)
 once_len (p ∷ rest) once =
     let lacks : is_some (get (from_entries {R = slice_cmp nat_cmp} rest) p.0) ≡ false = ap is_some (map_gets rest p.0 ∙ once.0) in
-    let more : len (from_entries {R = slice_cmp nat_cmp} (p ∷ rest)) ≡ len (from_entries {R = slice_cmp nat_cmp} rest) + 1 = len-insert nat_list_cmp_total (from_entries {R = slice_cmp nat_cmp} rest) p.0 p.1 ∙ cond-false _ _ _ lacks in
+    let more : len (from_entries {R = slice_cmp nat_cmp} (p ∷ rest)) ≡ len (from_entries {R = slice_cmp nat_cmp} rest) + 1 =
+    len-insert nat_list_cmp_total (from_entries {R = slice_cmp nat_cmp} rest) p.0 p.1 ∙ cond-false _ _ _ lacks in
     omega (arith, more, once_len rest once.1)
 
 pub count_is : (m : Blocks) (hash : object.Fields) → object_of.IsFields m hash → (count : ℕ) → count ≡ len (object_of.fields m hash) → count ≡ length (object_of.listed m hash)
@@ -247,14 +255,16 @@ count_is m hash sound count is = let a = arranged m hash sound in is ∙ ap len 
 -- ---- what may be told of what stands at a key
 
 -- where nothing stands, an empty hash is told
-pub none_told : {E : Type 0} (told : Told) (old : World) (key : List ℕ) (fields : Fields) (result : Result (List Part) E) → look old key ≡ None → fields ≡ empty → IfOk result (λ reply. TellsFields (telling told) (Some fields) reply)
+pub none_told : {E : Type 0} (told : Told) (old : World) (key : List ℕ) (fields : Fields) (result : Result (List Part) E) → look old key ≡ None → fields ≡ empty
+    → IfOk result (λ reply. TellsFields (telling told) (Some fields) reply)
     → IfOk result (λ reply. may_tell hash_in old (look old key) (TellsFields (telling told)) reply old)
 none_told told old key fields (Ok reply) none is tells =
     let all : TellsFields (telling told) None reply = subst (λ (f : Fields). TellsFields (telling told) (Some f) reply) is tells in
     subst (λ (o : Option Entry). may_tell hash_in old o (TellsFields (telling told)) reply old) (sym none) (all, refl)
 none_told told old key fields (Err x) none is tells = tt
 
-pub hash_told : {E : Type 0} (told : Told) (old : World) (m : Blocks) (key : List ℕ) (hash : object.Fields) (result : Result (List Part) E) → FoundHash old m key hash → IfOk result (λ reply. TellsFields (telling told) (Some (object_of.fields m hash)) reply)
+pub hash_told : {E : Type 0} (told : Told) (old : World) (m : Blocks) (key : List ℕ) (hash : object.Fields) (result : Result (List Part) E) → FoundHash old m key hash
+    → IfOk result (λ reply. TellsFields (telling told) (Some (object_of.fields m hash)) reply)
     → IfOk result (λ reply. may_tell hash_in old (look old key) (TellsFields (telling told)) reply old)
 hash_told told old m key hash (Ok reply) found tells = subst (λ (o : Option Entry). may_tell hash_in old o (TellsFields (telling told)) reply old) (sym found.stands) (tells, refl)
 hash_told told old m key hash (Err x) found tells = tt

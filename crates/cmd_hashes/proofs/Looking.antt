@@ -27,14 +27,16 @@ use Rattle.keyspace.specs.Commands.{seen}
 use Rattle.cmd_hashes.specs.Found.{FoundHash, FoundOther, text_of, values_of}
 
 -- whatever would be made of a hash, a value of another type is refused
-pub refused_other : {E : Type 0} (old : World) (key : List ℕ) (answer : Option Fields → Outcome) (result : Result (List Part) E) → FoundOther old key → IfOk result (λ reply. reply ≡ Refused WrongType ∷ [])
+pub refused_other : {E : Type 0} (old : World) (key : List ℕ) (answer : Option Fields → Outcome) (result : Result (List Part) E) → FoundOther old key
+    → IfOk result (λ reply. reply ≡ Refused WrongType ∷ [])
     → IfOk result (λ reply. on_hash old key answer ≡ leaves reply old)
 refused_other old key answer (Ok reply) found is =
     ap (λ o. on_type hash_in old o answer) found.stands ∙ ap (λ o. of_type old o answer) found.other ∙ ap (λ r. leaves r old) (sym is)
 refused_other old key answer (Err x) found is = tt
 
 -- what is told where nothing stands
-pub told_none : {E : Type 0} (old : World) (key : List ℕ) (told : Fields → List Part) (parts : List Part) (result : Result (List Part) E) → look old key ≡ None → told empty ≡ parts → IfOk result (λ reply. reply ≡ parts)
+pub told_none : {E : Type 0} (old : World) (key : List ℕ) (told : Fields → List Part) (parts : List Part) (result : Result (List Part) E) → look old key ≡ None → told empty ≡ parts
+    → IfOk result (λ reply. reply ≡ parts)
     → IfOk result (λ reply. tell_hash old key told ≡ leaves reply old)
 told_none old key told parts (Ok reply) none same is = ap (λ o. on_type hash_in old o (λ before. tells (told (or_no_fields before)) old)) none ∙ ap (λ r. leaves r old) (same ∙ sym is)
 told_none old key told parts (Err x) none same is = tt
@@ -84,7 +86,8 @@ values_are_one : (fields : Fields) (others : List (List ℕ)) → IsReply (Array
 values_are_one fields others = let e : 0 + length others ≡ length others = omega arith in subst (λ n. AreReplies n (values_of fields others)) (sym e) (values_are_replies fields others)
 
 -- the head of an array and the values behind it
-pub values_parts : (fields : Fields) (others : List (List ℕ)) (first mid new : List Part) → first ≡ [] → mid ≡ first ++ Array (length others) ∷ [] → new ≡ mid ++ values_of fields others → new ≡ Array (length others) ∷ values_of fields others
+pub values_parts : (fields : Fields) (others : List (List ℕ)) (first mid new : List Part) → first ≡ [] → mid ≡ first ++ Array (length others) ∷ [] → new ≡ mid ++ values_of fields others
+    → new ≡ Array (length others) ∷ values_of fields others
 values_parts fields others first mid new e f h = h ∙ ap (λ l. l ++ values_of fields others) (f ∙ ap (λ l. l ++ Array (length others) ∷ []) e)
 
 pub values_reply : (fields : Fields) (others : List (List ℕ)) (first mid new : List Part) → first ≡ [] → mid ≡ first ++ Array (length others) ∷ [] → new ≡ mid ++ values_of fields others → IsReply new

@@ -68,7 +68,8 @@ module _ {E : Type 0} (bases : Bases) (m : Blocks) (at : Ctx) (key : List ℕ) (
   abbrev PageOf : object.Fields → List Part → Type 0
   PageOf own reply = IsPageOf (scan.CanStand own.body) (λ c. (scan.moved own.body c).0) (λ c. (scan.moved own.body c).1) (λ i. field_of (pair_at m own i)) (words m own) cursor options reply
 
-  pub hash_paged : (value : Value) (b : Box object.Fields) (own : object.Fields) → value ≡ kinds.Hash b → own ≡ b.value → Found bases m at.db key at.moment value → Sound bases m → IfOk result (PageOf own) → IfOk result Told
+  pub hash_paged : (value : Value) (b : Box object.Fields) (own : object.Fields) → value ≡ kinds.Hash b → own ≡ b.value → Found bases m at.db key at.moment value → Sound bases m
+      → IfOk result (PageOf own) → IfOk result Told
   hash_paged value b own is same found sound page =
       tells_page hash_in tells true telling bases m at key cursor options (kinds.Hash b) (fields m b.value) refl (here value b is found) sound (words m b.value)
       (listed_both (told_of (fields m b.value)) (λ field. unwrap_or (get (fields m b.value) field) []) (λ i field. PassesIn m (kinds.Hash b) options.pattern i field)

@@ -64,7 +64,8 @@ module _ (m : Blocks) (hash : object.Fields) (sound : object_of.IsFields m hash)
   -- item numbers that were picked are those of fields that were picked
   fields_picked : (n : Option ℤ) (items : List ℕ) → IsPick (λ blocks. object_of.IsFields blocks hash) (λ blocks at. IsSome (pair_at blocks hash at)) n items
       → ArePicked (λ field. is_some (get (object_of.fields m hash) field)) (len (object_of.fields m hash)) n (elements_of (λ at. field_of (pair_at m hash at)) items)
-  fields_picked n items p = are_picked (object_of.fields m hash) (λ at. field_of (pair_at m hash at)) hash_arranged (λ blocks. object_of.IsFields blocks hash) (λ blocks at. IsSome (pair_at blocks hash at)) m sound (λ at h. has_field (pair_at m hash at) h) (λ at h. has_pair (pair_at m hash at) h) n items p
+  fields_picked n items p = are_picked (object_of.fields m hash) (λ at. field_of (pair_at m hash at)) hash_arranged (λ blocks. object_of.IsFields blocks hash)
+      (λ blocks at. IsSome (pair_at blocks hash at)) m sound (λ at h. has_field (pair_at m hash at) h) (λ at h. has_pair (pair_at m hash at) h) n items p
 
   values_are : (items : List ℕ) → ((at : ℕ) → Contains items at → IsSome (pair_at m hash at)) → AreValues (λ name. get (object_of.fields m hash) name) (pairs_of (λ at. pair_at m hash at) items)
   values_are [] real = tt
@@ -91,22 +92,28 @@ with_is true fields names = refl
 
 -- an array of what is told of them is one reply
 pub items_are_reply : (told : Told) (f : ℕ → Option (List ℕ × List ℕ)) (items : List ℕ) → IsReply (Array (replies_of told (length items)) ∷ flat_map (told_of told) (pairs_of f items))
-items_are_reply told f items = subst (λ n. IsReply (Array (replies_of told n) ∷ flat_map (told_of told) (pairs_of f items))) (length-map items (λ at. or_empty (f at))) (told_is_reply told (pairs_of f items))
+items_are_reply told f items = subst (λ n. IsReply (Array (replies_of told n) ∷ flat_map (told_of told) (pairs_of f items))) (length-map items (λ at. or_empty (f at)))
+    (told_is_reply told (pairs_of f items))
 
 -- the head of an array, and what is told behind it
-pub items_parts : (told : Told) (len count : ℕ) (first mid new rest : List Part) → first ≡ [] → count ≡ replies_of told len → mid ≡ first ++ Array count ∷ [] → new ≡ mid ++ rest → new ≡ Array (replies_of told len) ∷ rest
+pub items_parts : (told : Told) (len count : ℕ) (first mid new rest : List Part) → first ≡ [] → count ≡ replies_of told len → mid ≡ first ++ Array count ∷ [] → new ≡ mid ++ rest
+    → new ≡ Array (replies_of told len) ∷ rest
 items_parts told len count first mid new rest none many head behind = behind ∙ ap (λ l. l ++ rest) (head ∙ ap (λ l. l ++ Array count ∷ []) none) ∙ ap (λ n. Array n ∷ rest) many
 
-module _ {E : Type 0} (m : Blocks) (hash : object.Fields) (sound : object_of.IsFields m hash) (n : Option ℤ) (with_values : Bool) (items : List ℕ) (p : IsPick (λ blocks. object_of.IsFields blocks hash) (λ blocks at. IsSome (pair_at blocks hash at)) n items)
+module _ {E : Type 0} (m : Blocks) (hash : object.Fields) (sound : object_of.IsFields m hash) (n : Option ℤ) (with_values : Bool) (items : List ℕ)
+    (p : IsPick (λ blocks. object_of.IsFields blocks hash) (λ blocks at. IsSome (pair_at blocks hash at)) n items)
     (result : Result (List Part) E) where
-  pub one_told : n ≡ None → IfOk result (λ reply. reply ≡ first_told (pairs_of (λ at. pair_at m hash at) items)) → IfOk result (λ reply. PicksFields n with_values (Some (object_of.fields m hash)) reply)
+  pub one_told : n ≡ None → IfOk result (λ reply. reply ≡ first_told (pairs_of (λ at. pair_at m hash at) items))
+      → IfOk result (λ reply. PicksFields n with_values (Some (object_of.fields m hash)) reply)
   one_told none told = by_result result told
     where
-      by_result : (r : Result (List Part) E) → IfOk r (λ reply. reply ≡ first_told (pairs_of (λ at. pair_at m hash at) items)) → IfOk r (λ reply. PicksFields n with_values (Some (object_of.fields m hash)) reply)
+      by_result : (r : Result (List Part) E) → IfOk r (λ reply. reply ≡ first_told (pairs_of (λ at. pair_at m hash at) items))
+          → IfOk r (λ reply. PicksFields n with_values (Some (object_of.fields m hash)) reply)
       by_result (Ok reply) is = (
         elements_of (λ at. field_of (pair_at m hash at)) items,
         fields_picked m hash sound n items p,
-        is ∙ first_is (fields_listed with_values (object_of.fields m hash)) (pairs_of (λ at. pair_at m hash at) items) ∙ ap (picks_told (fields_listed with_values (object_of.fields m hash)) None) (names_are (λ at. pair_at m hash at) items)
+        is ∙ first_is (fields_listed with_values (object_of.fields m hash)) (pairs_of (λ at. pair_at m hash at) items)
+            ∙ ap (picks_told (fields_listed with_values (object_of.fields m hash)) None) (names_are (λ at. pair_at m hash at) items)
             ∙ ap (λ (k : Option ℤ). picks_told (fields_listed with_values (object_of.fields m hash)) k (elements_of (λ at. field_of (pair_at m hash at)) items)) (sym none),
       )
       by_result (Err x) is = tt
@@ -119,16 +126,19 @@ module _ {E : Type 0} (m : Blocks) (hash : object.Fields) (sound : object_of.IsF
       pairs : Pairs
       pairs = pairs_of (λ at. pair_at m hash at) items
 
-      counted : (k : Option ℤ) (names : List (List ℕ)) → is_some k ≡ true → fields_listed with_values (object_of.fields m hash) names ≡ picks_told (fields_listed with_values (object_of.fields m hash)) k names
+      counted : (k : Option ℤ) (names : List (List ℕ)) → is_some k ≡ true
+          → fields_listed with_values (object_of.fields m hash) names ≡ picks_told (fields_listed with_values (object_of.fields m hash)) k names
       counted None names h = absurd cc
       counted (Some k) names h = refl
 
-      by_result : (r : Result (List Part) E) → IfOk r (λ reply. reply ≡ Array (replies_of (told_with with_values) (length items)) ∷ flat_map (told_of (told_with with_values)) (pairs_of (λ at. pair_at m hash at) items))
+      by_result : (r : Result (List Part) E) → IfOk r
+          (λ reply. reply ≡ Array (replies_of (told_with with_values) (length items)) ∷ flat_map (told_of (told_with with_values)) (pairs_of (λ at. pair_at m hash at) items))
           → IfOk r (λ reply. PicksFields n with_values (Some (object_of.fields m hash)) reply)
       by_result (Ok reply) is = (
         elements_of (λ at. field_of (pair_at m hash at)) items,
         fields_picked m hash sound n items p,
-        is ∙ ap (λ (k : ℕ). Array (replies_of (told_with with_values) k) ∷ flat_map (told_of (told_with with_values)) (pairs_of (λ at. pair_at m hash at) items)) (sym (length-map items (λ at. or_empty (pair_at m hash at))))
+        is ∙ ap (λ (k : ℕ). Array (replies_of (told_with with_values) k) ∷ flat_map (told_of (told_with with_values)) (pairs_of (λ at. pair_at m hash at) items))
+            (sym (length-map items (λ at. or_empty (pair_at m hash at))))
             ∙ telling_is (told_with with_values) (object_of.fields m hash) (pairs_of (λ at. pair_at m hash at) items) (values_are m hash sound items real)
             ∙ with_is with_values (object_of.fields m hash) (names_of (pairs_of (λ at. pair_at m hash at) items))
             ∙ ap (fields_listed with_values (object_of.fields m hash)) (names_are (λ at. pair_at m hash at) items)
@@ -145,12 +155,14 @@ none_random seed n with_values old key fields (Ok reply) none is told =
     subst (λ (o : Option Entry). may_tell hash_in old o (PicksFields n with_values) reply old) (sym none) (all, refl)
 none_random seed n with_values old key fields (Err x) none is told = tt
 
-pub hash_random : {E : Type 0} (seed : ℕ) (n : Option ℤ) (with_values : Bool) (old : World) (m : Blocks) (key : List ℕ) (hash : object.Fields) (result : Result (List Part) E) → FoundHash old m key hash
+pub hash_random : {E : Type 0} (seed : ℕ) (n : Option ℤ) (with_values : Bool) (old : World) (m : Blocks) (key : List ℕ) (hash : object.Fields) (result : Result (List Part) E)
+    → FoundHash old m key hash
     → IfOk result (λ reply. PicksFields n with_values (Some (object_of.fields m hash)) reply) → IfOk result (λ reply. may_hashes seed old (hashes.HRandField key n with_values) reply old)
 hash_random seed n with_values old m key hash (Ok reply) found told = subst (λ (o : Option Entry). may_tell hash_in old o (PicksFields n with_values) reply old) (sym found.stands) (told, refl)
 hash_random seed n with_values old m key hash (Err x) found told = tt
 
-pub other_random : {E : Type 0} (seed : ℕ) (n : Option ℤ) (with_values : Bool) (old : World) (key : List ℕ) (result : Result (List Part) E) → FoundOther old key → IfOk result (λ reply. reply ≡ Refused WrongType ∷ [])
+pub other_random : {E : Type 0} (seed : ℕ) (n : Option ℤ) (with_values : Bool) (old : World) (key : List ℕ) (result : Result (List Part) E) → FoundOther old key
+    → IfOk result (λ reply. reply ≡ Refused WrongType ∷ [])
     → IfOk result (λ reply. may_hashes seed old (hashes.HRandField key n with_values) reply old)
 other_random seed n with_values old key (Ok reply) found is =
     subst (λ (o : Option Entry). may_tell hash_in old o (PicksFields n with_values) reply old) (sym found.stands)

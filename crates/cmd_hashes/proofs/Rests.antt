@@ -10,7 +10,8 @@ pub left_sound : (before after : Blocks) (old new : Fields) → IsFields before 
 left_sound before after old new sound same stays = subst (λ h. IsFields after h) (sym same) (subst (λ b. IsFields b old) (sym stays) sound)
 
 pub left_changes : (before after : Blocks) (old new : Fields) → IsFields before old → new ≡ old → after ≡ before → Changes before after (refs old) (refs new)
-left_changes before after old new sound same stays = subst (λ h. Changes before after (refs old) (refs h)) (sym same) (subst (λ b. Changes before b (refs old) (refs old)) (sym stays) (Changes-same _ _ sound.owned))
+left_changes before after old new sound same stays = subst (λ h. Changes before after (refs old) (refs h)) (sym same)
+    (subst (λ b. Changes before b (refs old) (refs old)) (sym stays) (Changes-same _ _ sound.owned))
 
 pub left_settings : (old new : Fields) → new ≡ old → KeepsSettings old new
 left_settings old new same = record { limits = ap (λ (h : Fields). h.limits) same; seed = ap (λ (h : Fields). h.seed) same }

@@ -55,7 +55,8 @@ on_ok (Err e) h = tt
 -- ---- values set in a hash
 
 -- HSET tells how many fields are new
-pub set_told : {X : Type 0} (old new : World) (key : List ℕ) (pairs : List (List ℕ × List ℕ)) (fresh : ℕ) → IsSet old key pairs fresh new → (result : Result (List Part) X) → IfOk result (λ reply. reply ≡ Number (pos fresh) ∷ [])
+pub set_told : {X : Type 0} (old new : World) (key : List ℕ) (pairs : List (List ℕ × List ℕ)) (fresh : ℕ) → IsSet old key pairs fresh new → (result : Result (List Part) X)
+    → IfOk result (λ reply. reply ≡ Number (pos fresh) ∷ [])
     → IfOk result (λ reply. hash_outcome old (hashes.HSet key pairs) ≡ leaves reply new)
 set_told old new key pairs fresh s (Err x) told = tt
 set_told old new key pairs fresh s (Ok reply) told =
@@ -66,7 +67,8 @@ set_told old new key pairs fresh s (Ok reply) told =
     ∙ ap (leaves reply) (sym s.world)
 
 -- HMSET tells none
-pub set_ok : {X : Type 0} (old new : World) (key : List ℕ) (pairs : List (List ℕ × List ℕ)) (fresh : ℕ) (line : List ℕ) → IsSet old key pairs fresh new → line ≡ codes "OK" → (result : Result (List Part) X) → IfOk result (λ reply. reply ≡ Simple line ∷ [])
+pub set_ok : {X : Type 0} (old new : World) (key : List ℕ) (pairs : List (List ℕ × List ℕ)) (fresh : ℕ) (line : List ℕ) → IsSet old key pairs fresh new → line ≡ codes "OK"
+    → (result : Result (List Part) X) → IfOk result (λ reply. reply ≡ Simple line ∷ [])
     → IfOk result (λ reply. hash_outcome old (hashes.HMSet key pairs) ≡ leaves reply new)
 set_ok old new key pairs fresh line s ok (Err x) told = tt
 set_ok old new key pairs fresh line s ok (Ok reply) told =
@@ -84,11 +86,13 @@ same_before world key (Some a) None p q = some_none _ _ p.stands q
 same_before world key (Some a) (Some b) p q = ap Some (ap hash_of (sym p.stands ∙ q.stands))
 
 -- the value that was found of a field stood in the hash that was there
-pub value_is : (world : World) (key field : List ℕ) (value : Option (List ℕ)) (before : Option Fields) → IsValue world key field value → IsBefore world key before → get (or_no_fields before) field ≡ value
+pub value_is : (world : World) (key field : List ℕ) (value : Option (List ℕ)) (before : Option Fields) → IsValue world key field value → IsBefore world key before
+    → get (or_no_fields before) field ≡ value
 value_is world key field value before v stands = ap (λ (b : Option Fields). get (or_no_fields b) field) (same_before world key before v.before stands v.stands) ∙ v.is
 
 -- HSETNX leaves a field that is there
-pub kept_told : {X : Type 0} (old : World) (key field value : List ℕ) (found : Option (List ℕ)) → IsValue old key field found → is_some found ≡ true → (result : Result (List Part) X) → IfOk result (λ reply. reply ≡ Number (pos 0) ∷ [])
+pub kept_told : {X : Type 0} (old : World) (key field value : List ℕ) (found : Option (List ℕ)) → IsValue old key field found → is_some found ≡ true → (result : Result (List Part) X)
+    → IfOk result (λ reply. reply ≡ Number (pos 0) ∷ [])
     → IfOk result (λ reply. hash_outcome old (hashes.HSetNx key field value) ≡ leaves reply old)
 kept_told old key field value found v there (Err x) told = tt
 kept_told old key field value found v there (Ok reply) told =
@@ -98,7 +102,8 @@ kept_told old key field value found v there (Ok reply) told =
     ∙ ap (λ r. leaves r old) (sym told)
 
 -- and sets one that is not
-pub missing_told : {X : Type 0} (old new : World) (key field value : List ℕ) (found : Option (List ℕ)) (fresh : ℕ) → IsSet old key ((field, value) ∷ []) fresh new → IsValue old key field found → is_some found ≡ false → (result : Result (List Part) X)
+pub missing_told : {X : Type 0} (old new : World) (key field value : List ℕ) (found : Option (List ℕ)) (fresh : ℕ) → IsSet old key ((field, value) ∷ []) fresh new
+    → IsValue old key field found → is_some found ≡ false → (result : Result (List Part) X)
     → IfOk result (λ reply. reply ≡ Number (pos 1) ∷ []) → IfOk result (λ reply. hash_outcome old (hashes.HSetNx key field value) ≡ leaves reply new)
 missing_told old new key field value found fresh s v lacks (Err x) told = tt
 missing_told old new key field value found fresh s v lacks (Ok reply) told =
@@ -115,7 +120,8 @@ none_removed old key names none (Err x) told = tt
 none_removed old key names none (Ok reply) told = on_before old key None (unset_fields old key names) none ∙ ap (λ r. leaves r old) (sym told)
 
 -- or tells how many fields were there
-pub removed_told : {X : Type 0} (old new : World) (key : List ℕ) (names : List (List ℕ)) (gone : ℕ) (before : Option Fields) (fields : Fields) (from : Form) (now : Fields) (form : Form) → IsBefore old key before → HasHash old key fields
+pub removed_told : {X : Type 0} (old new : World) (key : List ℕ) (names : List (List ℕ)) (gone : ℕ) (before : Option Fields) (fields : Fields) (from : Form) (now : Fields) (form : Form)
+    → IsBefore old key before → HasHash old key fields
     → Unsets names gone (or_no_fields before) from now form → new ≡ keep_hash old key now → (result : Result (List Part) X) → IfOk result (λ reply. reply ≡ Number (pos gone) ∷ [])
     → IfOk result (λ reply. hash_outcome old (hashes.HDel key names) ≡ leaves reply new)
 removed_told old new key names gone before fields from now form stands has u world (Err x) told = tt
@@ -129,7 +135,8 @@ removed_told old new key names gone before fields from now form stands has u wor
     ∙ ap (λ r. leaves r (keep_hash old key now)) (sym told)
     ∙ ap (leaves reply) (sym world)
 
-module _ {S : Type 0} (own : Made) (blocks : S → Blocks) (step : S → S → Type 0) (old new : Keyspace S) (at : Ctx) (key : List ℕ) (p : HashChanged own keep_hash blocks old new at key) (held : Held blocks step (one_key at.db key) old new) where
+module _ {S : Type 0} (own : Made) (blocks : S → Blocks) (step : S → S → Type 0) (old new : Keyspace S) (at : Ctx) (key : List ℕ) (p : HashChanged own keep_hash blocks old new at key)
+    (held : Held blocks step (one_key at.db key) old new) where
   -- the hash that was written has risen
   pub formed_risen : (pairs : List (List ℕ × List ℕ)) → RisesBy old.bases.limits p.from (or_no_fields p.before) pairs p.form → Formed blocks (hash_to at.db (sight blocks old at) key pairs) old new
   formed_risen pairs risen =

@@ -110,7 +110,9 @@ fn tell_fields<B: BlockStore>(
     told: Told,
 ) -> Result<Reply, Memory>
     requires ready { Ready B.blocks keyspace.now at.now }
-    ensures { IfOk result (λ reply. may_tell hash_in (sight B.blocks keyspace.now at.now) (look (sight B.blocks keyspace.now at.now) key.now) (TellsFields (telling told)) reply (sight B.blocks keyspace.now at.now)) }
+    ensures { IfOk result
+        (λ reply. may_tell hash_in (sight B.blocks keyspace.now at.now) (look (sight B.blocks keyspace.now at.now) key.now) (TellsFields (telling told)) reply
+        (sight B.blocks keyspace.now at.now)) }
 {
     let alloc = keyspace.alloc();
     match hash_at(keyspace, at, key) {

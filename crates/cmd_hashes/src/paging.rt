@@ -23,7 +23,8 @@ pub fn hscan<B: BlockStore>(
 ) -> Result<Reply, Memory>
     requires ready { Ready B.blocks keyspace.now at.now }
     requires count { 0 < options.now.count }
-    ensures gives { IfOk result (λ reply. may_hashes keyspace.now.bases.seed (sight B.blocks keyspace.now at.now) (hashes.HScan key.now cursor options.now) reply (sight B.blocks keyspace.now at.now)) }
+    ensures gives { IfOk result
+        (λ reply. may_hashes keyspace.now.bases.seed (sight B.blocks keyspace.now at.now) (hashes.HScan key.now cursor options.now) reply (sight B.blocks keyspace.now at.now)) }
     ensures shows { IfOk result (λ reply. IsValuePage keyspace.now.bases (B.blocks keyspace.now.store) at.now key.now cursor options.now true reply) }
 {
     let alloc = keyspace.alloc();

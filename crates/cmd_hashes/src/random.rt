@@ -120,7 +120,8 @@ pub fn hrandfield<B: BlockStore>(
     dice: &mut Pcg32,
 ) -> Result<Reply, Memory>
     requires ready { Ready B.blocks keyspace.now at.now }
-    ensures gives { IfOk result (λ reply. may_hashes keyspace.now.bases.seed (sight B.blocks keyspace.now at.now) (hashes.HRandField key.now n with_values) reply (sight B.blocks keyspace.now at.now)) }
+    ensures gives { IfOk result
+        (λ reply. may_hashes keyspace.now.bases.seed (sight B.blocks keyspace.now at.now) (hashes.HRandField key.now n with_values) reply (sight B.blocks keyspace.now at.now)) }
 {
     let alloc = keyspace.alloc();
     match hash_at(keyspace, at, key) {

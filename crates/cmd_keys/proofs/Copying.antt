@@ -39,7 +39,8 @@ use Rattle.cmd_keys.proofs.Moving.{live_put_in}
 put_same : (w : World) (key : List ℕ) (e : Entry) → look w key ≡ Some e → put w key e ≡ w
 put_same w key e is = ap (with_base w) (same_entry (w.bases w.selected) key e is) ∙ same_base w
 
-module _ (old mid : Bases) (m own after : Blocks) (db moment : ℕ) (key : List ℕ) (lifted : Lifted) (extra : List BlockRef) (stays : own ≡ m) (lifts : Lifts old mid m db key moment lifted) (sound : SoundBeside mid m (value_refs m lifted.value ++ [])) (changes : Changes own after [] extra) where
+module _ (old mid : Bases) (m own after : Blocks) (db moment : ℕ) (key : List ℕ) (lifted : Lifted) (extra : List BlockRef) (stays : own ≡ m) (lifts : Lifts old mid m db key moment lifted)
+    (sound : SoundBeside mid m (value_refs m lifted.value ++ [])) (changes : Changes own after [] extra) where
   p : Changes m after [] extra
   p = subst (λ b. Changes b after [] extra) stays changes
 
@@ -84,10 +85,13 @@ module _ (old mid : Bases) (m own after : Blocks) (db moment : ℕ) (key : List 
 
   module _ (new : Bases) (later : Blocks) (same : later ≡ after) where
     pub copy_sound : ((all rest : List BlockRef) → SoundBeside mid after all → AreParts all (value_refs after lifted.value) rest → SoundBeside new after rest) → SoundBeside new later extra
-    copy_sound clause = subst (λ b. SoundBeside new b extra) (sym same) (clause (value_refs m lifted.value ++ extra) extra beside (λ r. omega (arith, times-append r (value_refs m lifted.value) extra, ap (times r) refs_kept)))
+    copy_sound clause = subst (λ b. SoundBeside new b extra) (sym same)
+        (clause (value_refs m lifted.value ++ extra) extra beside (λ r. omega (arith, times-append r (value_refs m lifted.value) extra, ap (times r) refs_kept)))
 
     -- from the clauses `within` of `lift` and `lower`
-    pub copy_within : Within (one_key db key) old mid m m → ((k : List ℕ) (deadline : Option ℕ) → IsPlace mid after lifted.db lifted.item k deadline → Within (one_key lifted.db k) mid new after after) → Within (one_key db key) old new m later
+    pub copy_within : Within (one_key db key) old mid m m →
+        ((k : List ℕ) (deadline : Option ℕ) → IsPlace mid after lifted.db lifted.item k deadline → Within (one_key lifted.db k) mid new after after)
+        → Within (one_key db key) old new m later
     copy_within taken clause =
         subst (Within (one_key db key) old new m) (sym same)
         (further (one_key db key) old mid new m m after taken
@@ -99,35 +103,42 @@ module _ (old mid : Bases) (m own after : Blocks) (db moment : ℕ) (key : List 
     pub copy_has : ((k : List ℕ) (deadline : Option ℕ) → IsPlace mid after lifted.db lifted.item k deadline → HasOnly new after lifted.db k lifted.value) → HasOnly new later db key lifted.value
     copy_has clause = subst (λ b. HasOnly new b db key lifted.value) (sym same) (subst (λ d. HasOnly new after d key lifted.value) lifts.same_db (clause key lifts.deadline place))
 
-    pub copy_means : ((k : List ℕ) (deadline : Option ℕ) → IsPlace mid after lifted.db lifted.item k deadline → means lifted.db new after ≡ put (means lifted.db mid after) k (record { value = value_of after lifted.value; deadline = deadline }))
+    pub copy_means :
+        ((k : List ℕ) (deadline : Option ℕ) → IsPlace mid after lifted.db lifted.item k deadline
+        → means lifted.db new after ≡ put (means lifted.db mid after) k (record { value = value_of after lifted.value; deadline = deadline }))
         → means db new later ≡ means db old m
     copy_means clause =
         let entry : Entry = record { value = value_of after lifted.value; deadline = lifts.deadline } in
         let there = (was_in_time (means db old m) moment key _ lifts.stands).0 ∙ ap (λ v. Some (record { value = v; deadline = lifts.deadline })) (sym value_kept) in
         ap (means db new) same
         ∙ subst (λ d. means d new after ≡ put (means d mid after) key entry) lifts.same_db (clause key lifts.deadline place)
-        ∙ ap (λ w. put w key entry) (means_out value_refs value_of value_own mid m after (value_refs m lifted.value ++ []) [] extra (sound_is_intact mid m (value_refs m lifted.value ++ []) sound) p nothing db)
+        ∙ ap (λ w. put w key entry)
+        (means_out value_refs value_of value_own mid m after (value_refs m lifted.value ++ []) [] extra (sound_is_intact mid m (value_refs m lifted.value ++ []) sound) p nothing db)
         ∙ lifts.back entry ∙ put_same (means db old m) key entry there
 
   -- the copy means what stands at the key
-  pub copy_value : (later : Blocks) → later ≡ after → (copy : Value) → value_of after copy ≡ value_of own lifted.value → (entry : Entry) → look (live (means db old m) moment) key ≡ Some entry → value_of later copy ≡ entry.value
+  pub copy_value : (later : Blocks) → later ≡ after → (copy : Value) → value_of after copy ≡ value_of own lifted.value → (entry : Entry)
+      → look (live (means db old m) moment) key ≡ Some entry → value_of later copy ≡ entry.value
   copy_value later same copy is entry stands =
       let found : Some (record { value = value_of m lifted.value; deadline = lifts.deadline }) ≡ Some entry = sym lifts.stands ∙ stands in
       let one : record { value = value_of m lifted.value; deadline = lifts.deadline } ≡ entry = cc in
       ap (λ b. value_of b copy) same ∙ is ∙ ap (λ b. value_of b lifted.value) stays ∙ ap (λ (e : Entry). e.value) one
 
 -- the copy is put at a key of a database
-pub copied_put : (at : Ctx) (old mid new : Bases) (m own later : Blocks) (number : ℕ) (key : List ℕ) (from : List ℕ) (copy : Value) (deadline : Option ℕ) (entry : Entry) → look (seen at old m) from ≡ Some entry → means at.db mid own ≡ means at.db old m
+pub copied_put : (at : Ctx) (old mid new : Bases) (m own later : Blocks) (number : ℕ) (key : List ℕ) (from : List ℕ) (copy : Value) (deadline : Option ℕ) (entry : Entry)
+    → look (seen at old m) from ≡ Some entry → means at.db mid own ≡ means at.db old m
     → value_of own copy ≡ entry.value → deadline ≡ entry.deadline → means number new later ≡ put (means number mid own) key (record { value = value_of own copy; deadline = deadline })
     → seen at new later ≡ put_in (seen at old m) number key entry
 copied_put at old mid new m own later number key from copy deadline entry stands world value last clause =
     let late = (was_in_time (means at.db old m) at.moment from entry stands).1 in
     let same : record { value = value_of own copy; deadline = deadline } ≡ entry = λ i. record { value = value i; deadline = last i } in
-    ap (λ w. live (selecting w at.db) at.moment) (clause ∙ ap (λ w. put (selecting w number) key (record { value = value_of own copy; deadline = deadline })) world ∙ ap (put (selecting (means at.db old m) number) key) same)
+    ap (λ w. live (selecting w at.db) at.moment)
+    (clause ∙ ap (λ w. put (selecting w number) key (record { value = value_of own copy; deadline = deadline })) world ∙ ap (put (selecting (means at.db old m) number) key) same)
     ∙ live_put_in (means at.db old m) number at.moment key entry late
 
 -- blocks were placed for the copy, or none
-pub copy_changed : {E : Type 0} (own after : Blocks) (result : Result Value E) → IfOk result (λ value. Changes own after [] (value_refs after value)) → OnErr result (after ≡ own) → (extra : List BlockRef) × Changes own after [] extra
+pub copy_changed : {E : Type 0} (own after : Blocks) (result : Result Value E) → IfOk result (λ value. Changes own after [] (value_refs after value)) → OnErr result (after ≡ own)
+    → (extra : List BlockRef) × Changes own after [] extra
 copy_changed own after (Ok value) changes same = (value_refs after value, changes)
 copy_changed own after (Err x) changes same = ([], same_changes own after same)
   where
@@ -150,8 +161,10 @@ module _ (old : World) (from to : List ℕ) (options : CopyOptions) (number : �
   apart : ((number == old.selected) && bytes_eq from to) ≡ false → copy_outcome old from to options ≡ copy old number to options.replace (look old from)
   apart other = ap (λ n. outcome_at n) is ∙ cond-false ((number == old.selected) && bytes_eq from to) (refused SameSourceAndDestination old) (copy old number to options.replace (look old from)) other
 
-  pub copy_done : {E : Type 0} (new : World) (result : Result (List Part) E) → ((number == old.selected) && bytes_eq from to) ≡ false → is_some (look old from) ≡ true → (is_some (look_in old number to) && not options.replace) ≡ false
-      → ((entry : Entry) → look old from ≡ Some entry → new ≡ put_in old number to entry) → IfOk result (λ reply. reply ≡ Number (pos 1) ∷ []) → IfOk result (λ reply. copy_outcome old from to options ≡ leaves reply new)
+  pub copy_done : {E : Type 0} (new : World) (result : Result (List Part) E) → ((number == old.selected) && bytes_eq from to) ≡ false → is_some (look old from) ≡ true
+      → (is_some (look_in old number to) && not options.replace) ≡ false
+      → ((entry : Entry) → look old from ≡ Some entry → new ≡ put_in old number to entry) → IfOk result (λ reply. reply ≡ Number (pos 1) ∷ [])
+      → IfOk result (λ reply. copy_outcome old from to options ≡ leaves reply new)
   copy_done new (Ok reply) other there free world told =
       let e = some_entry (look old from) there in
       apart other ∙ ap (copy old number to options.replace) e.1
@@ -159,7 +172,8 @@ module _ (old : World) (from to : List ℕ) (options : CopyOptions) (number : �
       ∙ ap (λ r. leaves r (put_in old number to e.0)) (sym told) ∙ ap (leaves reply) (sym (world e.0 e.1))
   copy_done new (Err x) other there free world told = tt
 
-  pub copy_stopped : {E : Type 0} (result : Result (List Part) E) → ((number == old.selected) && bytes_eq from to) ≡ false → is_some (look old from) ≡ true → (is_some (look_in old number to) && not options.replace) ≡ true
+  pub copy_stopped : {E : Type 0} (result : Result (List Part) E) → ((number == old.selected) && bytes_eq from to) ≡ false → is_some (look old from) ≡ true
+      → (is_some (look_in old number to) && not options.replace) ≡ true
       → IfOk result (λ reply. reply ≡ Number (pos 0) ∷ []) → IfOk result (λ reply. copy_outcome old from to options ≡ leaves reply old)
   copy_stopped (Ok reply) other there taken told =
       let e = some_entry (look old from) there in
@@ -170,7 +184,8 @@ module _ (old : World) (from to : List ℕ) (options : CopyOptions) (number : �
 
 -- ---- what changes: the place of the key that is copied, and the key that the copy is put at
 
-pub copied_within : (db : ℕ) (from : List ℕ) (number : ℕ) (to : List ℕ) (old mid new : Bases) (m own after : Blocks) → Within (one_key db from) old mid m own → Within (one_key number to) mid new own after → Within (two_keys db from number to) old new m after
+pub copied_within : (db : ℕ) (from : List ℕ) (number : ℕ) (to : List ℕ) (old mid new : Bases) (m own after : Blocks) → Within (one_key db from) old mid m own
+    → Within (one_key number to) mid new own after → Within (two_keys db from number to) old new m after
 copied_within db from number to old mid new m own after p q =
     further (two_keys db from number to) old mid new m own after
     (within_wider value_refs (one_key db from) (two_keys db from number to) (λ n here. inl here) (λ n key named. inl named) (λ n no. no) old mid m own p)

@@ -64,10 +64,12 @@ all_emptied at bases m sixteen last enough below = λ i. record { bases = λ num
     ]
 
 -- the keys that are gone leave the selected database
-pub selected_purged : (at : Ctx) (old new : Bases) (m after : Blocks) → means at.db new after ≡ with_base (means at.db old m) (live_keys ((means at.db old m).bases at.db) at.moment) → seen at new after ≡ seen at old m
+pub selected_purged : (at : Ctx) (old new : Bases) (m after : Blocks) → means at.db new after ≡ with_base (means at.db old m) (live_keys ((means at.db old m).bases at.db) at.moment)
+    → seen at new after ≡ seen at old m
 selected_purged at old new m after is =
     ap (λ w. live w at.moment) is ∙ live_with (means at.db old m) (live_keys ((means at.db old m).bases at.db) at.moment) at.moment
     ∙ ap (with_base (seen at old m)) (live_twice ((means at.db old m).bases at.db) at.moment at.moment (omega arith)) ∙ same_base (seen at old m)
 
-pub purged_count : (at : Ctx) (old new : Bases) (m after : Blocks) → means at.db new after ≡ with_base (means at.db old m) (live_keys ((means at.db old m).bases at.db) at.moment) → len ((means at.db new after).bases at.db) ≡ len ((seen at old m).bases at.db)
+pub purged_count : (at : Ctx) (old new : Bases) (m after : Blocks) → means at.db new after ≡ with_base (means at.db old m) (live_keys ((means at.db old m).bases at.db) at.moment)
+    → len ((means at.db new after).bases at.db) ≡ len ((seen at old m).bases at.db)
 purged_count at old new m after is = ap (λ (w : World). len (w.bases at.db)) is ∙ ap len (cond-true _ _ _ (eq-eqb at.db at.db refl))

@@ -63,8 +63,10 @@ number_calm n (Ok reply) is = λ refused. subst IsRefusal is refused
 number_calm n (Err x) is = tt
 
 -- a key that is there gets a deadline that the options permit
-pub expire_given : {E : Type 0} (old new : World) (moment : ℕ) (key : List ℕ) (time : Time) (options : ExpireOptions) (d : ℤ) (deadline : Option ℕ) (result : Result (List Part) E) → d ≡ due moment time → FitsSigned w64 d → is_some (look old key) ≡ true → deadline ≡ deadline_of (look old key)
-    → permits options deadline d ≡ true → new ≡ expire old moment key d (look old key) → IfOk result (λ reply. reply ≡ Number (pos 1) ∷ []) → IfOk result (λ reply. expire_outcome old moment key time options ≡ leaves reply new)
+pub expire_given : {E : Type 0} (old new : World) (moment : ℕ) (key : List ℕ) (time : Time) (options : ExpireOptions) (d : ℤ) (deadline : Option ℕ) (result : Result (List Part) E)
+    → d ≡ due moment time → FitsSigned w64 d → is_some (look old key) ≡ true → deadline ≡ deadline_of (look old key)
+    → permits options deadline d ≡ true → new ≡ expire old moment key d (look old key) → IfOk result (λ reply. reply ≡ Number (pos 1) ∷ [])
+    → IfOk result (λ reply. expire_outcome old moment key time options ≡ leaves reply new)
 expire_given old new moment key time options d deadline (Ok reply) is fits there last allowed world told =
     ap (λ n. if is_i64 n then expire_where_permitted old moment key options n (look old key) else refused InvalidExpireTime old) (sym is)
     ∙ ap (λ b. if b then expire_where_permitted old moment key options d (look old key) else refused InvalidExpireTime old) (fits_to d fits)
@@ -103,7 +105,8 @@ key_shows P (Ok reply) all = all reply
 key_shows P (Err x) all = tt
 
 -- what a common command may be answered is its outcome
-outcome_connection : (old : World) (moment : ℕ) (command : ConnectionCommand) → IsCommon command → (reply : List Part) (new : World) → IsOutcome (connection_outcome moment old command) reply new → may_connection old moment command reply new
+outcome_connection : (old : World) (moment : ℕ) (command : ConnectionCommand) → IsCommon command → (reply : List Part) (new : World)
+    → IsOutcome (connection_outcome moment old command) reply new → may_connection old moment command reply new
 outcome_connection old moment (connection.Ping text) none reply new o = o
 outcome_connection old moment (connection.Echo text) none reply new o = o
 outcome_connection old moment connection.Quit none reply new o = o
@@ -130,26 +133,33 @@ connection_writes db (connection.DebugDefrag n) number key named = named
 
 -- a command on the connection or the server ran
 pub served_connection : {S E : Type 0} (blocks : S → Blocks) (step : S → S → Type 0) (old new : Keyspace S) (at : Ctx) (command same : ConnectionCommand) (result : Result (List Part) E)
-    → command ≡ same → IsCommon command → Serves blocks old new at same result → Kept blocks step (connection_scope at.db same) old new result → ((reply : List Part) → connection_shown blocks old new at same reply) → Runs blocks step old new at (Connection command) result
+    → command ≡ same → IsCommon command → Serves blocks old new at same result → Kept blocks step (connection_scope at.db same) old new result
+    → ((reply : List Part) → connection_shown blocks old new at same reply) → Runs blocks step old new at (Connection command) result
 served_connection {E = E} blocks step old new at command same (Ok reply) is none given kept shown = record {
-  answers = outcome_connection (sight blocks old at) at.moment command none reply (sight blocks new at) (subst (λ c. IsOutcome (connection_outcome at.moment (sight blocks old at) c) reply (sight blocks new at)) (sym is) (outcome_is (connection_outcome at.moment (sight blocks old at) same) reply (sight blocks new at) given));
+  answers = outcome_connection (sight blocks old at) at.moment command none reply (sight blocks new at)
+      (subst (λ c. IsOutcome (connection_outcome at.moment (sight blocks old at) c) reply (sight blocks new at)) (sym is)
+      (outcome_is (connection_outcome at.moment (sight blocks old at) same) reply (sight blocks new at) given));
   kept = subst (λ c. Kept {E = E} blocks step (connection_scope at.db c) old new (Ok reply)) (sym is) kept;
   shows = subst (λ c. connection_shown blocks old new at c reply) (sym is) (shown reply);
   forms = formed_scope Unwritten (connection_scope at.db same) (connection_writes at.db same) old.bases new.bases (blocks old.store) (blocks new.store) kept.held.within;
 }
-served_connection {E = E} blocks step old new at command same (Err x) is none given kept shown = record { answers = tt; kept = subst (λ c. Kept {E = E} blocks step (connection_scope at.db c) old new (Err x)) (sym is) kept; shows = tt; forms = tt }
+served_connection {E = E} blocks step old new at command same (Err x) is none given kept shown =
+    record { answers = tt; kept = subst (λ c. Kept {E = E} blocks step (connection_scope at.db c) old new (Err x)) (sym is) kept; shows = tt; forms = tt }
 
 -- one that tells the same in every world
 pub told_connection : {S E : Type 0} (blocks : S → Blocks) (step : S → S → Type 0) (keyspace : Keyspace S) (at : Ctx) (command same : ConnectionCommand) (result : Result (List Part) E)
-    → command ≡ same → IsCommon command → Tells same result → Ready blocks keyspace at → ((reply : List Part) → connection_shown blocks keyspace keyspace at same reply) → Runs blocks step keyspace keyspace at (Connection command) result
+    → command ≡ same → IsCommon command → Tells same result → Ready blocks keyspace at → ((reply : List Part) → connection_shown blocks keyspace keyspace at same reply)
+    → Runs blocks step keyspace keyspace at (Connection command) result
 told_connection blocks step keyspace at command same result is none told ready shown =
-    served_connection blocks step keyspace keyspace at command same result is none (told at.moment (sight blocks keyspace at)) (unchanged blocks step (connection_scope at.db same) keyspace result ready.sound) shown
+    served_connection blocks step keyspace keyspace at command same result is none (told at.moment (sight blocks keyspace at))
+    (unchanged blocks step (connection_scope at.db same) keyspace result ready.sound) shown
 
 -- a command on keys ran that shows nothing of the tables
 pub ran_keys : {S E : Type 0} (blocks : S → Blocks) (step : S → S → Type 0) (old new : Keyspace S) (at : Ctx) (command same : KeyCommand) (result : Result (List Part) E)
     → ((reply : List Part) (world : World) → IsOutcome (key_outcome at.moment (sight blocks old at) same) reply world → may_keys old.bases.seed (sight blocks old at) at.moment same reply world)
     → ((reply : List Part) → key_shown old.bases (blocks old.store) at same reply)
-    → command ≡ same → Gives blocks old new at same result → Kept blocks step (key_scope at.db same) old new result → IfOk result (λ reply. Formed blocks (key_form at.db same) old new) → Runs blocks step old new at (Keys command) result
+    → command ≡ same → Gives blocks old new at same result → Kept blocks step (key_scope at.db same) old new result → IfOk result (λ reply. Formed blocks (key_form at.db same) old new)
+    → Runs blocks step old new at (Keys command) result
 ran_keys {E = E} blocks step old new at command same result fixed shows is given kept forms =
     subst (λ c. Runs {E = E} blocks step old new at (Keys c) result) (sym is) (record { answers = answers result given; kept = kept; shows = key_shows _ result shows; forms = forms })
   where
@@ -168,18 +178,24 @@ removed_keys blocks step old new at command same result fixed shows none is give
 
 -- a command on keys only looked
 pub asked_keys : {S E : Type 0} (blocks : S → Blocks) (step : S → S → Type 0) (keyspace : Keyspace S) (at : Ctx) (command same : KeyCommand) (result : Result (List Part) E)
-    → command ≡ same → IfOk result (λ reply. may_keys keyspace.bases.seed (sight blocks keyspace at) at.moment same reply (sight blocks keyspace at)) → IfOk result (λ reply. key_shown keyspace.bases (blocks keyspace.store) at same reply) → Ready blocks keyspace at
+    → command ≡ same → IfOk result (λ reply. may_keys keyspace.bases.seed (sight blocks keyspace at) at.moment same reply (sight blocks keyspace at))
+    → IfOk result (λ reply. key_shown keyspace.bases (blocks keyspace.store) at same reply) → Ready blocks keyspace at
     → Runs blocks step keyspace keyspace at (Keys command) result
 asked_keys {E = E} blocks step keyspace at command same result is given shows ready =
-    subst (λ c. Runs {E = E} blocks step keyspace keyspace at (Keys c) result) (sym is) (record { answers = given; kept = unchanged blocks step (key_scope at.db same) keyspace result ready.sound; shows = shows; forms = unformed blocks (key_form at.db same) keyspace result })
+    subst (λ c. Runs {E = E} blocks step keyspace keyspace at (Keys c) result) (sym is)
+    (record
+    { answers = given; kept = unchanged blocks step (key_scope at.db same) keyspace result ready.sound; shows = shows; forms = unformed blocks (key_form at.db same) keyspace result })
 
 -- and told what the model tells
 pub told_keys : {S E : Type 0} (blocks : S → Blocks) (step : S → S → Type 0) (keyspace : Keyspace S) (at : Ctx) (command same : KeyCommand) (result : Result (List Part) E)
-    → ((reply : List Part) (new : World) → IsOutcome (key_outcome at.moment (sight blocks keyspace at) same) reply new → may_keys keyspace.bases.seed (sight blocks keyspace at) at.moment same reply new)
+    →
+    ((reply : List Part) (new : World) → IsOutcome (key_outcome at.moment (sight blocks keyspace at) same) reply new
+    → may_keys keyspace.bases.seed (sight blocks keyspace at) at.moment same reply new)
     → ((reply : List Part) → key_shown keyspace.bases (blocks keyspace.store) at same reply)
     → command ≡ same → Gives blocks keyspace keyspace at same result → Ready blocks keyspace at → Runs blocks step keyspace keyspace at (Keys command) result
 told_keys blocks step keyspace at command same result fixed shows is given ready =
-    ran_keys blocks step keyspace keyspace at command same result fixed shows is given (unchanged blocks step (key_scope at.db same) keyspace result ready.sound) (unformed blocks (key_form at.db same) keyspace result)
+    ran_keys blocks step keyspace keyspace at command same result fixed shows is given (unchanged blocks step (key_scope at.db same) keyspace result ready.sound)
+    (unformed blocks (key_form at.db same) keyspace result)
 
 -- what is asked of a key alone leaves the world
 pub and_stays : {E : Type 0} (P : List Part → Type 0) (world : World) (result : Result (List Part) E) → IfOk result P → IfOk result (λ reply. P reply × (world ≡ world))
@@ -187,7 +203,8 @@ and_stays P world (Ok reply) p = (p, refl)
 and_stays P world (Err x) p = tt
 
 -- the name of an encoding that is told is the actual one
-pub actual_told : {E : Type 0} (bases : Bases) (m : Blocks) (at : Ctx) (key : List ℕ) (value : Value) (name told : List ℕ) (result : Result (List Part) E) → held.Found value_refs value_of bases m at.db key at.moment value → IsEncodedAs m value name → told ≡ name
+pub actual_told : {E : Type 0} (bases : Bases) (m : Blocks) (at : Ctx) (key : List ℕ) (value : Value) (name told : List ℕ) (result : Result (List Part) E)
+    → held.Found value_refs value_of bases m at.db key at.moment value → IsEncodedAs m value name → told ≡ name
     → IfOk result (λ reply. reply ≡ Bulk told ∷ []) → IfOk result (λ reply. IsActual bases m at key reply)
 actual_told bases m at key value name told (Ok reply) found is same replied = encoded value name found is (replied ∙ ap (λ n. Bulk n ∷ []) same)
 actual_told bases m at key value name told (Err x) found is same replied = tt

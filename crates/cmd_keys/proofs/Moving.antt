@@ -12,7 +12,8 @@ use Rattle.plain_world.proofs.Lives.{live_put_in_time, live_remove, was_in_time}
 use Rattle.cmd_keys.proofs.KeyLemmas.{some_entry}
 
 -- what is put in a database of the live world
-pub live_put_in : (w : World) (number moment : ℕ) (key : List ℕ) (entry : Entry) → in_time moment entry.deadline ≡ true → live (put_in w number key entry) moment ≡ put_in (live w moment) number key entry
+pub live_put_in : (w : World) (number moment : ℕ) (key : List ℕ) (entry : Entry) → in_time moment entry.deadline ≡ true
+    → live (put_in w number key entry) moment ≡ put_in (live w moment) number key entry
 live_put_in w number moment key entry late = ap (λ u. selecting u w.selected) (live_put_in_time (selecting w number) moment key entry late)
 
 -- what stands at a key of the live world moves
@@ -23,8 +24,10 @@ seen_moved old new moment from to number entry seen clause =
     ap (λ w. live w moment) (clause entry was.0) ∙ live_put_in (remove old from) number moment to entry was.1 ∙ ap (λ w. put_in w number to entry) (live_remove old moment from)
 
 -- nothing stands at the key in the other database, and what stands at it moves there
-pub move_done : {E : Type 0} (old new : World) (key : List ℕ) (number : ℕ) (result : Result (List Part) E) → (number == old.selected) ≡ false → is_some (look old key) ≡ true → is_some (look_in old number key) ≡ false
-    → ((entry : Entry) → look old key ≡ Some entry → new ≡ put_in (remove old key) number key entry) → IfOk result (λ reply. reply ≡ Number (pos 1) ∷ []) → IfOk result (λ reply. move_outcome old key number ≡ leaves reply new)
+pub move_done : {E : Type 0} (old new : World) (key : List ℕ) (number : ℕ) (result : Result (List Part) E) → (number == old.selected) ≡ false → is_some (look old key) ≡ true
+    → is_some (look_in old number key) ≡ false
+    → ((entry : Entry) → look old key ≡ Some entry → new ≡ put_in (remove old key) number key entry) → IfOk result (λ reply. reply ≡ Number (pos 1) ∷ [])
+    → IfOk result (λ reply. move_outcome old key number ≡ leaves reply new)
 move_done old new key number (Ok reply) other there free world told =
     let e = some_entry (look old key) there in
     cond-false (number == old.selected) (refused SameSourceAndDestination old) (move old key number (look old key)) other

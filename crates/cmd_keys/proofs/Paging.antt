@@ -65,12 +65,14 @@ module _ (bases : Bases) (m : Blocks) (at : Ctx) (below : at.db < 16) (sound : S
   apart i j k p q = (a.keyed at.db).apart i j p.stands.stands.element q.stands.stands.element p.stands.stands.found q.stands.stands.found (p.stands.stands.bytes ∙ sym q.stands.stands.bytes)
 
   -- TYPE looks at the value of the item number
-  typed : (i : ℕ) (key : List ℕ) (value : Value) → StandsAt bases m at.db key at.moment i → value_at (item table i) ≡ Some value → is_named options.type_name (look_in seen at.db key) ≡ is_type options.type_name (value_of m value)
+  typed : (i : ℕ) (key : List ℕ) (value : Value) → StandsAt bases m at.db key at.moment i → value_at (item table i) ≡ Some value
+      → is_named options.type_name (look_in seen at.db key) ≡ is_type options.type_name (value_of m value)
   typed i key value stands held =
       let found = found_held value_refs value_of value_own bases at.db at.moment m key i value intact stands held in
       ap (is_named options.type_name) found.stands ∙ named_type options.type_name _
 
-  pub passes_at : (i : ℕ) (key : List ℕ) (value : Value) → StandsAt bases m at.db key at.moment i → IsLike options.pattern key → value_at (item table i) ≡ Some value → is_type options.type_name (value_of m value) ≡ true → P i key
+  pub passes_at : (i : ℕ) (key : List ℕ) (value : Value) → StandsAt bases m at.db key at.moment i → IsLike options.pattern key → value_at (item table i) ≡ Some value
+      → is_type options.type_name (value_of m value) ≡ true → P i key
   passes_at i key value stands like held is = record {
     stands = stands;
     passes = record { there = there_seen value_refs value_of value_own bases at.db at.moment m a i key stands; like = like; typed = typed i key value stands held ∙ is };
@@ -97,7 +99,8 @@ module _ (bases : Bases) (m : Blocks) (at : Ctx) (below : at.db < 16) (sound : S
       (λ key passes. (let w = stands_somewhere key passes in (w.0, w.1, numbers_met top 0 w.0 (omega arith) (omega (arith, above w.0 (ap is_some w.1.stands.stands.found))))))
 
   -- those of a page
-  pub paged_listed : (cursor next : ℕ) (items : List ℕ) (names : List (List ℕ)) → next < 2 ^ 64 → Span (λ i. place_in (item table i)) cursor next items → Sifted P items names → Page bases.seed seen sought cursor next names
+  pub paged_listed : (cursor next : ℕ) (items : List ℕ) (names : List (List ℕ)) → next < 2 ^ 64 → Span (λ i. place_in (item table i)) cursor next items → Sifted P items names
+      → Page bases.seed seen sought cursor next names
   paged_listed cursor next items names fits span s = record {
     on = span.on;
     fits = fits;
@@ -107,8 +110,11 @@ module _ (bases : Bases) (m : Blocks) (at : Ctx) (below : at.db < 16) (sound : S
 
 -- ---- KEYS
 
-pub keys_told : (bases : Bases) (m : Blocks) (at : Ctx) (below : at.db < 16) (sound : Sound bases m) (pattern bytes : List ℕ) → bytes ≡ pattern → (top : ℕ) → ((i : ℕ) → IsSome (item (table_at bases at.db) i) → i < top) → (names : List (List ℕ))
-    → Sifted (PassesAt bases m at (keys_sought at.db (record { pattern = Some bytes; count = 1; type_name = None }))) (numbers top 0) names → (reply : List Part) → reply ≡ listed names → AreKeysLike (live (means at.db bases m) at.moment) pattern reply
+pub keys_told : (bases : Bases) (m : Blocks) (at : Ctx) (below : at.db < 16) (sound : Sound bases m) (pattern bytes : List ℕ) → bytes ≡ pattern → (top : ℕ)
+    → ((i : ℕ) → IsSome (item (table_at bases at.db) i) → i < top) → (names : List (List ℕ))
+    → Sifted (PassesAt bases m at (keys_sought at.db (record { pattern = Some bytes; count = 1; type_name = None }))) (numbers top 0) names → (reply : List Part) → reply ≡ listed names
+    → AreKeysLike (live (means at.db bases m) at.moment) pattern reply
 keys_told bases m at below sound pattern bytes same top above names s reply is =
-    let L : List ℕ → Type 0 = λ b. Lists (Passes (live (means at.db bases m) at.moment) (keys_sought at.db (record { pattern = Some b; count = 1; type_name = None }))) (Passes (live (means at.db bases m) at.moment) (keys_sought at.db (record { pattern = Some b; count = 1; type_name = None }))) names in
+    let L : List ℕ → Type 0 = λ b. Lists (Passes (live (means at.db bases m) at.moment) (keys_sought at.db (record { pattern = Some b; count = 1; type_name = None })))
+    (Passes (live (means at.db bases m) at.moment) (keys_sought at.db (record { pattern = Some b; count = 1; type_name = None }))) names in
     (names, subst L same (all_listed bases m at below sound (record { pattern = Some bytes; count = 1; type_name = None }) top above names s), is)

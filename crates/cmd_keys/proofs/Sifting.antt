@@ -25,13 +25,16 @@ numbers_none top item over = (let count : top - item ≡ 0 = omega (arith, over)
 numbers_before : (count from i : ℕ) → i < from → times i (numbers count from) ≡ 0
 unfolding numbers
 numbers_before zero from i below = refl
-numbers_before (suc count) from i below = (let apart : from ≢ i = λ e. omega (arith, below, e) in omega (arith, times-past i from (numbers count (suc from)) apart, numbers_before count (suc from) i (omega (arith, below))))
+numbers_before (suc count) from i below =
+    (let apart : from ≢ i = λ e. omega (arith, below, e) in omega (arith, times-past i from (numbers count (suc from)) apart, numbers_before count (suc from) i (omega (arith, below))))
 
 pub numbers_few : (count from i : ℕ) → times i (numbers count from) ≤ 1
 unfolding numbers
 numbers_few zero from i = omega arith
 numbers_few (suc count) from i = elim (cases_eq from i) [
-  | inl same ↦ (let here : times i (from ∷ numbers count (suc from)) ≡ suc (times i (numbers count (suc from))) = ap (λ (o : ℕ). times i (o ∷ numbers count (suc from))) same ∙ times-here i (numbers count (suc from)) in
+  | inl same ↦
+      (let here : times i (from ∷ numbers count (suc from)) ≡ suc (times i (numbers count (suc from))) = ap (λ (o : ℕ). times i (o ∷ numbers count (suc from))) same
+      ∙ times-here i (numbers count (suc from)) in
       omega (arith, here, numbers_before count (suc from) i (omega (arith, same))))
   | inr apart ↦ omega (arith, times-past i from (numbers count (suc from)) apart, numbers_few count (suc from) i)
 ]
@@ -40,6 +43,8 @@ pub numbers_met : (count from i : ℕ) → from ≤ i → i < from + count → 0
 unfolding numbers
 numbers_met zero from i least below = absurd (omega (arith, least, below))
 numbers_met (suc count) from i least below = elim (cases_eq from i) [
-  | inl same ↦ (let here : times i (from ∷ numbers count (suc from)) ≡ suc (times i (numbers count (suc from))) = ap (λ (o : ℕ). times i (o ∷ numbers count (suc from))) same ∙ times-here i (numbers count (suc from)) in omega (arith, here))
+  | inl same ↦
+      (let here : times i (from ∷ numbers count (suc from)) ≡ suc (times i (numbers count (suc from))) = ap (λ (o : ℕ). times i (o ∷ numbers count (suc from))) same
+      ∙ times-here i (numbers count (suc from)) in omega (arith, here))
   | inr apart ↦ omega (arith, times-past i from (numbers count (suc from)) apart, numbers_met count (suc from) i (omega (arith, least, apart)) (omega (arith, below)))
 ]

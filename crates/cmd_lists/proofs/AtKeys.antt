@@ -48,7 +48,8 @@ not_list (kinds.Zset box) other = refl
 not_list (kinds.Stream box) other = refl
 
 -- the list that was found at a key
-pub list_item : (bases : Bases) (m : Blocks) (at : Ctx) (key : List ℕ) (number : ℕ) (value : Value) (box : Box Chain) → value ≡ kinds.List box → StandsAt bases m at.db key at.moment number → Found bases m at.db key at.moment value → ListItem (seen at bases m) bases m at.db key at.moment number
+pub list_item : (bases : Bases) (m : Blocks) (at : Ctx) (key : List ℕ) (number : ℕ) (value : Value) (box : Box Chain) → value ≡ kinds.List box → StandsAt bases m at.db key at.moment number
+    → Found bases m at.db key at.moment value → ListItem (seen at bases m) bases m at.db key at.moment number
 list_item bases m at key number value box is there found = record {
   there = there;
   list = elements m box.value;
@@ -60,10 +61,12 @@ abbrev HoldsThere : (Elements → Type 0) → Option Entry → Type 0
 HoldsThere Is None = Unit {0}
 HoldsThere Is (Some entry) = IsListThat Is entry.value
 
-pub takes_there : (Is : Elements → Type 0) (world : World) (key : List ℕ) (list : Elements) → HasList world key list → Is list → (entry : Entry) → look world key ≡ Some entry → IsListThat Is entry.value
+pub takes_there : (Is : Elements → Type 0) (world : World) (key : List ℕ) (list : Elements) → HasList world key list → Is list → (entry : Entry) → look world key ≡ Some entry
+    → IsListThat Is entry.value
 takes_there Is world key list has holds entry is = subst (HoldsThere Is) (sym has.stands ∙ is) holds
 
-module _ {S T X : Type 0} (makes : T → T → Shape → Shape → Type 0) (own : Elements → Form → Elements → Form → Type 0) (left : ℕ) (first last : T) (blocks : S → Blocks) (old new : Keyspace S) (at : Ctx) (key : List ℕ)
+module _ {S T X : Type 0} (makes : T → T → Shape → Shape → Type 0) (own : Elements → Form → Elements → Form → Type 0) (left : ℕ) (first last : T) (blocks : S → Blocks)
+    (old new : Keyspace S) (at : Ctx) (key : List ℕ)
     (same : (o n : Shape) → makes first last o n → MakesList own left o n) where
   pub list_new : (fresh : Value) → value_of (blocks old.store) fresh ≡ ListOf [] → ((f : Form) → encoding_of fresh ≡ OfForm f → IsLeast (FitsList 7) f) → look (sight blocks old at) key ≡ None
       → (result : Result (Unit {0}) X) → OnOk result (MakesNew makes first last blocks old new at key fresh) → OnOk result (ListChanged (Counting own left) keep_any blocks old new at key)
@@ -79,7 +82,8 @@ module _ {S T X : Type 0} (makes : T → T → Shape → Shape → Type 0) (own 
         form = q.form;
         made = (subst (λ (l : Elements). own l q.from q.now q.form) nothing q.made, q.counted);
         was_form = least q.from q.was_form;
-        world = p.world ∙ ap (λ (v : model.Value). put (sight blocks old at) key (record { value = v; deadline = None })) q.is ∙ ap (λ (d : Option ℕ). put (sight blocks old at) key (record { value = ListOf q.now; deadline = d })) (sym (ap deadline_of none));
+        world = p.world ∙ ap (λ (v : model.Value). put (sight blocks old at) key (record { value = v; deadline = None })) q.is
+            ∙ ap (λ (d : Option ℕ). put (sight blocks old at) key (record { value = ListOf q.now; deadline = d })) (sym (ap deadline_of none));
         value = p.now;
         only = p.only;
         encoded = p.encoded ∙ q.is_form;
@@ -97,7 +101,8 @@ module _ {S T X : Type 0} (makes : T → T → Shape → Shape → Type 0) (own 
         form = q.form;
         made = (q.made, q.counted);
         was_form = (p.was, p.had, q.was_form);
-        world = p.world ∙ ap (λ (v : model.Value). put (sight blocks old at) key (record { value = v; deadline = p.deadline })) q.is ∙ ap (λ (d : Option ℕ). put (sight blocks old at) key (record { value = ListOf q.now; deadline = d })) (sym (ap deadline_of p.stands));
+        world = p.world ∙ ap (λ (v : model.Value). put (sight blocks old at) key (record { value = v; deadline = p.deadline })) q.is
+            ∙ ap (λ (d : Option ℕ). put (sight blocks old at) key (record { value = ListOf q.now; deadline = d })) (sym (ap deadline_of p.stands));
         value = p.now;
         only = p.only;
         encoded = q.is_form;
@@ -120,7 +125,8 @@ only_on mid new m after db key value only within at e found bytes =
     let itself : one_if (ref_eq e.key e.key) ≡ 1 = cond-true _ _ _ (ref_eq-refl e.key) in
     only at e stayed.stood (sym (stayed.bytes e.key (omega (arith, itself))) ∙ bytes)
 
-module _ {S : Type 0} (own : Elements → Form → Elements → Form → Type 0) (left : ℕ) (blocks : S → Blocks) (old mid : Keyspace S) (at : Ctx) (key : List ℕ) (p : ListChanged (Counting own left) keep_any blocks old mid at key) where
+module _ {S : Type 0} (own : Elements → Form → Elements → Form → Type 0) (left : ℕ) (blocks : S → Blocks) (old mid : Keyspace S) (at : Ctx) (key : List ℕ)
+    (p : ListChanged (Counting own left) keep_any blocks old mid at key) where
   pub list_kept : 0 < left → ListChanged own keep_list blocks old mid at key
   list_kept some = record {
     before = p.before;
@@ -136,7 +142,8 @@ module _ {S : Type 0} (own : Elements → Form → Elements → Form → Type 0)
     encoded = p.encoded;
   }
 
-  pub list_gone : left ≡ 0 → (new : Keyspace S) → sight blocks new at ≡ remove (sight blocks mid at) key → Within (no_key at.db) mid.bases new.bases (blocks mid.store) (blocks new.store) → ListChanged own keep_list blocks old new at key
+  pub list_gone : left ≡ 0 → (new : Keyspace S) → sight blocks new at ≡ remove (sight blocks mid at) key → Within (no_key at.db) mid.bases new.bases (blocks mid.store) (blocks new.store)
+      → ListChanged own keep_list blocks old new at key
   list_gone none new world within = record {
     before = p.before;
     stands = p.stands;
@@ -145,14 +152,17 @@ module _ {S : Type 0} (own : Elements → Form → Elements → Form → Type 0)
     form = p.form;
     made = p.made.0;
     was_form = p.was_form;
-    world = gone_is (sight blocks old at) (sight blocks new at) key p.now (omega (arith, none, p.made.1)) (world ∙ ap (λ (w : World). remove w key) p.world ∙ remove_put (sight blocks old at) key (record { value = ListOf p.now; deadline = deadline_of (look (sight blocks old at) key) }));
+    world = gone_is (sight blocks old at) (sight blocks new at) key p.now (omega (arith, none, p.made.1))
+        (world ∙ ap (λ (w : World). remove w key) p.world ∙ remove_put (sight blocks old at) key
+        (record { value = ListOf p.now; deadline = deadline_of (look (sight blocks old at) key) }));
     value = p.value;
     only = only_on mid.bases new.bases (blocks mid.store) (blocks new.store) at.db key p.value p.only within;
     encoded = p.encoded;
   }
 
 -- a key is removed after it was changed
-pub held_gone : {S : Type 0} (blocks : S → Blocks) (step : S → S → Type 0) (db : ℕ) (key : List ℕ) (old mid new : Keyspace S) → Held blocks step (one_key db key) old mid → Held blocks step (no_key db) mid new → Held blocks step (one_key db key) old new
+pub held_gone : {S : Type 0} (blocks : S → Blocks) (step : S → S → Type 0) (db : ℕ) (key : List ℕ) (old mid new : Keyspace S) → Held blocks step (one_key db key) old mid
+    → Held blocks step (no_key db) mid new → Held blocks step (one_key db key) old new
 held_gone blocks step db key old mid new p q =
     held_then blocks step (one_key db key) old mid new p
     (record {

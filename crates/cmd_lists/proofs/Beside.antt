@@ -35,7 +35,8 @@ behind_beside : (side : Side) (x element : List ℕ) (list : Elements) (i : ℕ)
 behind_beside Before x element list i = refl
 behind_beside After x element list i = refl
 
-pub first_beside : (side : Side) (text element : List ℕ) (list : Elements) (n i : ℕ) → i < length list → places n text (take i list) ≡ [] → bytes_eq (get_or list i []) text ≡ true → inserted_beside side text element list ≡ Some (insert list (index_on side i) element)
+pub first_beside : (side : Side) (text element : List ℕ) (list : Elements) (n i : ℕ) → i < length list → places n text (take i list) ≡ [] → bytes_eq (get_or list i []) text ≡ true
+    → inserted_beside side text element list ≡ Some (insert list (index_on side i) element)
 first_beside side text element [] n i inside first equal = absurd (omega (arith, inside))
 first_beside side text element (x ∷ list) n zero inside first equal =
     ap (λ b. if b then Some (beside side x element list) else behind_first x (inserted_beside side text element list)) equal ∙ ap Some (here_beside side x element list)

@@ -61,7 +61,8 @@ some_met : (ys : Elements) (element : List ℕ) → first_or_null ys ≡ Bulk el
 some_met [] element is = cc
 some_met (y ∷ ys) element is = (ys, (let same : y ≡ element = cc in ap (λ (x : List ℕ). x ∷ ys) same))
 
-pub first_met_is : (world : World) (key : List ℕ) (end : ListEnd) (list : Elements) (element : List ℕ) → HasList world key list → first_or_null (from_end end list) ≡ Bulk element → IsFirst world key end element
+pub first_met_is : (world : World) (key : List ℕ) (end : ListEnd) (list : Elements) (element : List ℕ) → HasList world key list → first_or_null (from_end end list) ≡ Bulk element
+    → IsFirst world key end element
 first_met_is world key end list element has is = (let met = some_met (from_end end list) element is in record { list = list; met = met.0; has = has; first = met.1 })
 
 -- ---- no value of another type
@@ -120,23 +121,28 @@ eq_apart a b apart = elim (cases_Bool (bytes_eq a b)) [
   | inr other ↦ other
 ]
 
-pub held_from : {S : Type 0} (blocks : S → Blocks) (step : S → S → Type 0) (db : ℕ) (from to : List ℕ) (old new : Keyspace S) → Held blocks step (one_key db from) old new → Held blocks step (two_keys db from db to) old new
+pub held_from : {S : Type 0} (blocks : S → Blocks) (step : S → S → Type 0) (db : ℕ) (from to : List ℕ) (old new : Keyspace S) → Held blocks step (one_key db from) old new
+    → Held blocks step (two_keys db from db to) old new
 held_from blocks step db from to old new p = record {
   sound = p.sound;
   served = p.served;
   settings = p.settings;
-  within = within_wider value_refs (one_key db from) (two_keys db from db to) (λ number here. inl here) (λ number key named. inl named) (λ number no. absurd no) old.bases new.bases (blocks old.store) (blocks new.store) p.within;
+  within = within_wider value_refs (one_key db from) (two_keys db from db to) (λ number here. inl here) (λ number key named. inl named) (λ number no. absurd no) old.bases new.bases
+      (blocks old.store) (blocks new.store) p.within;
 }
 
-pub held_to : {S : Type 0} (blocks : S → Blocks) (step : S → S → Type 0) (db : ℕ) (from to : List ℕ) (old new : Keyspace S) → Held blocks step (one_key db to) old new → Held blocks step (two_keys db from db to) old new
+pub held_to : {S : Type 0} (blocks : S → Blocks) (step : S → S → Type 0) (db : ℕ) (from to : List ℕ) (old new : Keyspace S) → Held blocks step (one_key db to) old new
+    → Held blocks step (two_keys db from db to) old new
 held_to blocks step db from to old new p = record {
   sound = p.sound;
   served = p.served;
   settings = p.settings;
-  within = within_wider value_refs (one_key db to) (two_keys db from db to) (λ number here. inr here) (λ number key named. inr named) (λ number no. absurd no) old.bases new.bases (blocks old.store) (blocks new.store) p.within;
+  within = within_wider value_refs (one_key db to) (two_keys db from db to) (λ number here. inr here) (λ number key named. inr named) (λ number no. absurd no) old.bases new.bases
+      (blocks old.store) (blocks new.store) p.within;
 }
 
-pub world_both : {X : Type 0} (old mid new : World) (from to : List ℕ) (other : ListEnd) (rest : Elements) (element : List ℕ) (result : Result (Unit {0}) X) → mid ≡ keep_list old from rest → look mid to ≡ look old to
+pub world_both : {X : Type 0} (old mid new : World) (from to : List ℕ) (other : ListEnd) (rest : Elements) (element : List ℕ) (result : Result (Unit {0}) X) → mid ≡ keep_list old from rest
+    → look mid to ≡ look old to
     → OnOk result (new ≡ keep_list mid to (added other (list_at mid to) (element ∷ []))) → OnOk result (new ≡ keep_list (keep_list old from rest) to (added other (list_at old to) (element ∷ [])))
 world_both old mid new from to other rest element (Err x) world same is = tt
 world_both old mid new from to other rest element (Ok u) world same is =
@@ -144,18 +150,21 @@ world_both old mid new from to other rest element (Ok u) world same is =
     ∙ ap (λ (o : Option Entry). keep_list (keep_list old from rest) to (added other (list_of o) (element ∷ []))) same
 
 -- what stands at a key that wasn't written stood there before
-has_before : (scope : Scope) (db : ℕ) (key : List ℕ) (value : Value) (old mid : Bases) (m own : Blocks) → (scope.writes db key → ⊥) → Within scope old mid m own → HasValue mid own db key value → HasValue old m db key value
+has_before : (scope : Scope) (db : ℕ) (key : List ℕ) (value : Value) (old mid : Bases) (m own : Blocks) → (scope.writes db key → ⊥) → Within scope old mid m own
+    → HasValue mid own db key value → HasValue old m db key value
 has_before scope db key value old mid m own apart within has =
     let bytes : bytes_at own has.element.key ≡ key = ap (λ (o : Option (List ℕ)). unwrap_or o []) has.bytes in
     let stayed = within.stayed db has.at has.element has.found (λ named. apart (subst (scope.writes db) bytes named)) in
     let itself : one_if (ref_eq has.element.key has.element.key) ≡ 1 = cond-true _ _ _ (ref_eq-refl has.element.key) in
     record { at = has.at; element = has.element; found = stayed.stood; bytes = sym (stayed.bytes has.element.key (omega (arith, itself))) ∙ has.bytes; is = has.is }
 
-form_before : (there : Bool) (scope : Scope) (db : ℕ) (key : List ℕ) (form : codec.Form) (old mid : Bases) (m own : Blocks) → (scope.writes db key → ⊥) → Within scope old mid m own → IsFormAt there mid own db key form → IsFormAt there old m db key form
+form_before : (there : Bool) (scope : Scope) (db : ℕ) (key : List ℕ) (form : codec.Form) (old mid : Bases) (m own : Blocks) → (scope.writes db key → ⊥) → Within scope old mid m own
+    → IsFormAt there mid own db key form → IsFormAt there old m db key form
 form_before true scope db key form old mid m own apart within at = (at.0, has_before scope db key at.0 old mid m own apart within at.1, at.2)
 form_before false scope db key form old mid m own apart within at = at
 
-risen_before : (there : Bool) (long : ℕ) (scope : Scope) (db : ℕ) (key : List ℕ) (value : Value) (old mid : Bases) (m own : Blocks) → (scope.writes db key → ⊥) → Within scope old mid m own → IsRisenAt there long db key mid own value → IsRisenAt there long db key old m value
+risen_before : (there : Bool) (long : ℕ) (scope : Scope) (db : ℕ) (key : List ℕ) (value : Value) (old mid : Bases) (m own : Blocks) → (scope.writes db key → ⊥) → Within scope old mid m own
+    → IsRisenAt there long db key mid own value → IsRisenAt there long db key old m value
 risen_before there long scope db key value old mid m own apart within p = record {
   from = p.from;
   form = p.form;
@@ -164,14 +173,16 @@ risen_before there long scope db key value old mid m own apart within p = record
   risen = p.risen;
 }
 
-written_as : (Is Also : Value → Type 0) → ((value : Value) → Is value → Also value) → (old new : Bases) (m after : Blocks) → held.Written value_refs Is old new m after → held.Written value_refs Also old new m after
+written_as : (Is Also : Value → Type 0) → ((value : Value) → Is value → Also value) → (old new : Bases) (m after : Blocks) → held.Written value_refs Is old new m after
+    → held.Written value_refs Also old new m after
 written_as Is Also on old new m after p db at e found = elim (p db at e found) [
   | inl stayed ↦ inl stayed
   | inr is ↦ inr (on e.value is)
 ]
 
 module _ {S : Type 0} (blocks : S → Blocks) (at : Ctx) (from to : List ℕ) where
-  pub formed_both : {X : Type 0} (old mid new : Keyspace S) (other : ListEnd) (element : List ℕ) (result : Result (Unit {0}) X) → (from ≡ to → ⊥) → look (sight blocks mid at) to ≡ look (sight blocks old at) to
+  pub formed_both : {X : Type 0} (old mid new : Keyspace S) (other : ListEnd) (element : List ℕ) (result : Result (Unit {0}) X) → (from ≡ to → ⊥)
+      → look (sight blocks mid at) to ≡ look (sight blocks old at) to
       → Within (one_key at.db from) old.bases mid.bases (blocks old.store) (blocks mid.store) → Formed blocks (AsAt at.db from) old mid
       → OnOk result (Formed blocks (risen_to at.db (sight blocks mid at) to (added other (list_at (sight blocks mid at) to) (element ∷ []))) mid new)
       → OnOk result (Formed blocks (Either (AsAt at.db from) (risen_to at.db (sight blocks old at) to (added other (list_at (sight blocks old at) to) (element ∷ [])))) old new)
@@ -188,7 +199,8 @@ module _ {S : Type 0} (blocks : S → Blocks) (at : Ctx) (from to : List ℕ) wh
       (risen_before (is_some before) (pack_len (added other (list_of before) (element ∷ []))) (one_key at.db from) at.db to value old.bases mid.bases m own (λ named. apart (sym named.1)) within is)))
       mid.bases new.bases own (blocks new.store) last)
 
-  pub formed_same : {A X : Type 0} (old new : Keyspace S) (list : Elements) (form : Form) (result : Result A X) → from ≡ to → form ≡ Either (AsAt at.db from) (risen_to at.db (sight blocks old at) to list)
+  pub formed_same : {A X : Type 0} (old new : Keyspace S) (list : Elements) (form : Form) (result : Result A X) → from ≡ to
+      → form ≡ Either (AsAt at.db from) (risen_to at.db (sight blocks old at) to list)
       → Formed blocks (risen_to at.db (sight blocks old at) from list) old new → IfOk result (λ reply. Formed blocks form old new)
   formed_same old new list form (Err x) same is p = tt
   formed_same old new list form (Ok reply) same is p =
@@ -203,7 +215,8 @@ module _ {S : Type 0} (blocks : S → Blocks) (at : Ctx) (from to : List ℕ) wh
 
 -- ---- what is answered
 
-pub moves_none : {X : Type 0} (old : World) (from to : List ℕ) (end other : ListEnd) (result : Result (List Part) X) → HasNone old from → IfOk result (λ reply. reply ≡ Null ∷ []) → IfOk result (λ reply. move_element old from to end other ≡ leaves reply old)
+pub moves_none : {X : Type 0} (old : World) (from to : List ℕ) (end other : ListEnd) (result : Result (List Part) X) → HasNone old from → IfOk result (λ reply. reply ≡ Null ∷ [])
+    → IfOk result (λ reply. move_element old from to end other ≡ leaves reply old)
 moves_none old from to end other (Err x) none told = tt
 moves_none old from to end other (Ok reply) none told =
     on_before old from none.no_other.before (move_there old from to end other) none.no_other.stands ∙ by_before none.no_other.before none.none ∙ ap (λ r. leaves r old) (sym told)
@@ -237,7 +250,8 @@ module _ (old : World) (from to : List ℕ) (end other : ListEnd) (element : Lis
       ∙ ap (λ (w : World). leaves (Bulk element ∷ []) w) (sym world)
       ∙ ap (λ r. leaves r new) (sym told)
 
-  pub moves_refused : {X : Type 0} (result : Result (List Part) X) → bytes_eq from to ≡ false → FoundOther old to → IfOk result (λ reply. reply ≡ Refused WrongType ∷ []) → IfOk result (λ reply. move_element old from to end other ≡ leaves reply old)
+  pub moves_refused : {X : Type 0} (result : Result (List Part) X) → bytes_eq from to ≡ false → FoundOther old to → IfOk result (λ reply. reply ≡ Refused WrongType ∷ [])
+      → IfOk result (λ reply. move_element old from to end other ≡ leaves reply old)
   moves_refused (Err x) is found told = tt
   moves_refused {X = X} (Ok reply) is found told = moves_met ∙ cond-false _ _ _ is ∙ refused_other {E = X} old to (moved (from_end end p.met)) (Ok reply) found told
 
@@ -249,7 +263,8 @@ module _ (old : World) (from to : List ℕ) (end other : ListEnd) (element : Lis
       moves_met ∙ cond-false _ _ _ is
       ∙ on_before old to no_other.before (moved (from_end end p.met)) no_other.stands
       ∙ ap (λ (l : Elements). moved l no_other.before) rest_is
-      ∙ ap (λ (l : Elements). leaves (Bulk element ∷ []) (keep_list (keep_list old from (without end 1 (list_at old from))) to (added other l (element ∷ [])))) (sym (list_before old to no_other.before no_other.stands))
+      ∙ ap (λ (l : Elements). leaves (Bulk element ∷ []) (keep_list (keep_list old from (without end 1 (list_at old from))) to (added other l (element ∷ []))))
+      (sym (list_before old to no_other.before no_other.stands))
       ∙ ap (λ (w : World). leaves (Bulk element ∷ []) w) (sym world)
       ∙ ap (λ r. leaves r new) (sym told)
 
@@ -259,8 +274,10 @@ module _ (old : World) (from to : List ℕ) (end other : ListEnd) (element : Lis
   form_met : (db : ℕ) (same : Bool) → bytes_eq from to ≡ same → moved_to db old from to end other (from_end end (list_at old from)) ≡ form_with db (cond same (from_end end p.met) (list_at old to))
   form_met db same is = ap (moved_to db old from to end other) met_is ∙ ap (λ b. form_with db (cond b (from_end end p.met) (list_at old to))) is
 
-  pub form_same : (db : ℕ) → bytes_eq from to ≡ true → moved_to db old from to end other (from_end end (list_at old from)) ≡ Either (AsAt db from) (risen_to db old to (added other (without end 1 (list_at old from)) (element ∷ [])))
+  pub form_same : (db : ℕ) → bytes_eq from to ≡ true → moved_to db old from to end other (from_end end (list_at old from)) ≡ Either (AsAt db from)
+      (risen_to db old to (added other (without end 1 (list_at old from)) (element ∷ [])))
   form_same db is = form_met db true is ∙ ap (form_with db) rest_is
 
-  pub form_apart : (db : ℕ) → bytes_eq from to ≡ false → moved_to db old from to end other (from_end end (list_at old from)) ≡ Either (AsAt db from) (risen_to db old to (added other (list_at old to) (element ∷ [])))
+  pub form_apart : (db : ℕ) → bytes_eq from to ≡ false → moved_to db old from to end other (from_end end (list_at old from)) ≡ Either (AsAt db from)
+      (risen_to db old to (added other (list_at old to) (element ∷ [])))
   form_apart db is = form_met db false is

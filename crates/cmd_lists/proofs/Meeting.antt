@@ -68,7 +68,8 @@ without_min Head xs n = drop_min xs n
 without_min Tail xs n = ap (λ k. reverse (drop (min n k) (reverse xs))) (sym (length-reverse xs)) ∙ ap reverse (drop_min (reverse xs) n)
 
 pub tail_taken : {X : Type 0} (before after : Blocks) (old new : Chain) (end : ListEnd) (len n : ℕ) → end ≡ Tail → len ≡ length (elements before old) → n ≤ length (elements before old)
-    → (result : Result (Unit {0}) X) → OnOk result (IsChanged before after old new (remove_range (elements before old) (len - n) len)) → OnOk result (elements after new ≡ without end n (elements before old))
+    → (result : Result (Unit {0}) X) → OnOk result (IsChanged before after old new (remove_range (elements before old) (len - n) len))
+    → OnOk result (elements after new ≡ without end n (elements before old))
 tail_taken before after old new end len n is size h (Err e) p = tt
 tail_taken before after old new end len n is size h (Ok u) p = p.list_is ∙ off_tail (elements before old) len n size h ∙ ap (λ e. without e n (elements before old)) (sym is)
 
@@ -88,7 +89,8 @@ index_none Tail len h = omega (arith, h)
 pub met_min : (end : ListEnd) (xs : Elements) (n : ℕ) → take (min n (length xs)) (from_end end xs) ≡ take n (from_end end xs)
 met_min end xs n = ap (λ k. take (min n k) (from_end end xs)) (sym (met_length end xs)) ∙ take_min n (from_end end xs)
 
-pub pops_many : (end : ListEnd) (n count : ℕ) (parts : List Part) (old new : Elements) (from form : Form) → count ≡ min n (length old) → parts ≡ listed (take count (from_end end old)) → new ≡ without end count old → form ≡ from
+pub pops_many : (end : ListEnd) (n count : ℕ) (parts : List Part) (old new : Elements) (from form : Form) → count ≡ min n (length old) → parts ≡ listed (take count (from_end end old))
+    → new ≡ without end count old → form ≡ from
     → PopsMany end n parts old from new form
 pops_many end n count parts old new from form many told is same = record {
   told = ap listed (sym (met_min end old n)) ∙ ap (λ k. listed (take k (from_end end old))) (sym many) ∙ sym told;

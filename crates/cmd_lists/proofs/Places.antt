@@ -1,5 +1,6 @@
 -- Elements as they are met from an end, and which of them equal one.
-use Rattle.std.proofs.Common.{◌≡◌, ℕ, zero, suc, ◌+◌, ◌-◌, ◌<◌, ◌≤◌, List, [], ◌∷◌, ◌++◌, length, take, drop, map, get_or, Option, Some, None, Bool, true, false, refl, sym, ap, ◌∙◌, subst, arith, length-append, append-nil, take-take}
+use Rattle.std.proofs.Common.{◌≡◌, ℕ, zero, suc, ◌+◌, ◌-◌, ◌<◌, ◌≤◌, List, [], ◌∷◌, ◌++◌, length, take, drop, map, get_or, Option, Some, None, Bool, true, false, refl, sym, ap, ◌∙◌, subst}
+use Rattle.std.proofs.Common.{arith, length-append, append-nil, take-take}
 use Rattle.std.specs.Prelude.{ℤ, pos, MatchOption, bytes_eq, if◌then◌else◌}
 use Rattle.std.proofs.lemmas.List.{map-append, take_more, get_or-reverse, length-reverse, length-map, length-drop, length-take-le, drop_all, take_all, take-append-drop, take-append-le, drop-append-le}
 use Rattle.std.proofs.Math.Seq.{take-nil}
@@ -18,21 +19,25 @@ use Rattle.cmd_lists.specs.Met.{MeetsAt, IsMet}
 
 -- ---- cursors from an end
 
-pub first_head : (m : Blocks) (q : Chain) (place : Option Cursor) → IsQuick m q → MatchOption place (length (elements m q) ≤ 0) (λ cursor. IsCursor m q cursor × (cursor.index ≡ 0)) → IsMet Head m q 0 place
+pub first_head : (m : Blocks) (q : Chain) (place : Option Cursor) → IsQuick m q → MatchOption place (length (elements m q) ≤ 0) (λ cursor. IsCursor m q cursor × (cursor.index ≡ 0))
+    → IsMet Head m q 0 place
 first_head m q None s h = h
 first_head m q (Some to) s h = record { inside = omega (arith, h.1, index_inside m q to.index to.node h.0.among s h.0.place); place = h.0; index_is = h.1 }
 
-pub first_tail : (m : Blocks) (q : Chain) (last : ℕ) (place : Option Cursor) → IsQuick m q → last ≡ length (elements m q) - 1 → MatchOption place (length (elements m q) ≤ last) (λ cursor. IsCursor m q cursor × (cursor.index ≡ last)) → IsMet Tail m q 0 place
+pub first_tail : (m : Blocks) (q : Chain) (last : ℕ) (place : Option Cursor) → IsQuick m q → last ≡ length (elements m q) - 1
+    → MatchOption place (length (elements m q) ≤ last) (λ cursor. IsCursor m q cursor × (cursor.index ≡ last)) → IsMet Tail m q 0 place
 first_tail m q last None s e h = omega (arith, e, h)
 first_tail m q last (Some to) s e h = record { inside = omega (arith, h.1, index_inside m q to.index to.node h.0.among s h.0.place); place = h.0; index_is = omega (arith, e, h.1) }
 
-pub behind_head : (m : Blocks) (q : Chain) (k : ℕ) (cursor : Cursor) (place : Option Cursor) → IsQuick m q → MeetsAt Head m q k cursor → MatchOption place (cursor.index + 1 ≡ length (elements m q)) (λ to. IsCursor m q to × (to.index ≡ cursor.index + 1)) → IsMet Head m q (k + 1) place
+pub behind_head : (m : Blocks) (q : Chain) (k : ℕ) (cursor : Cursor) (place : Option Cursor) → IsQuick m q → MeetsAt Head m q k cursor
+    → MatchOption place (cursor.index + 1 ≡ length (elements m q)) (λ to. IsCursor m q to × (to.index ≡ cursor.index + 1)) → IsMet Head m q (k + 1) place
 behind_head m q k cursor None s meets h = let e : cursor.index ≡ k = meets.index_is in omega (arith, e, h)
 behind_head m q k cursor (Some to) s meets h =
     let e : cursor.index ≡ k = meets.index_is in
     record { inside = omega (arith, e, h.1, index_inside m q to.index to.node h.0.among s h.0.place); place = h.0; index_is = omega (arith, e, h.1) }
 
-pub behind_tail : (m : Blocks) (q : Chain) (k : ℕ) (cursor : Cursor) (place : Option Cursor) → IsQuick m q → MeetsAt Tail m q k cursor → MatchOption place (cursor.index ≡ 0) (λ to. IsCursor m q to × (to.index + 1 ≡ cursor.index)) → IsMet Tail m q (k + 1) place
+pub behind_tail : (m : Blocks) (q : Chain) (k : ℕ) (cursor : Cursor) (place : Option Cursor) → IsQuick m q → MeetsAt Tail m q k cursor
+    → MatchOption place (cursor.index ≡ 0) (λ to. IsCursor m q to × (to.index + 1 ≡ cursor.index)) → IsMet Tail m q (k + 1) place
 behind_tail m q k cursor None s meets h = let e : cursor.index ≡ length (elements m q) - suc k = meets.index_is in omega (arith, e, h)
 behind_tail m q k cursor (Some to) s meets h =
     let e : cursor.index ≡ length (elements m q) - suc k = meets.index_is in
@@ -75,7 +80,8 @@ places_more text xs k x h is =
 pub place_other : (text : List ℕ) (xs : Elements) (k : ℕ) (x : List ℕ) → k < length xs → x ≡ get_or xs k [] → bytes_eq x text ≡ false → places 0 text (take (k + 1) xs) ≡ places 0 text (take k xs)
 place_other text xs k x h is other = places_more text xs k x h is ∙ ap (λ b. places 0 text (take k xs) ++ one_place b k) other ∙ append-nil (places 0 text (take k xs))
 
-pub place_same : (text : List ℕ) (xs : Elements) (k : ℕ) (x : List ℕ) → k < length xs → x ≡ get_or xs k [] → bytes_eq x text ≡ true → places 0 text (take (k + 1) xs) ≡ places 0 text (take k xs) ++ k ∷ []
+pub place_same : (text : List ℕ) (xs : Elements) (k : ℕ) (x : List ℕ) → k < length xs → x ≡ get_or xs k [] → bytes_eq x text ≡ true
+    → places 0 text (take (k + 1) xs) ≡ places 0 text (take k xs) ++ k ∷ []
 place_same text xs k x h is same = places_more text xs k x h is ∙ ap (λ b. places 0 text (take k xs) ++ one_place b k) same
 
 -- ---- matches from a rank on
@@ -103,7 +109,8 @@ module _ (f : ℕ → ℕ) (first k skipped : ℕ) (old new found : List ℕ) (m
 
 -- the next element that is met, of those from an end
 module _ (end : ListEnd) (m : Blocks) (q : Chain) (k first skipped : ℕ) (cursor : Cursor) (x text found : List ℕ) (meets : MeetsAt end m q k cursor) (is : x ≡ get_or (elements m q) cursor.index [])
-    (skips : skipped ≡ first - length (places 0 text (take k (from_end end (elements m q))))) (finds : found ≡ map (index_from end (length (elements m q))) (drop first (places 0 text (take k (from_end end (elements m q)))))) where
+    (skips : skipped ≡ first - length (places 0 text (take k (from_end end (elements m q)))))
+    (finds : found ≡ map (index_from end (length (elements m q))) (drop first (places 0 text (take k (from_end end (elements m q)))))) where
   -- what is seen behind it
   abbrev seen_behind : List ℕ
   seen_behind = places 0 text (take (k + 1) (from_end end (elements m q)))
@@ -151,7 +158,8 @@ all_told zero l h = refl
 all_told (suc n) l h = let few = h (omega arith) in sym (take_all (suc n) l (omega (arith, few)))
 
 -- as many are told as are wanted where so many are found
-pub enough_told : (f : ℕ → ℕ) (text : List ℕ) (xs : Elements) (first n looked wanted : ℕ) (found : List ℕ) → n ≤ looked → n ≤ length xs → found ≡ map f (drop first (places 0 text (take n xs))) → 0 < length found → length found ≡ wanted
+pub enough_told : (f : ℕ → ℕ) (text : List ℕ) (xs : Elements) (first n looked wanted : ℕ) (found : List ℕ) → n ≤ looked → n ≤ length xs
+    → found ≡ map f (drop first (places 0 text (take n xs))) → 0 < length found → length found ≡ wanted
     → found ≡ at_most wanted (map f (drop first (places 0 text (take looked xs))))
 enough_told f text xs first n looked wanted found within inside finds some enough =
     let old = places 0 text (take n xs) in
@@ -165,7 +173,8 @@ enough_told f text xs first n looked wanted found within inside finds some enoug
     sym (ap (at_most wanted) cut ∙ at_most_some wanted (found ++ map f more) (omega (arith, some, enough))
     ∙ take-append-le wanted found (map f more) (omega (arith, enough)) ∙ take_all wanted found (omega (arith, enough)))
 
-pub matches_are : (rank : ℤ) (most : ℕ) (text : List ℕ) (xs : Elements) (end : ListEnd) (first looked : ℕ) → end ≡ end_of_rank rank → first ≡ before_rank rank → take looked (from_end end xs) ≡ at_most most (from_end end xs)
+pub matches_are : (rank : ℤ) (most : ℕ) (text : List ℕ) (xs : Elements) (end : ListEnd) (first looked : ℕ) → end ≡ end_of_rank rank → first ≡ before_rank rank
+    → take looked (from_end end xs) ≡ at_most most (from_end end xs)
     → map (index_from end (length xs)) (drop first (places 0 text (take looked (from_end end xs)))) ≡ matches rank most text xs
 matches_are rank most text xs end first looked e f l =
     ap (λ l. map (index_from end (length xs)) (drop first (places 0 text l))) l

@@ -10,7 +10,8 @@ use Rattle.plain_world.specs.declared.reply.Part.TheVariants.{Bulk, Array}
 use Rattle.plain_model.specs.ListSteps.{Elements, listed, range_start, range_end, list_range}
 
 -- one element more
-pub one_more : (xs : Elements) (from k : ℕ) (first parts new : List Part) (x : List ℕ) → from + k < length xs → parts ≡ first ++ map Bulk (take k (drop from xs)) → x ≡ get_or xs (from + k) [] → new ≡ parts ++ Bulk x ∷ []
+pub one_more : (xs : Elements) (from k : ℕ) (first parts new : List Part) (x : List ℕ) → from + k < length xs → parts ≡ first ++ map Bulk (take k (drop from xs))
+    → x ≡ get_or xs (from + k) [] → new ≡ parts ++ Bulk x ∷ []
     → new ≡ first ++ map Bulk (take (k + 1) (drop from xs))
 one_more xs from k first parts new x h so_far is pushed =
     let rest = drop from xs in
@@ -47,7 +48,8 @@ listed_parts list count first mid new e n f h =
     h ∙ ap (λ l. l ++ map Bulk list) (f ∙ ap (λ l. l ++ Array count ∷ []) e) ∙ ap (λ n. Array n ∷ map Bulk list) n
 
 -- how many elements a range has of a list of this length, and where it begins
-pub reach_is : (xs : Elements) (a b : ℤ) (len first end start stop count : ℕ) → length xs ≡ len → first ≡ range_start len a → end ≡ range_end len b → start ≡ min first len → stop ≡ min end len → count ≡ stop - first
+pub reach_is : (xs : Elements) (a b : ℤ) (len first end start stop count : ℕ) → length xs ≡ len → first ≡ range_start len a → end ≡ range_end len b → start ≡ min first len
+    → stop ≡ min end len → count ≡ stop - first
     → take count (drop start xs) ≡ list_range xs a b
 reach_is xs a b len first end start stop count size f e s t n =
     let from : start ≡ min first (length xs) = omega (arith, s, size) in

@@ -35,7 +35,8 @@ len_added Tail xs x = omega (arith, pack_len-append xs (x ∷ []), alone_len x)
 abbrev pub RisesSoFar : List (List ℕ) → List (List ℕ) → Form → List (List ℕ) → Form → Type 0
 RisesSoFar words rest old list new = ((rest ≡ words) × (new ≡ old)) ⊎ IsRisen old list new
 
-pub rises_on : (end : ListEnd) (words rest : List (List ℕ)) (a b c : Form) (xs ys : List (List ℕ)) (x : List ℕ) → RisesSoFar words rest a xs b → ys ≡ added end xs (x ∷ []) → IsRisen b ys c → IsRisen a ys c
+pub rises_on : (end : ListEnd) (words rest : List (List ℕ)) (a b c : Form) (xs ys : List (List ℕ)) (x : List ℕ) → RisesSoFar words rest a xs b → ys ≡ added end xs (x ∷ []) → IsRisen b ys c
+    → IsRisen a ys c
 rises_on end words rest a b c xs ys x so_far is q = elim so_far [
   | inl none ↦ subst (λ f. IsRisen f ys c) none.1 q
   | inr p ↦ risen_then a b c (pack_len xs) (pack_len ys) (omega (arith, len_added end xs x, ap pack_len is)) p q

@@ -22,13 +22,15 @@ use Rattle.keyspace.proofs.Running.{outcome_is, unchanged, nothing_shown}
 use Rattle.keyspace.proofs.Forming.{unformed}
 use Rattle.cmd_lists.specs.Found.{Gives}
 
-step_of : {E : Type 0} (seed moment : ℕ) (old new : World) (command : Command) (own same : ListCommand) (result : Result (List Part) E) → command ≡ Lists own → own ≡ same → IfOk result (λ reply. list_outcome old same ≡ leaves reply new) → IfOk result (λ reply. may seed old moment command reply new)
+step_of : {E : Type 0} (seed moment : ℕ) (old new : World) (command : Command) (own same : ListCommand) (result : Result (List Part) E) → command ≡ Lists own → own ≡ same
+    → IfOk result (λ reply. list_outcome old same ≡ leaves reply new) → IfOk result (λ reply. may seed old moment command reply new)
 step_of seed moment old new command own same (Ok reply) e f given = subst (λ x. may seed old moment x reply new) (sym (e ∙ ap Lists f)) (outcome_is (list_outcome old same) reply new given)
 step_of seed moment old new command own same (Err x) e f given = tt
 
 module _ {S E : Type 0} (blocks : S → Blocks) (step : S → S → Type 0) where
   pub ran : (old new : Keyspace S) (at : Ctx) (command : Command) (own same : ListCommand) (result : Result (List Part) E)
-      → command ≡ Lists own → own ≡ same → Gives blocks old new at same result → Kept blocks step (list_scope at.db same) old new result → IfOk result (λ reply. Formed blocks (list_form at.db (sight blocks old at) same) old new) → Runs blocks step old new at command result
+      → command ≡ Lists own → own ≡ same → Gives blocks old new at same result → Kept blocks step (list_scope at.db same) old new result
+      → IfOk result (λ reply. Formed blocks (list_form at.db (sight blocks old at) same) old new) → Runs blocks step old new at command result
   ran old new at command own same result e f given kept forms =
       let is = e ∙ ap Lists f in
       record {
@@ -42,7 +44,8 @@ module _ {S E : Type 0} (blocks : S → Blocks) (step : S → S → Type 0) wher
   pub looked : (keyspace : Keyspace S) (at : Ctx) (command : Command) (own same : ListCommand) (result : Result (List Part) E)
       → command ≡ Lists own → own ≡ same → Gives blocks keyspace keyspace at same result → Ready blocks keyspace at → Runs blocks step keyspace keyspace at command result
   looked keyspace at command own same result e f given ready =
-      ran keyspace keyspace at command own same result e f given (unchanged blocks step (list_scope at.db same) keyspace result ready.sound) (unformed blocks (list_form at.db (sight blocks keyspace at) same) keyspace result)
+      ran keyspace keyspace at command own same result e f given (unchanged blocks step (list_scope at.db same) keyspace result ready.sound)
+      (unformed blocks (list_form at.db (sight blocks keyspace at) same) keyspace result)
 
 -- what a request writes has one element at least
 pub some_lpush : (own : ListCommand) (key : List ℕ) (list : List (List ℕ)) → IsAsked (Lists own) → own ≡ lists.LPush key list → 0 < length list

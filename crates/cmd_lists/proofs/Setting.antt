@@ -49,7 +49,8 @@ some_is : (n m : ℕ) → Some n ≡ Some m → n ≡ m
 some_is n m e = ap (value_or n) e
 
 -- the place is in the list that was there
-pub inside_before : (world : World) (key : List ℕ) (list : Elements) (n len : ℕ) → HasList world key list → len ≡ length list → n ≤ len → (before : Option Elements) → IsBefore world key before → n ≤ length (or_none before)
+pub inside_before : (world : World) (key : List ℕ) (list : Elements) (n len : ℕ) → HasList world key list → len ≡ length list → n ≤ len → (before : Option Elements)
+    → IsBefore world key before → n ≤ length (or_none before)
 inside_before world key list n len has size h before stands =
     let same : or_none before ≡ list = ap or_none (before_is world key before list stands has) in
     omega (arith, h, size, ap length same)
@@ -88,12 +89,15 @@ set_gives old new key element index place before list len from now form stands h
 
 -- ---- a range is left
 
-pub left_is : (before mid after : Blocks) (old cut new : Chain) (first count len : ℕ) → len ≡ length (elements before old) → IsChanged before mid old cut (remove_range (elements before old) (first + count) len) → {X : Type 0} (result : Result (Unit {0}) X)
+pub left_is : (before mid after : Blocks) (old cut new : Chain) (first count len : ℕ) → len ≡ length (elements before old)
+    → IsChanged before mid old cut (remove_range (elements before old) (first + count) len) → {X : Type 0} (result : Result (Unit {0}) X)
     → OnOk result (IsChanged mid after cut new (remove_range (elements mid cut) 0 first)) → OnOk result (elements after new ≡ take count (drop first (elements before old)))
 left_is before mid after old cut new first count len size p (Err e) q = tt
 left_is before mid after old cut new first count len size p (Ok u) q =
     q.list_is
-    ∙ ap (drop first) (p.list_is ∙ ap (λ l. take (first + count) (elements before old) ++ l) (drop_all len (elements before old) (omega (arith, size))) ∙ nothing (take (first + count) (elements before old)))
+    ∙ ap (drop first)
+    (p.list_is ∙ ap (λ l. take (first + count) (elements before old) ++ l) (drop_all len (elements before old) (omega (arith, size)))
+    ∙ nothing (take (first + count) (elements before old)))
     ∙ drop-take first count (elements before old)
 
 pub trim_gives : {X : Type 0} (old new : World) (key : List ℕ) (a b : ℤ) (first count : ℕ) (before : Option Elements) (list : Elements) (from : Form) (now : Elements) (form : Form)
@@ -109,17 +113,21 @@ trim_gives old new key a b first count before list from now form stands has rang
 
 -- ---- OK is no refusal, and what was set has risen
 
-pub simple_calm : {S X : Type 0} (blocks : S → Blocks) (step : S → S → Type 0) (scope : Scope) (old new : Keyspace S) (line : List ℕ) (result : Result (List Part) X) → IfOk result (λ reply. reply ≡ Simple line ∷ []) → Held blocks step scope old new
+pub simple_calm : {S X : Type 0} (blocks : S → Blocks) (step : S → S → Type 0) (scope : Scope) (old new : Keyspace S) (line : List ℕ) (result : Result (List Part) X)
+    → IfOk result (λ reply. reply ≡ Simple line ∷ []) → Held blocks step scope old new
     → Kept blocks step scope old new result
 simple_calm blocks step scope old new line (Err x) told held = calm blocks step scope old new (Err x) tt held
 simple_calm blocks step scope old new line (Ok reply) told held = calm blocks step scope old new (Ok reply) (λ refused. subst IsRefusal told refused) held
 
-pub set_formed : {S A X : Type 0} (own : Elements → Form → Elements → Form → Type 0) (blocks : S → Blocks) (step : S → S → Type 0) (old new : Keyspace S) (at : Ctx) (key : List ℕ) (p : ListChanged own keep_list blocks old new at key) (held : Held blocks step (one_key at.db key) old new)
-    (element : List ℕ) (index : ℤ) (place : ℕ) (list : Elements) (len : ℕ) → HasList (sight blocks old at) key list → len ≡ length list → place_of len index ≡ Some place → p.now ≡ replaced (or_none p.before) place element → IsRisen p.from p.now p.form
+pub set_formed : {S A X : Type 0} (own : Elements → Form → Elements → Form → Type 0) (blocks : S → Blocks) (step : S → S → Type 0) (old new : Keyspace S) (at : Ctx) (key : List ℕ)
+    (p : ListChanged own keep_list blocks old new at key) (held : Held blocks step (one_key at.db key) old new)
+    (element : List ℕ) (index : ℤ) (place : ℕ) (list : Elements) (len : ℕ) → HasList (sight blocks old at) key list → len ≡ length list → place_of len index ≡ Some place
+    → p.now ≡ replaced (or_none p.before) place element → IsRisen p.from p.now p.form
     → (result : Result A X) → IfOk result (λ reply. Formed blocks (set_to at.db (sight blocks old at) key element (place_of (length (list_at (sight blocks old at) key)) index)) old new)
 set_formed own blocks step old new at key p held element index place list len has size there is risen result =
     let world = sight blocks old at in
     let stood : list_at world key ≡ list = list_before world key (Some list) has in
     let same : place_of (length (list_at world key)) index ≡ Some place = ap (λ l. place_of (length l) index) stood ∙ ap (λ n. place_of n index) (sym size) ∙ there in
     subst (λ o. IfOk result (λ reply. Formed blocks (set_to at.db world key element o) old new)) (sym same)
-    (formed_risen own blocks step old new at key p held (replaced (list_at world key) place element) (is ∙ ap (λ l. replaced l place element) (sym (list_before world key p.before p.stands))) risen result)
+    (formed_risen own blocks step old new at key p held (replaced (list_at world key) place element)
+    (is ∙ ap (λ l. replaced l place element) (sym (list_before world key p.before p.stands))) risen result)

@@ -1,5 +1,6 @@
 -- Elements that equal a text, taken out of a list from an end on.
-use Rattle.std.proofs.Common.{◌≡◌, ℕ, zero, suc, ◌+◌, ◌-◌, ◌≤◌, List, [], ◌∷◌, ◌++◌, length, min, Bool, true, false, cond, Option, Some, Result, Ok, Err, IfOk, inl, inr, refl, sym, ap, ◌∙◌, arith, length-append, append-nil}
+use Rattle.std.proofs.Common.{◌≡◌, ℕ, zero, suc, ◌+◌, ◌-◌, ◌≤◌, List, [], ◌∷◌, ◌++◌, length, min, Bool, true, false, cond, Option, Some, Result, Ok, Err, IfOk, inl, inr, refl, sym, ap}
+use Rattle.std.proofs.Common.{◌∙◌, arith, length-append, append-nil}
 use Rattle.std.specs.Prelude.{ℤ, pos, negsuc, bytes_eq, not, reverse, if◌then◌else◌}
 use Rattle.std.proofs.lemmas.Bool.{cases_lt}
 use Rattle.std.proofs.lemmas.List.{reverse-append, reverse-reverse, length-reverse}
@@ -56,7 +57,8 @@ front_gone text (suc n) (x ∷ front) rest many =
     front_step (bytes_eq x text) x n (equals text front) (without_first n text (front ++ rest)) (without_first (suc n) text (front ++ rest)) (others text front) rest (many ∙ equals_cons text x front)
     (λ h. front_gone text n front rest h) (λ h. front_gone text (suc n) front rest h)
 
-all_step : (b : Bool) (x : List ℕ) (n k : ℕ) (less same out : Elements) → cond b 1 0 + k ≤ suc n → (k ≤ n → less ≡ out) → (k ≤ suc n → same ≡ out) → (if b then less else x ∷ same) ≡ cond (not b) (x ∷ out) out
+all_step : (b : Bool) (x : List ℕ) (n k : ℕ) (less same out : Elements) → cond b 1 0 + k ≤ suc n → (k ≤ n → less ≡ out) → (k ≤ suc n → same ≡ out)
+    → (if b then less else x ∷ same) ≡ cond (not b) (x ∷ out) out
 all_step true x n k less same out many one other = one (omega (arith, many))
 all_step false x n k less same out many one other = ap (λ l. x ∷ l) (other (omega (arith, many)))
 
@@ -65,7 +67,8 @@ all_gone : (text : List ℕ) (n : ℕ) (xs : Elements) → equals text xs ≤ n 
 all_gone text n [] many = refl
 all_gone text zero (x ∷ xs) many = sym (all_others text (x ∷ xs) (omega (arith, many)))
 all_gone text (suc n) (x ∷ xs) many =
-    all_step (bytes_eq x text) x n (equals text xs) (without_first n text xs) (without_first (suc n) text xs) (others text xs) (omega (arith, many, equals_cons text x xs)) (λ h. all_gone text n xs h) (λ h. all_gone text (suc n) xs h)
+    all_step (bytes_eq x text) x n (equals text xs) (without_first n text xs) (without_first (suc n) text xs) (others text xs) (omega (arith, many, equals_cons text x xs))
+    (λ h. all_gone text n xs h) (λ h. all_gone text (suc n) xs h)
 
 -- ---- from the head
 

@@ -18,7 +18,8 @@ pub fn list_at<'a, B: BlockStore>(
     key: &[u8],
 ) -> Look<&'a Quick>
     requires ready { Ready B.blocks keyspace.now at.now }
-    ensures { IsLook (look (sight B.blocks keyspace.now at.now) key.now ≡ None) (FoundOther (sight B.blocks keyspace.now at.now) key.now) (λ list. FoundList (sight B.blocks keyspace.now at.now) (B.blocks keyspace.now.store) key.now list.now) result }
+    ensures { IsLook (look (sight B.blocks keyspace.now at.now) key.now ≡ None) (FoundOther (sight B.blocks keyspace.now at.now) key.now)
+        (λ list. FoundList (sight B.blocks keyspace.now at.now) (B.blocks keyspace.now.store) key.now list.now) result }
 {
     match keyspace.look(at.db, key, at.moment) {
         None => Look::Missing,

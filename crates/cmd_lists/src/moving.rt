@@ -66,7 +66,9 @@ fn first_at<B: BlockStore>(
     end: ListEnd,
 ) -> Result<Look<Bytes>, Memory>
     requires ready { Ready B.blocks keyspace.now at.now }
-    ensures { IfOk result (λ found. IsLook (HasNone (sight B.blocks keyspace.now at.now) key.now) (FoundOther (sight B.blocks keyspace.now at.now) key.now) (λ element. IsFirst (sight B.blocks keyspace.now at.now) key.now end element) found) }
+    ensures { IfOk result
+        (λ found. IsLook (HasNone (sight B.blocks keyspace.now at.now) key.now) (FoundOther (sight B.blocks keyspace.now at.now) key.now)
+        (λ element. IsFirst (sight B.blocks keyspace.now at.now) key.now end element) found) }
 {
     match list_at(keyspace, at, key) {
         Look::Missing => Ok(Look::Missing),
@@ -124,7 +126,8 @@ fn take_first<B: BlockStore>(
 ) -> Result<(), Memory>
     requires ready { Ready B.blocks keyspace.old at.now }
     requires there { (list : List (List ℕ)) × HasList (sight B.blocks keyspace.old at.now) key.now list }
-    ensures world { OnOk result (sight B.blocks keyspace.new at.now ≡ keep_list (sight B.blocks keyspace.old at.now) key.now (without end 1 (form.list_at (sight B.blocks keyspace.old at.now) key.now))) }
+    ensures world { OnOk result
+        (sight B.blocks keyspace.new at.now ≡ keep_list (sight B.blocks keyspace.old at.now) key.now (without end 1 (form.list_at (sight B.blocks keyspace.old at.now) key.now))) }
     ensures held { Held B.blocks B.step (one_key at.now.db key.now) keyspace.old keyspace.new }
     ensures forms { OnOk result (Formed B.blocks (AsAt at.now.db key.now) keyspace.old keyspace.new) }
 {
@@ -142,9 +145,13 @@ fn put_one<B: BlockStore>(
 ) -> Result<(), Memory>
     requires ready { Ready B.blocks keyspace.old at.now }
     requires no_other { HasNoOther (sight B.blocks keyspace.old at.now) key.now }
-    ensures world { OnOk result (sight B.blocks keyspace.new at.now ≡ keep_list (sight B.blocks keyspace.old at.now) key.now (added end (form.list_at (sight B.blocks keyspace.old at.now) key.now) (element.now ∷ []))) }
+    ensures world { OnOk result
+        (sight B.blocks keyspace.new at.now ≡ keep_list (sight B.blocks keyspace.old at.now) key.now
+        (added end (form.list_at (sight B.blocks keyspace.old at.now) key.now) (element.now ∷ []))) }
     ensures held { Held B.blocks B.step (one_key at.now.db key.now) keyspace.old keyspace.new }
-    ensures forms { OnOk result (Formed B.blocks (risen_to at.now.db (sight B.blocks keyspace.old at.now) key.now (added end (form.list_at (sight B.blocks keyspace.old at.now) key.now) (element.now ∷ []))) keyspace.old keyspace.new) }
+    ensures forms { OnOk result
+        (Formed B.blocks (risen_to at.now.db (sight B.blocks keyspace.old at.now) key.now (added end (form.list_at (sight B.blocks keyspace.old at.now) key.now) (element.now ∷ [])))
+        keyspace.old keyspace.new) }
 {
     let words = [Word::new(element.as_slice())];
     let push = Push {
@@ -167,9 +174,14 @@ fn turn_list<B: BlockStore>(
 ) -> Result<(), Memory>
     requires ready { Ready B.blocks keyspace.old at.now }
     requires first { IsFirst (sight B.blocks keyspace.old at.now) key.now end element.now }
-    ensures world { OnOk result (sight B.blocks keyspace.new at.now ≡ keep_list (sight B.blocks keyspace.old at.now) key.now (added other (without end 1 (form.list_at (sight B.blocks keyspace.old at.now) key.now)) (element.now ∷ []))) }
+    ensures world { OnOk result
+        (sight B.blocks keyspace.new at.now ≡ keep_list (sight B.blocks keyspace.old at.now) key.now
+        (added other (without end 1 (form.list_at (sight B.blocks keyspace.old at.now) key.now)) (element.now ∷ []))) }
     ensures held { Held B.blocks B.step (one_key at.now.db key.now) keyspace.old keyspace.new }
-    ensures forms { OnOk result (Formed B.blocks (risen_to at.now.db (sight B.blocks keyspace.old at.now) key.now (added other (without end 1 (form.list_at (sight B.blocks keyspace.old at.now) key.now)) (element.now ∷ []))) keyspace.old keyspace.new) }
+    ensures forms { OnOk result
+        (Formed B.blocks
+        (risen_to at.now.db (sight B.blocks keyspace.old at.now) key.now (added other (without end 1 (form.list_at (sight B.blocks keyspace.old at.now) key.now)) (element.now ∷ [])))
+        keyspace.old keyspace.new) }
 {
     let turn = Turn {
         end,
@@ -194,9 +206,16 @@ fn pass_on<B: BlockStore>(
     requires first { IsFirst (sight B.blocks keyspace.old at.now) from.now end element.now }
     requires no_other { HasNoOther (sight B.blocks keyspace.old at.now) to.now }
     requires apart { from.now ≡ to.now → ⊥ }
-    ensures world { OnOk result (sight B.blocks keyspace.new at.now ≡ keep_list (keep_list (sight B.blocks keyspace.old at.now) from.now (without end 1 (form.list_at (sight B.blocks keyspace.old at.now) from.now))) to.now (added other (form.list_at (sight B.blocks keyspace.old at.now) to.now) (element.now ∷ []))) }
+    ensures world { OnOk result
+        (sight B.blocks keyspace.new at.now ≡ keep_list
+        (keep_list (sight B.blocks keyspace.old at.now) from.now (without end 1 (form.list_at (sight B.blocks keyspace.old at.now) from.now))) to.now
+        (added other (form.list_at (sight B.blocks keyspace.old at.now) to.now) (element.now ∷ []))) }
     ensures held { Held B.blocks B.step (two_keys at.now.db from.now at.now.db to.now) keyspace.old keyspace.new }
-    ensures forms { OnOk result (Formed B.blocks (Either (AsAt at.now.db from.now) (risen_to at.now.db (sight B.blocks keyspace.old at.now) to.now (added other (form.list_at (sight B.blocks keyspace.old at.now) to.now) (element.now ∷ [])))) keyspace.old keyspace.new) }
+    ensures forms { OnOk result
+        (Formed B.blocks
+        (Either (AsAt at.now.db from.now)
+        (risen_to at.now.db (sight B.blocks keyspace.old at.now) to.now (added other (form.list_at (sight B.blocks keyspace.old at.now) to.now) (element.now ∷ [])))) keyspace.old
+        keyspace.new) }
 {
     take_first(keyspace, at, from, end)?;
     put_one(keyspace, at, to, other, element)
@@ -217,7 +236,10 @@ fn move_same<B: BlockStore>(
     requires same { from.now ≡ to.now }
     ensures gives { IfOk result (λ reply. move_element (sight B.blocks keyspace.old at.now) from.now to.now end other ≡ leaves reply (sight B.blocks keyspace.new at.now)) }
     ensures kept { Kept B.blocks B.step (two_keys at.now.db from.now at.now.db to.now) keyspace.old keyspace.new result }
-    ensures forms { IfOk result (λ reply. Formed B.blocks (moved_to at.now.db (sight B.blocks keyspace.old at.now) from.now to.now end other (from_end end (form.list_at (sight B.blocks keyspace.old at.now) from.now))) keyspace.old keyspace.new) }
+    ensures forms { IfOk result
+        (λ reply. Formed B.blocks
+        (moved_to at.now.db (sight B.blocks keyspace.old at.now) from.now to.now end other (from_end end (form.list_at (sight B.blocks keyspace.old at.now) from.now))) keyspace.old
+        keyspace.new) }
 {
     // it is the same key
     let _ = to;
@@ -241,7 +263,10 @@ fn move_apart<B: BlockStore>(
     requires apart { from.now ≡ to.now → ⊥ }
     ensures gives { IfOk result (λ reply. move_element (sight B.blocks keyspace.old at.now) from.now to.now end other ≡ leaves reply (sight B.blocks keyspace.new at.now)) }
     ensures kept { Kept B.blocks B.step (two_keys at.now.db from.now at.now.db to.now) keyspace.old keyspace.new result }
-    ensures forms { IfOk result (λ reply. Formed B.blocks (moved_to at.now.db (sight B.blocks keyspace.old at.now) from.now to.now end other (from_end end (form.list_at (sight B.blocks keyspace.old at.now) from.now))) keyspace.old keyspace.new) }
+    ensures forms { IfOk result
+        (λ reply. Formed B.blocks
+        (moved_to at.now.db (sight B.blocks keyspace.old at.now) from.now to.now end other (from_end end (form.list_at (sight B.blocks keyspace.old at.now) from.now))) keyspace.old
+        keyspace.new) }
 {
     let alloc = keyspace.alloc();
     if is_other(keyspace, at, to) {
@@ -263,7 +288,10 @@ fn move_between<B: BlockStore>(
     requires ready { Ready B.blocks keyspace.old at.now }
     ensures gives { IfOk result (λ reply. move_element (sight B.blocks keyspace.old at.now) from.now to.now end other ≡ leaves reply (sight B.blocks keyspace.new at.now)) }
     ensures kept { Kept B.blocks B.step (two_keys at.now.db from.now at.now.db to.now) keyspace.old keyspace.new result }
-    ensures forms { IfOk result (λ reply. Formed B.blocks (moved_to at.now.db (sight B.blocks keyspace.old at.now) from.now to.now end other (from_end end (form.list_at (sight B.blocks keyspace.old at.now) from.now))) keyspace.old keyspace.new) }
+    ensures forms { IfOk result
+        (λ reply. Formed B.blocks
+        (moved_to at.now.db (sight B.blocks keyspace.old at.now) from.now to.now end other (from_end end (form.list_at (sight B.blocks keyspace.old at.now) from.now))) keyspace.old
+        keyspace.new) }
 {
     let alloc = keyspace.alloc();
     match first_at(keyspace, at, from, end)? {

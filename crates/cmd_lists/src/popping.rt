@@ -106,7 +106,8 @@ fn place_behind<B: BlockStore>(
     requires cursor { IsCursor (B.blocks store.now) list.now cursor }
     requires inside { index < length (elements (B.blocks store.now) list.now) }
     requires met { cursor.index ≡ index_from end (length (elements (B.blocks store.now) list.now)) index }
-    ensures { MatchOption result (length (elements (B.blocks store.now) list.now) ≤ index + 1) (λ to. IsCursor (B.blocks store.now) list.now to × (to.index ≡ index_from end (length (elements (B.blocks store.now) list.now)) (index + 1))) }
+    ensures { MatchOption result (length (elements (B.blocks store.now) list.now) ≤ index + 1)
+        (λ to. IsCursor (B.blocks store.now) list.now to × (to.index ≡ index_from end (length (elements (B.blocks store.now) list.now)) (index + 1))) }
 {
     // the place tells the index
     let _ = index;

@@ -94,7 +94,9 @@ fn push_words<B: BlockStore>(
     requires some { 0 < length words.now }
     ensures gives { IfOk result (λ reply. push (sight B.blocks keyspace.old at.now) end key.now words.now ≡ leaves reply (sight B.blocks keyspace.new at.now)) }
     ensures kept { Kept B.blocks B.step (one_key at.now.db key.now) keyspace.old keyspace.new result }
-    ensures forms { IfOk result (λ reply. Formed B.blocks (risen_to at.now.db (sight B.blocks keyspace.old at.now) key.now (added end (list_at (sight B.blocks keyspace.old at.now) key.now) words.now)) keyspace.old keyspace.new) }
+    ensures forms { IfOk result
+        (λ reply. Formed B.blocks (risen_to at.now.db (sight B.blocks keyspace.old at.now) key.now (added end (list_at (sight B.blocks keyspace.old at.now) key.now) words.now))
+        keyspace.old keyspace.new) }
 {
     let alloc = keyspace.alloc();
     let found = seek(keyspace, at, key);
@@ -124,7 +126,9 @@ fn push_there<B: BlockStore>(
     requires some { 0 < length words.now }
     ensures gives { IfOk result (λ reply. push_if_there (sight B.blocks keyspace.old at.now) end key.now words.now ≡ leaves reply (sight B.blocks keyspace.new at.now)) }
     ensures kept { Kept B.blocks B.step (one_key at.now.db key.now) keyspace.old keyspace.new result }
-    ensures forms { IfOk result (λ reply. Formed B.blocks (risen_to at.now.db (sight B.blocks keyspace.old at.now) key.now (added end (list_at (sight B.blocks keyspace.old at.now) key.now) words.now)) keyspace.old keyspace.new) }
+    ensures forms { IfOk result
+        (λ reply. Formed B.blocks (risen_to at.now.db (sight B.blocks keyspace.old at.now) key.now (added end (list_at (sight B.blocks keyspace.old at.now) key.now) words.now))
+        keyspace.old keyspace.new) }
 {
     let alloc = keyspace.alloc();
     let found = seek(keyspace, at, key);

@@ -45,7 +45,8 @@ not_set (kinds.Zset box) other = refl
 not_set (kinds.Stream box) other = refl
 
 -- the set that was found at a key
-pub set_item : (bases : Bases) (m : Blocks) (at : Ctx) (key : List ℕ) (number : ℕ) (value : Value) (box : Box object.Members) → value ≡ kinds.Set box → StandsAt bases m at.db key at.moment number → Found bases m at.db key at.moment value → SetItem (seen at bases m) bases m at.db key at.moment number
+pub set_item : (bases : Bases) (m : Blocks) (at : Ctx) (key : List ℕ) (number : ℕ) (value : Value) (box : Box object.Members) → value ≡ kinds.Set box
+    → StandsAt bases m at.db key at.moment number → Found bases m at.db key at.moment value → SetItem (seen at bases m) bases m at.db key at.moment number
 set_item bases m at key number value box is there found = record {
   there = there;
   members = members m box.value;
@@ -74,12 +75,16 @@ same_limits a b is = cc
 
 -- and so are those of a value that stands at a key
 had_limits : (bases : Bases) (m : Blocks) (db : ℕ) (key : List ℕ) (value : Value) (own : Limits) → Sound bases m → HasValue bases m db key value → limits_of value ≡ Some own → own ≡ bases.limits
-had_limits bases m db key value own sound had is = sound_limits bases.limits own bases.seed m value (subst (IsSound bases.limits bases.seed m) had.is (sound.arranged.values db had.at had.element had.found)) is
+had_limits bases m db key value own sound had is = sound_limits bases.limits own bases.seed m value
+    (subst (IsSound bases.limits bases.seed m) had.is (sound.arranged.values db had.at had.element had.found)) is
 
-module _ {S T X : Type 0} (makes : T → T → Shape → Shape → Type 0) (own : Limits → Members → Form → Members → Form → Type 0) (left : ℕ) (first last : T) (blocks : S → Blocks) (old new : Keyspace S) (at : Ctx) (key : List ℕ)
+module _ {S T X : Type 0} (makes : T → T → Shape → Shape → Type 0) (own : Limits → Members → Form → Members → Form → Type 0) (left : ℕ) (first last : T) (blocks : S → Blocks)
+    (old new : Keyspace S) (at : Ctx) (key : List ℕ)
     (same : (o n : Shape) → makes first last o n → MakesSet own left o n) where
-  pub set_new : (fresh : Value) → value_of (blocks old.store) fresh ≡ SetOf empty → limits_of fresh ≡ Some old.bases.limits → ((f : Form) → encoding_of fresh ≡ OfForm f → IsLeast (FitsMembers old.bases.limits empty) f) → look (sight blocks old at) key ≡ None
-      → (result : Result (Unit {0}) X) → OnOk result (MakesNew makes first last blocks old new at key fresh) → OnOk result (SetChanged (Counting (own old.bases.limits) left) keep_any IsFormed blocks old new at key)
+  pub set_new : (fresh : Value) → value_of (blocks old.store) fresh ≡ SetOf empty → limits_of fresh ≡ Some old.bases.limits
+      → ((f : Form) → encoding_of fresh ≡ OfForm f → IsLeast (FitsMembers old.bases.limits empty) f) → look (sight blocks old at) key ≡ None
+      → (result : Result (Unit {0}) X) → OnOk result (MakesNew makes first last blocks old new at key fresh)
+      → OnOk result (SetChanged (Counting (own old.bases.limits) left) keep_any IsFormed blocks old new at key)
   set_new fresh is_empty limits_are least none (Err e) p = tt
   set_new fresh is_empty limits_are least none (Ok u) p =
       let q = same (shape (blocks old.store) fresh) p.is p.made in
@@ -93,11 +98,13 @@ module _ {S T X : Type 0} (makes : T → T → Shape → Shape → Type 0) (own 
         form = q.form;
         made = (subst (λ (l : Limits). own l empty q.from q.now q.form) limits (subst (λ (s : Members). own q.limits s q.from q.now q.form) nothing q.made), q.counted);
         was_form = least q.from q.was_form;
-        world = p.world ∙ ap (λ (v : model.Value). put (sight blocks old at) key (record { value = v; deadline = None })) q.is ∙ ap (λ (d : Option ℕ). put (sight blocks old at) key (record { value = SetOf q.now; deadline = d })) (sym (ap deadline_of none));
+        world = p.world ∙ ap (λ (v : model.Value). put (sight blocks old at) key (record { value = v; deadline = None })) q.is
+            ∙ ap (λ (d : Option ℕ). put (sight blocks old at) key (record { value = SetOf q.now; deadline = d })) (sym (ap deadline_of none));
         is = λ number e found bytes. ap encoding_of (p.only number e found bytes) ∙ p.encoded ∙ q.is_form;
       }
 
-  pub set_there : Sound old.bases (blocks old.store) → (result : Result (Unit {0}) X) → OnOk result (Edits makes first last blocks old new at key) → OnOk result (SetChanged (Counting (own old.bases.limits) left) keep_any IsFormed blocks old new at key)
+  pub set_there : Sound old.bases (blocks old.store) → (result : Result (Unit {0}) X) → OnOk result (Edits makes first last blocks old new at key)
+      → OnOk result (SetChanged (Counting (own old.bases.limits) left) keep_any IsFormed blocks old new at key)
   set_there sound (Err e) p = tt
   set_there sound (Ok u) p =
       let q = same (shape (blocks old.store) p.was) (shape (blocks new.store) p.now) p.made in
@@ -110,7 +117,8 @@ module _ {S T X : Type 0} (makes : T → T → Shape → Shape → Type 0) (own 
         form = q.form;
         made = (subst (λ (l : Limits). own l q.members q.from q.now q.form) limits q.made, q.counted);
         was_form = (p.was, p.had, q.was_form);
-        world = p.world ∙ ap (λ (v : model.Value). put (sight blocks old at) key (record { value = v; deadline = p.deadline })) q.is ∙ ap (λ (d : Option ℕ). put (sight blocks old at) key (record { value = SetOf q.now; deadline = d })) (sym (ap deadline_of p.stands));
+        world = p.world ∙ ap (λ (v : model.Value). put (sight blocks old at) key (record { value = v; deadline = p.deadline })) q.is
+            ∙ ap (λ (d : Option ℕ). put (sight blocks old at) key (record { value = SetOf q.now; deadline = d })) (sym (ap deadline_of p.stands));
         is = λ number e found bytes. ap encoding_of (p.only number e found bytes) ∙ q.is_form;
       }
 
@@ -122,7 +130,8 @@ kept_is old new key set some is = is ∙ sym (cond-false _ _ _ (ne_eqb (len set)
 gone_is : (old new : World) (key : List ℕ) (set : Members) → len set ≡ 0 → new ≡ remove old key → new ≡ keep_set old key set
 gone_is old new key set none is = is ∙ sym (cond-true _ _ _ (eq-eqb (len set) 0 none))
 
-module _ {S : Type 0} (own : Members → Form → Members → Form → Type 0) (left : ℕ) (blocks : S → Blocks) (old mid : Keyspace S) (at : Ctx) (key : List ℕ) (p : SetChanged (Counting own left) keep_any IsFormed blocks old mid at key) where
+module _ {S : Type 0} (own : Members → Form → Members → Form → Type 0) (left : ℕ) (blocks : S → Blocks) (old mid : Keyspace S) (at : Ctx) (key : List ℕ)
+    (p : SetChanged (Counting own left) keep_any IsFormed blocks old mid at key) where
   pub set_kept : 0 < left → SetChanged own keep_set IsLasting blocks old mid at key
   set_kept some =
       let lasts : 0 < len p.now = omega (arith, some, p.made.1) in
@@ -138,7 +147,8 @@ module _ {S : Type 0} (own : Members → Form → Members → Form → Type 0) (
         is = λ number e found bytes. (p.is number e found bytes, lasts);
       }
 
-  pub set_gone : left ≡ 0 → (new : Keyspace S) → sight blocks new at ≡ remove (sight blocks mid at) key → AllAt (λ value. ⊥) new.bases (blocks new.store) at.db key → SetChanged own keep_set IsLasting blocks old new at key
+  pub set_gone : left ≡ 0 → (new : Keyspace S) → sight blocks new at ≡ remove (sight blocks mid at) key → AllAt (λ value. ⊥) new.bases (blocks new.store) at.db key
+      → SetChanged own keep_set IsLasting blocks old new at key
   set_gone none new world gone = record {
     before = p.before;
     stands = p.stands;
@@ -147,12 +157,14 @@ module _ {S : Type 0} (own : Members → Form → Members → Form → Type 0) (
     form = p.form;
     made = p.made.0;
     was_form = p.was_form;
-    world = gone_is (sight blocks old at) (sight blocks new at) key p.now (omega (arith, none, p.made.1)) (world ∙ ap (λ (w : World). remove w key) p.world ∙ remove_put (sight blocks old at) key (record { value = SetOf p.now; deadline = deadline_of (look (sight blocks old at) key) }));
+    world = gone_is (sight blocks old at) (sight blocks new at) key p.now (omega (arith, none, p.made.1))
+        (world ∙ ap (λ (w : World). remove w key) p.world ∙ remove_put (sight blocks old at) key (record { value = SetOf p.now; deadline = deadline_of (look (sight blocks old at) key) }));
     is = λ number e found bytes. absurd (gone number e found bytes);
   }
 
 -- a key is removed after it was changed
-pub held_gone : {S : Type 0} (blocks : S → Blocks) (step : S → S → Type 0) (db : ℕ) (key : List ℕ) (old mid new : Keyspace S) → Held blocks step (one_key db key) old mid → Held blocks step (no_key db) mid new → Held blocks step (one_key db key) old new
+pub held_gone : {S : Type 0} (blocks : S → Blocks) (step : S → S → Type 0) (db : ℕ) (key : List ℕ) (old mid new : Keyspace S) → Held blocks step (one_key db key) old mid
+    → Held blocks step (no_key db) mid new → Held blocks step (one_key db key) old new
 held_gone blocks step db key old mid new p q =
     held_then blocks step (one_key db key) old mid new p
     (record {

@@ -48,7 +48,8 @@ once_passing test (x ∷ xs) once =
     let parts = once_parts x xs once in
     let rest = once_passing test xs parts.1 in
     elim (cases_Bool (test x)) [
-      | inl passes ↦ ap (λ l. len (set_of l)) (cond-true _ _ _ passes) ∙ once_cons x (filter test xs) (among_passing test x xs ∙ ap (λ b. b && test x) parts.0) rest ∙ sym (ap length (cond-true _ _ _ passes))
+      | inl passes ↦ ap (λ l. len (set_of l)) (cond-true _ _ _ passes) ∙ once_cons x (filter test xs) (among_passing test x xs ∙ ap (λ b. b && test x) parts.0) rest
+          ∙ sym (ap length (cond-true _ _ _ passes))
       | inr fails ↦ ap (λ l. len (set_of l)) (cond-false _ _ _ fails) ∙ rest ∙ sym (ap length (cond-false _ _ _ fails))
     ]
 
@@ -68,7 +69,8 @@ none_counted limit world keys none = (
   below_limit limit 0 (λ some. some) ∙ ap (at_most limit) (sym (len-empty (slice_cmp nat_cmp) (Unit {0}))),
 )
 
-pub shared_counted : (limit : ℕ) (world : World) (keys : List (List ℕ)) (i : ℕ) (key : List ℕ) (names : List (List ℕ)) (count : ℕ) → i < length keys → key ≡ get_or keys i key → set_of names ≡ set_at world key → IsOnce names
+pub shared_counted : (limit : ℕ) (world : World) (keys : List (List ℕ)) (i : ℕ) (key : List ℕ) (names : List (List ℕ)) (count : ℕ) → i < length keys → key ≡ get_or keys i key
+    → set_of names ≡ set_at world key → IsOnce names
     → count ≡ at_most limit (length (filter (in_all (sets_here world keys)) names)) → IsCounted limit (sets_here world keys) count
 shared_counted limit world keys i key names count inside is same once counted =
     let test = in_all (sets_here world keys) in (

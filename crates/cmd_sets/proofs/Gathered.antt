@@ -27,7 +27,8 @@ ok_as (Err e) f p = tt
 
 -- ---- the members of a set, one after the other
 
-pub one_name : (list : List (List ℕ)) (k : ℕ) (names new : List (List ℕ)) (name : List ℕ) → k < length list → names ≡ take k list → name ≡ get_or list k [] → new ≡ names ++ name ∷ [] → new ≡ take (k + 1) list
+pub one_name : (list : List (List ℕ)) (k : ℕ) (names new : List (List ℕ)) (name : List ℕ) → k < length list → names ≡ take k list → name ≡ get_or list k [] → new ≡ names ++ name ∷ []
+    → new ≡ take (k + 1) list
 one_name list k names new name inside so_far is pushed =
     pushed ∙ ap (λ l. l ++ name ∷ []) so_far ∙ ap (λ x. take k list ++ x ∷ []) is ∙ sym (take_more list k [] inside)
 

@@ -46,7 +46,8 @@ use Rattle.cmd_sets.proofs.Telling.{on_before, before_is}
 from_there : (old : World) (from to member : List ℕ) (set : Members) → HasSet old from set → set_outcome old (sets.SMove from to member) ≡ on_set old to (move_to old from to member set)
 from_there old from to member set stands = on_before old from (Some set) (move_from old from to member) stands
 
-both_there : (old : World) (from to member : List ℕ) (set : Members) (target : Option Members) → HasSet old from set → IsBefore old to target → set_outcome old (sets.SMove from to member) ≡ move_to old from to member set target
+both_there : (old : World) (from to member : List ℕ) (set : Members) (target : Option Members) → HasSet old from set → IsBefore old to target
+    → set_outcome old (sets.SMove from to member) ≡ move_to old from to member set target
 both_there old from to member set target stands other = from_there old from to member set stands ∙ on_before old to target (move_to old from to member set) other
 
 -- no set stands there
@@ -63,15 +64,19 @@ pub to_refuses : (old : World) (from to member : List ℕ) (set : Members) → H
 to_refuses old from to member set stands found = from_there old from to member set stands ∙ refuses old to (move_to old from to member set) found
 
 -- the member isn't there
-pub lacks_moves : (old : World) (from to member : List ℕ) (set : Members) (target : Option Members) → HasSet old from set → IsBefore old to target → has set member ≡ false → set_outcome old (sets.SMove from to member) ≡ tells_number (pos 0) old
+pub lacks_moves : (old : World) (from to member : List ℕ) (set : Members) (target : Option Members) → HasSet old from set → IsBefore old to target → has set member ≡ false
+    → set_outcome old (sets.SMove from to member) ≡ tells_number (pos 0) old
 lacks_moves old from to member set target stands other lacks = both_there old from to member set target stands other ∙ cond-false _ _ _ lacks
 
 -- both are one set
-pub same_moves : (old : World) (from to member : List ℕ) (set : Members) (target : Option Members) → HasSet old from set → IsBefore old to target → has set member ≡ true → bytes_eq from to ≡ true → set_outcome old (sets.SMove from to member) ≡ tells_number (pos 1) old
+pub same_moves : (old : World) (from to member : List ℕ) (set : Members) (target : Option Members) → HasSet old from set → IsBefore old to target → has set member ≡ true
+    → bytes_eq from to ≡ true → set_outcome old (sets.SMove from to member) ≡ tells_number (pos 1) old
 same_moves old from to member set target stands other there same = both_there old from to member set target stands other ∙ cond-true _ _ _ there ∙ cond-true _ _ _ same
 
 -- the member goes
-pub goes_moves : (old : World) (from to member : List ℕ) (move : IsMove old from to member) → set_outcome old (sets.SMove from to member) ≡ tells_number (pos 1) (keep_set (keep_set old from (finite.remove move.members member)) to (insert (or_no_members move.before) member tt))
+pub goes_moves : (old : World) (from to member : List ℕ) (move : IsMove old from to member)
+    → set_outcome old (sets.SMove from to member) ≡ tells_number (pos 1)
+    (keep_set (keep_set old from (finite.remove move.members member)) to (insert (or_no_members move.before) member tt))
 goes_moves old from to member move = both_there old from to member move.members move.before move.stands move.target ∙ cond-true _ _ _ move.there ∙ cond-false _ _ _ move.apart
 
 -- ---- the other key
@@ -96,19 +101,22 @@ one_before world key (Some set) None p q = some_none _ _ p.stands q
 one_before world key (Some set) (Some other) p q = before_is world key (Some set) other p q
 
 -- the item number of a set that was sought
-found_item : (bases : Bases) (m : Blocks) (at : Ctx) (key : List ℕ) (deadline : Option ℕ) (before : Option Members) → IsBefore (seen at bases m) key before → (o : Option ℕ) → IfSome o (λ item. StandsAt bases m at.db key at.moment item) → IfSome o (λ item. HasUntil (seen at bases m) key deadline) → IfNone o (look (seen at bases m) key ≡ None)
+found_item : (bases : Bases) (m : Blocks) (at : Ctx) (key : List ℕ) (deadline : Option ℕ) (before : Option Members) → IsBefore (seen at bases m) key before → (o : Option ℕ)
+    → IfSome o (λ item. StandsAt bases m at.db key at.moment item) → IfSome o (λ item. HasUntil (seen at bases m) key deadline) → IfNone o (look (seen at bases m) key ≡ None)
     → IsSetThere (seen at bases m) bases m at.db key at.moment o
 found_item bases m at key deadline before is None there until gone = gone
 found_item bases m at key deadline None is (Some item) there until gone = some_none _ _ until.stands is
 found_item bases m at key deadline (Some set) is (Some item) there until gone = record { there = there; members = set; has = is }
 
-pub sought_item : {S : Type 0} (blocks : S → Blocks) (keyspace : Keyspace S) (at : Ctx) (key : List ℕ) (found : SoughtAt) (before : Option Members) → Sees blocks keyspace at key found → IsBefore (sight blocks keyspace at) key before → IsSetThere (sight blocks keyspace at) keyspace.bases (blocks keyspace.store) at.db key at.moment found.there
+pub sought_item : {S : Type 0} (blocks : S → Blocks) (keyspace : Keyspace S) (at : Ctx) (key : List ℕ) (found : SoughtAt) (before : Option Members) → Sees blocks keyspace at key found
+    → IsBefore (sight blocks keyspace at) key before → IsSetThere (sight blocks keyspace at) keyspace.bases (blocks keyspace.store) at.db key at.moment found.there
 sought_item blocks keyspace at key found before sees is = found_item keyspace.bases (blocks keyspace.store) at key found.deadline before is found.there sees.there sees.until sees.gone
 
 -- the one set without the member, and the other one with it
 pub moved_is : (limits : Limits) (old mid new : World) (from to member : List ℕ) (move : IsMove old from to member) (word : List ℕ) → word ≡ member
     → (before : Option Members) (source form : Form) (many : ℕ) (now : Members) → IsBefore old from before → Drops (word ∷ []) many (or_no_members before) source now form → mid ≡ keep_set old from now
-    → (target : Option Members) (other_source other_form : Form) (more : ℕ) (other : Members) → IsBefore mid to target → Adds limits (word ∷ []) more (or_no_members target) other_source other other_form → new ≡ keep_set mid to other
+    → (target : Option Members) (other_source other_form : Form) (more : ℕ) (other : Members) → IsBefore mid to target
+    → Adds limits (word ∷ []) more (or_no_members target) other_source other other_form → new ≡ keep_set mid to other
     → set_outcome old (sets.SMove from to member) ≡ tells_number (pos 1) new
 moved_is limits old mid new from to member move word same before source form many now stands p first target other_source other_form more other met q second =
     let left : now ≡ finite.remove move.members member =
@@ -128,7 +136,8 @@ module _ {S : Type 0} (blocks : S → Blocks) (step : S → S → Type 0) (db : 
     sound = p.sound;
     served = p.served;
     settings = p.settings;
-    within = within_wider value_refs (one_key db from) (two_keys db from db to) (λ number here. inl here) (λ number key named. inl named) (λ number no. no) old.bases new.bases (blocks old.store) (blocks new.store) p.within;
+    within = within_wider value_refs (one_key db from) (two_keys db from db to) (λ number here. inl here) (λ number key named. inl named) (λ number no. no) old.bases new.bases
+        (blocks old.store) (blocks new.store) p.within;
   }
 
   held_to : (old new : Keyspace S) → Held blocks step (one_key db to) old new → Held blocks step (two_keys db from db to) old new
@@ -136,7 +145,8 @@ module _ {S : Type 0} (blocks : S → Blocks) (step : S → S → Type 0) (db : 
     sound = p.sound;
     served = p.served;
     settings = p.settings;
-    within = within_wider value_refs (one_key db to) (two_keys db from db to) (λ number here. inr here) (λ number key named. inr named) (λ number no. no) old.bases new.bases (blocks old.store) (blocks new.store) p.within;
+    within = within_wider value_refs (one_key db to) (two_keys db from db to) (λ number here. inr here) (λ number key named. inr named) (λ number no. no) old.bases new.bases
+        (blocks old.store) (blocks new.store) p.within;
   }
 
   pub held_both : (old mid new : Keyspace S) → Held blocks step (one_key db from) old mid → Held blocks step (one_key db to) mid new → Held blocks step (two_keys db from db to) old new
@@ -150,7 +160,8 @@ among_own : (r : BlockRef) (rest : List BlockRef) → 0 < times r (r ∷ rest)
 among_own r rest = let itself : one_if (ref_eq r r) ≡ 1 = cond-true _ _ _ (ref_eq-refl r) in omega (arith, itself)
 
 -- a value that stands at another key than the written one stood there before
-had_before : (old mid : Bases) (m after : Blocks) (db : ℕ) (from to : List ℕ) (value : Value) → (to ≡ from → ⊥) → Within (one_key db from) old mid m after → HasValue mid after db to value → HasValue old m db to value
+had_before : (old mid : Bases) (m after : Blocks) (db : ℕ) (from to : List ℕ) (value : Value) → (to ≡ from → ⊥) → Within (one_key db from) old mid m after → HasValue mid after db to value
+    → HasValue old m db to value
 had_before old mid m after db from to value apart within has =
     let bytes = has.bytes in
     let stayed = within.stayed db has.at has.element has.found (λ named. apart (sym (bytes_are after has.element.key to bytes) ∙ named.1)) in
@@ -161,10 +172,12 @@ source_before : (there : Bool) (limits : Limits) (old mid : Bases) (m after : Bl
 source_before true limits old mid m after db from to form apart within is = (is.0, had_before old mid m after db from to is.0 apart within is.1, is.2)
 source_before false limits old mid m after db from to form apart within is = is
 
-module _ {S : Type 0} (blocks : S → Blocks) (step : S → S → Type 0) (old mid new : Keyspace S) (at : Ctx) (from to member : List ℕ) (p : Held blocks step (one_key at.db from) old mid) (q : Held blocks step (one_key at.db to) mid new)
+module _ {S : Type 0} (blocks : S → Blocks) (step : S → S → Type 0) (old mid new : Keyspace S) (at : Ctx) (from to member : List ℕ) (p : Held blocks step (one_key at.db from) old mid)
+    (q : Held blocks step (one_key at.db to) mid new)
     (apart : to ≡ from → ⊥) (same : look (sight blocks mid at) to ≡ look (sight blocks old at) to) where
   -- what rose over the databases between rose over those before
-  risen_before : (value : Value) → HasForm (set_with at.db (sight blocks mid at) to (member ∷ [])) mid.bases (blocks mid.store) value → HasForm (set_with at.db (sight blocks old at) to (member ∷ [])) old.bases (blocks old.store) value
+  risen_before : (value : Value) → HasForm (set_with at.db (sight blocks mid at) to (member ∷ [])) mid.bases (blocks mid.store) value
+      → HasForm (set_with at.db (sight blocks old at) to (member ∷ [])) old.bases (blocks old.store) value
   risen_before value risen = record {
     from = risen.from;
     form = risen.form;
@@ -176,8 +189,10 @@ module _ {S : Type 0} (blocks : S → Blocks) (step : S → S → Type 0) (old m
         (subst (λ (o : Option Entry). RisesWith mid.bases.limits risen.from (set_of o) (member ∷ []) risen.form) same risen.risen);
   }
 
-  pub formed_both : Formed blocks (AsAt at.db from) old mid → Formed blocks (set_with at.db (sight blocks mid at) to (member ∷ [])) mid new → Formed blocks (set_form at.db (sight blocks old at) (sets.SMove from to member)) old new
+  pub formed_both : Formed blocks (AsAt at.db from) old mid → Formed blocks (set_with at.db (sight blocks mid at) to (member ∷ [])) mid new
+      → Formed blocks (set_form at.db (sight blocks old at) (sets.SMove from to member)) old new
   formed_both first second =
-      written_then value_refs (HasForm (Either (AsAt at.db from) (set_with at.db (sight blocks old at) to (member ∷ []))) old.bases (blocks old.store)) old.bases mid.bases new.bases (blocks old.store) (blocks mid.store) (blocks new.store)
+      written_then value_refs (HasForm (Either (AsAt at.db from) (set_with at.db (sight blocks old at) to (member ∷ []))) old.bases (blocks old.store)) old.bases mid.bases new.bases
+      (blocks old.store) (blocks mid.store) (blocks new.store)
       (λ number i e found. elim (first number i e found) [ inl stayed ↦ inl stayed | inr is ↦ inr (inl is) ])
       (λ number i e found. elim (second number i e found) [ inl stayed ↦ inl stayed | inr is ↦ inr (inr (risen_before e.value is)) ])

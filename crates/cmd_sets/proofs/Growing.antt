@@ -1,5 +1,6 @@
 -- Members put into a set one after the other, and taken out of it.
-use Rattle.std.proofs.Common.{◌+◌, length, get_or, drop, drop-cons, add-one, ◌≡◌, ◌≢◌, inl, inr, ◌⊎◌, ℕ, zero, suc, ◌<◌, ◌≤◌, Bool, true, false, not, List, [], ◌∷◌, Result, Ok, Err, refl, sym, ap, subst, ◌∙◌, arith}
+use Rattle.std.proofs.Common.{◌+◌, length, get_or, drop, drop-cons, add-one, ◌≡◌, ◌≢◌, inl, inr, ◌⊎◌, ℕ, zero, suc, ◌<◌, ◌≤◌, Bool, true, false, not, List, [], ◌∷◌, Result, Ok, Err, refl}
+use Rattle.std.proofs.Common.{sym, ap, subst, ◌∙◌, arith}
 use Rattle.std.specs.Prelude.{IfOk, OnErr}
 use Rattle.std.specs.FinMap.{insert, remove, len}
 use Rattle.std.proofs.lemmas.Bool.{cond-true, cond-false, cases_Bool}
@@ -81,12 +82,14 @@ is_true true h = refl
 is_true false h = cc
 
 module _ {E : Type 0} (m after : Blocks) (old new : object.Members) (x : List ℕ) where
-  pub added_goes : (r : Result Bool E) → IsMembers m old → (r ≡ Ok true → IsChanged m after old new (insert (members m old) x tt)) → (r ≢ Ok true → new ≡ old) → (r ≢ Ok true → after ≡ m) → Goes m after old new
+  pub added_goes : (r : Result Bool E) → IsMembers m old → (r ≡ Ok true → IsChanged m after old new (insert (members m old) x tt)) → (r ≢ Ok true → new ≡ old) → (r ≢ Ok true → after ≡ m)
+      → Goes m after old new
   added_goes (Ok true) sound added same_set same_blocks = changed m after old new _ (added refl)
   added_goes (Ok false) sound added same_set same_blocks = stays m after old new sound (same_set (λ e. cc)) (same_blocks (λ e. cc))
   added_goes (Err e) sound added same_set same_blocks = stays m after old new sound (same_set (λ e. cc)) (same_blocks (λ e. cc))
 
-  added_either : (r : Result Bool E) → IfOk r (λ is. is ≡ not (has (members m old) x)) → (r ≡ Ok true → IsChanged m after old new (insert (members m old) x tt)) → (r ≡ Ok true → IsRisen old.limits (form_of old) (insert (members m old) x tt) (form_of new)) → (r ≢ Ok true → new ≡ old) → (r ≢ Ok true → after ≡ m)
+  added_either : (r : Result Bool E) → IfOk r (λ is. is ≡ not (has (members m old) x)) → (r ≡ Ok true → IsChanged m after old new (insert (members m old) x tt))
+      → (r ≡ Ok true → IsRisen old.limits (form_of old) (insert (members m old) x tt) (form_of new)) → (r ≢ Ok true → new ≡ old) → (r ≢ Ok true → after ≡ m)
       → IfOk r (λ is. (members after new ≡ insert (members m old) x tt) × RisesTo old.limits (form_of old) (members m old) x (form_of new))
   added_either (Ok true) there added form same_set same_blocks = (
     (added refl).members_are,
@@ -99,7 +102,8 @@ module _ {E : Type 0} (m after : Blocks) (old new : object.Members) (x : List �
       )
   added_either (Err e) there added form same_set same_blocks = tt
 
-  pub added_is : (r : Result Bool E) → IfOk r (λ is. is ≡ not (has (members m old) x)) → (r ≡ Ok true → IsChanged m after old new (insert (members m old) x tt)) → (r ≡ Ok true → IsRisen old.limits (form_of old) (insert (members m old) x tt) (form_of new)) → (r ≢ Ok true → new ≡ old) → (r ≢ Ok true → after ≡ m)
+  pub added_is : (r : Result Bool E) → IfOk r (λ is. is ≡ not (has (members m old) x)) → (r ≡ Ok true → IsChanged m after old new (insert (members m old) x tt))
+      → (r ≡ Ok true → IsRisen old.limits (form_of old) (insert (members m old) x tt) (form_of new)) → (r ≢ Ok true → new ≡ old) → (r ≢ Ok true → after ≡ m)
       → (done : Bool) → r ≡ Ok done → (members after new ≡ insert (members m old) x tt) × RisesTo old.limits (form_of old) (members m old) x (form_of new)
   added_is r there added form same_set same_blocks done is = from_ok r done is (added_either r there added form same_set same_blocks)
 
@@ -128,7 +132,8 @@ left_some Stream (suc n) some = refl
 
 module _ {E : Type 0} (m after : Blocks) (old new : object.Members) (x : List ℕ) where
   pub removed_goes : (r : Result Bool E) → IsMembers m old → (r ≡ Ok true → IsChanged m after old new (remove (members m old) x)) → (r ≡ Ok false → new ≡ old) → (r ≡ Ok false → after ≡ m)
-      → OnErr r (form_of old ≢ Hashtable → new ≡ old) → OnErr r (form_of old ≢ Hashtable → after ≡ m) → OnErr r (form_of old ≡ Hashtable → IsChanged m after old new (remove (members m old) x)) → Goes m after old new
+      → OnErr r (form_of old ≢ Hashtable → new ≡ old) → OnErr r (form_of old ≢ Hashtable → after ≡ m)
+      → OnErr r (form_of old ≡ Hashtable → IsChanged m after old new (remove (members m old) x)) → Goes m after old new
   removed_goes (Ok true) sound removed same_set same_blocks err_set err_blocks err_removed = changed m after old new _ (removed refl)
   removed_goes (Ok false) sound removed same_set same_blocks err_set err_blocks err_removed = stays m after old new sound (same_set refl) (same_blocks refl)
   removed_goes (Err e) sound removed same_set same_blocks err_set err_blocks err_removed = elim (cases_form (form_of old)) [
@@ -136,7 +141,8 @@ module _ {E : Type 0} (m after : Blocks) (old new : object.Members) (x : List �
     | inr packed ↦ stays m after old new sound (err_set packed) (err_blocks packed)
   ]
 
-  removed_either : (r : Result Bool E) → IfOk r (λ was. was ≡ has (members m old) x) → (r ≡ Ok true → IsChanged m after old new (remove (members m old) x)) → (r ≡ Ok true → form_of new ≡ form_left (form_of old) (len (remove (members m old) x))) → (r ≡ Ok false → new ≡ old) → (r ≡ Ok false → after ≡ m)
+  removed_either : (r : Result Bool E) → IfOk r (λ was. was ≡ has (members m old) x) → (r ≡ Ok true → IsChanged m after old new (remove (members m old) x))
+      → (r ≡ Ok true → form_of new ≡ form_left (form_of old) (len (remove (members m old) x))) → (r ≡ Ok false → new ≡ old) → (r ≡ Ok false → after ≡ m)
       → IfOk r (λ was. (members after new ≡ remove (members m old) x) × (0 < len (remove (members m old) x) → form_of new ≡ form_of old))
   removed_either (Ok true) there removed form same_set same_blocks = ((removed refl).members_are, λ some. form refl ∙ left_some (form_of old) _ some)
   removed_either (Ok false) there removed form same_set same_blocks = (
@@ -145,7 +151,8 @@ module _ {E : Type 0} (m after : Blocks) (old new : object.Members) (x : List �
   )
   removed_either (Err e) there removed form same_set same_blocks = tt
 
-  pub removed_is : (r : Result Bool E) → IfOk r (λ was. was ≡ has (members m old) x) → (r ≡ Ok true → IsChanged m after old new (remove (members m old) x)) → (r ≡ Ok true → form_of new ≡ form_left (form_of old) (len (remove (members m old) x))) → (r ≡ Ok false → new ≡ old) → (r ≡ Ok false → after ≡ m)
+  pub removed_is : (r : Result Bool E) → IfOk r (λ was. was ≡ has (members m old) x) → (r ≡ Ok true → IsChanged m after old new (remove (members m old) x))
+      → (r ≡ Ok true → form_of new ≡ form_left (form_of old) (len (remove (members m old) x))) → (r ≡ Ok false → new ≡ old) → (r ≡ Ok false → after ≡ m)
       → (done : Bool) → r ≡ Ok done → (members after new ≡ remove (members m old) x) × (0 < len (remove (members m old) x) → form_of new ≡ form_of old)
   removed_is r there removed form same_set same_blocks done is = from_ok r done is (removed_either r there removed form same_set same_blocks)
 

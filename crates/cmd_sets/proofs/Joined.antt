@@ -56,7 +56,8 @@ set_passes world key keys there = sym (both (source set_in empty (look world key
 pub missing_passes : (world : World) (key : List ℕ) (keys : List (List ℕ)) → look world key ≡ None → is_some (sets_at world keys) ≡ is_some (sets_at world (key ∷ keys))
 missing_passes world key keys none = set_passes world key keys (ap (λ (o : Option Entry). is_some (source set_in empty o)) none)
 
-pub found_passes : (world : World) (m : Blocks) (key : List ℕ) (keys : List (List ℕ)) (set : object.Members) → FoundSet world m key set → is_some (sets_at world keys) ≡ is_some (sets_at world (key ∷ keys))
+pub found_passes : (world : World) (m : Blocks) (key : List ℕ) (keys : List (List ℕ)) (set : object.Members) → FoundSet world m key set
+    → is_some (sets_at world keys) ≡ is_some (sets_at world (key ∷ keys))
 found_passes world m key keys set found = set_passes world key keys (ap (λ (o : Option Entry). is_some (source set_in empty o)) found.stands)
 
 pub other_stops : (world : World) (key : List ℕ) (keys : List (List ℕ)) → FoundOther world key → is_some (sets_at world (key ∷ keys)) ≡ false
@@ -116,7 +117,8 @@ within true false so = refl
 within false true so = let e : false ≡ true = so refl in cc
 within false false so = refl
 
-pub inter_is : (world : World) (keys : List (List ℕ)) (i : ℕ) (key : List ℕ) (names m : Members) → i < length keys → key ≡ get_or keys i key → names ≡ set_at world key → ((q : List ℕ) → has m q ≡ (has names q && in_all (sets_here world keys) q)) → IsJoin Inter (sets_here world keys) m
+pub inter_is : (world : World) (keys : List (List ℕ)) (i : ℕ) (key : List ℕ) (names m : Members) → i < length keys → key ≡ get_or keys i key → names ≡ set_at world key
+    → ((q : List ℕ) → has m q ≡ (has names q && in_all (sets_here world keys) q)) → IsJoin Inter (sets_here world keys) m
 inter_is world [] i key names m inside is same h q = absurd (omega (arith, inside))
 inter_is world (k ∷ keys) i key names m inside is same h q =
     h q ∙ within (has names q) (in_all (sets_here world (k ∷ keys)) q) (λ all. ap (λ (s : Members). has s q) same ∙ each_has world (k ∷ keys) i key q inside is all)
@@ -148,13 +150,15 @@ tells_join how own joined reply is told = (
   told.2,
 )
 
-pub join_told : {E : Type 0} (seed : ℕ) (old : World) (how : SetJoin) (keys : List (List ℕ)) (joined : Members) (result : Result (List Part) E) → is_some (sets_at old keys) ≡ true → IsJoin how (sets_here old keys) joined → IfOk result (λ reply. AreMembers (Some joined) reply)
+pub join_told : {E : Type 0} (seed : ℕ) (old : World) (how : SetJoin) (keys : List (List ℕ)) (joined : Members) (result : Result (List Part) E) → is_some (sets_at old keys) ≡ true
+    → IsJoin how (sets_here old keys) joined → IfOk result (λ reply. AreMembers (Some joined) reply)
     → IfOk result (λ reply. may_sets seed old (sets.SJoin how keys) reply old)
 join_told seed old how keys joined (Ok reply) there is told =
     subst (λ (o : Option (List Members)). may_tell_of old o (TellsJoin how) reply old) (sym (sets_are old keys there)) (tells_join how (sets_here old keys) joined reply is told, refl)
 join_told seed old how keys joined (Err x) there is told = tt
 
-pub join_refused : {E : Type 0} (seed : ℕ) (old : World) (how : SetJoin) (keys : List (List ℕ)) (result : Result (List Part) E) → is_some (sets_at old keys) ≡ false → IfOk result (λ reply. reply ≡ Refused WrongType ∷ [])
+pub join_refused : {E : Type 0} (seed : ℕ) (old : World) (how : SetJoin) (keys : List (List ℕ)) (result : Result (List Part) E) → is_some (sets_at old keys) ≡ false
+    → IfOk result (λ reply. reply ≡ Refused WrongType ∷ [])
     → IfOk result (λ reply. may_sets seed old (sets.SJoin how keys) reply old)
 join_refused seed old how keys (Ok reply) other is = subst (λ (o : Option (List Members)). may_tell_of old o (TellsJoin how) reply old) (sym (none_of (sets_at old keys) other)) (is, refl)
 join_refused seed old how keys (Err x) other is = tt
@@ -165,25 +169,29 @@ count_told seed old keys limit n (Ok reply) there counted told =
     subst (λ (o : Option (List Members)). may_tell_of old o (CountsJoin limit) reply old) (sym (sets_are old keys there)) ((counted.0, counted.1, told ∙ ap (λ k. Number (pos k) ∷ []) counted.2), refl)
 count_told seed old keys limit n (Err x) there counted told = tt
 
-pub count_refused : {E : Type 0} (seed : ℕ) (old : World) (keys : List (List ℕ)) (limit : ℕ) (result : Result (List Part) E) → is_some (sets_at old keys) ≡ false → IfOk result (λ reply. reply ≡ Refused WrongType ∷ [])
+pub count_refused : {E : Type 0} (seed : ℕ) (old : World) (keys : List (List ℕ)) (limit : ℕ) (result : Result (List Part) E) → is_some (sets_at old keys) ≡ false
+    → IfOk result (λ reply. reply ≡ Refused WrongType ∷ [])
     → IfOk result (λ reply. may_sets seed old (sets.SInterCard keys limit) reply old)
 count_refused seed old keys limit (Ok reply) other is = subst (λ (o : Option (List Members)). may_tell_of old o (CountsJoin limit) reply old) (sym (none_of (sets_at old keys) other)) (is, refl)
 count_refused seed old keys limit (Err x) other is = tt
 
-pub stored_told : {E : Type 0} (seed : ℕ) (old new : World) (how : SetJoin) (to : List ℕ) (keys : List (List ℕ)) (n : ℕ) (joined : Members) (result : Result (List Part) E) → is_some (sets_at old keys) ≡ true → IsJoin how (sets_here old keys) joined
+pub stored_told : {E : Type 0} (seed : ℕ) (old new : World) (how : SetJoin) (to : List ℕ) (keys : List (List ℕ)) (n : ℕ) (joined : Members) (result : Result (List Part) E)
+    → is_some (sets_at old keys) ≡ true → IsJoin how (sets_here old keys) joined
     → n ≡ len joined → new ≡ store_set old to joined → IfOk result (λ reply. reply ≡ Number (pos n) ∷ []) → IfOk result (λ reply. may_sets seed old (sets.SJoinStore how to keys) reply new)
 stored_told seed old new how to keys n joined (Ok reply) there is counted world told =
     subst (λ (o : Option (List Members)). may_do_of old o (StoresJoin old to how) reply new) (sym (sets_are old keys there)) (joined, is, (told ∙ ap (λ k. Number (pos k) ∷ []) counted, world))
 stored_told seed old new how to keys n joined (Err x) there is counted world told = tt
 
-pub stored_refused : {E : Type 0} (seed : ℕ) (old : World) (how : SetJoin) (to : List ℕ) (keys : List (List ℕ)) (result : Result (List Part) E) → is_some (sets_at old keys) ≡ false → IfOk result (λ reply. reply ≡ Refused WrongType ∷ [])
+pub stored_refused : {E : Type 0} (seed : ℕ) (old : World) (how : SetJoin) (to : List ℕ) (keys : List (List ℕ)) (result : Result (List Part) E) → is_some (sets_at old keys) ≡ false
+    → IfOk result (λ reply. reply ≡ Refused WrongType ∷ [])
     → IfOk result (λ reply. may_sets seed old (sets.SJoinStore how to keys) reply old)
 stored_refused seed old how to keys (Ok reply) other is = subst (λ (o : Option (List Members)). may_do_of old o (StoresJoin old to how) reply old) (sym (none_of (sets_at old keys) other)) (is, refl)
 stored_refused seed old how to keys (Err x) other is = tt
 
 -- ---- steps over keys
 
-pub added_key : (world : World) (list others : List (List ℕ)) (key : List ℕ) (old new set : Members) → list ≡ key ∷ others → set ≡ set_at world key → ((q : List ℕ) → has new q ≡ (has old q || has set q))
+pub added_key : (world : World) (list others : List (List ℕ)) (key : List ℕ) (old new set : Members) → list ≡ key ∷ others → set ≡ set_at world key
+    → ((q : List ℕ) → has new q ≡ (has old q || has set q))
     → (q : List ℕ) → (has new q || in_any (sets_here world others) q) ≡ (has old q || in_any (sets_here world list) q)
 added_key world list others key old new set is same h q =
     ap (λ b. b || in_any (sets_here world others) q) (h q ∙ ap (λ (s : Members). has old q || has s q) same)
@@ -193,7 +201,8 @@ added_key world list others key old new set is same h q =
 pub added_keys : (world : World) (list : List (List ℕ)) (all : Members) → list ≡ [] → (q : List ℕ) → has all q ≡ (has all q || in_any (sets_here world list) q)
 added_keys world list all none q = sym (ap (λ (l : List (List ℕ)). has all q || in_any (sets_here world l) q) none ∙ or_false (has all q))
 
-pub dropped_key : (world : World) (list others : List (List ℕ)) (key : List ℕ) (old new set : Members) → list ≡ key ∷ others → set ≡ set_at world key → ((q : List ℕ) → has new q ≡ (has old q && not (has set q)))
+pub dropped_key : (world : World) (list others : List (List ℕ)) (key : List ℕ) (old new set : Members) → list ≡ key ∷ others → set ≡ set_at world key
+    → ((q : List ℕ) → has new q ≡ (has old q && not (has set q)))
     → (q : List ℕ) → (has new q && not (in_any (sets_here world others) q)) ≡ (has old q && not (in_any (sets_here world list) q))
 dropped_key world list others key old new set is same h q =
     ap (λ b. b && not (in_any (sets_here world others) q)) (h q ∙ ap (λ (s : Members). has old q && not (has s q)) same)
@@ -225,14 +234,16 @@ pub none_joined : (how : SetJoin) (world : World) (keys : List (List ℕ)) (m : 
 none_joined how world [] m none h = none_join how m h
 none_joined how world (k ∷ keys) m none h = absurd (omega (arith, none))
 
-pub diff_of : (world : World) (keys others : List (List ℕ)) (key : List ℕ) (names m : Members) → keys ≡ key ∷ others → names ≡ set_at world key → ((q : List ℕ) → has m q ≡ (has names q && not (in_any (sets_here world others) q)))
+pub diff_of : (world : World) (keys others : List (List ℕ)) (key : List ℕ) (names m : Members) → keys ≡ key ∷ others → names ≡ set_at world key
+    → ((q : List ℕ) → has m q ≡ (has names q && not (in_any (sets_here world others) q)))
     → IsJoin Diff (sets_here world keys) m
 diff_of world keys others key names m is same h =
     subst (λ (l : List (List ℕ)). IsJoin Diff (sets_here world l) m) (sym is)
     (diff_is (set_at world key) (sets_here world others) m (λ q. h q ∙ ap (λ (s : Members). has s q && not (in_any (sets_here world others) q)) same))
 
 -- a set that has just the members of a join is encoded as one
-pub stored_form : (world : World) (how : SetJoin) (keys : List (List ℕ)) (joined : Members) (old : Bases) (value : Value) → is_some (sets_at world keys) ≡ true → IsJoin how (sets_here world keys) joined → forms.IsNewSet (has joined) old value
+pub stored_form : (world : World) (how : SetJoin) (keys : List (List ℕ)) (joined : Members) (old : Bases) (value : Value) → is_some (sets_at world keys) ≡ true
+    → IsJoin how (sets_here world keys) joined → forms.IsNewSet (has joined) old value
     → forms.IsNewSet (is_joined how (or_no_sources (sets_at world keys))) old value
 stored_form world how keys joined old value there is n = record {
   members = n.members;

@@ -1,5 +1,6 @@
 -- All members of a set, each once.
-use Rattle.std.proofs.Common.{◌≡◌, inl, inr, ℕ, suc, ◌+◌, ◌<◌, ◌≤◌, Bool, true, false, cond, List, [], ◌∷◌, ◌++◌, length, map, take, get_or, Option, None, Some, Result, Ok, Err, IfOk, refl, sym, ap, ◌∙◌, subst, arith}
+use Rattle.std.proofs.Common.{◌≡◌, inl, inr, ℕ, suc, ◌+◌, ◌<◌, ◌≤◌, Bool, true, false, cond, List, [], ◌∷◌, ◌++◌, length, map, take, get_or, Option, None, Some, Result, Ok, Err, IfOk}
+use Rattle.std.proofs.Common.{refl, sym, ap, ◌∙◌, subst, arith}
 use Rattle.std.specs.Prelude.{bytes_eq, MatchOption}
 use Rattle.std.specs.List.{Contains, count_by}
 use Rattle.std.specs.FinMap.{empty, len}
@@ -123,14 +124,16 @@ listed_parts list count first mid new e n f h =
 -- ---- what SMEMBERS may tell of what stands at a key
 
 -- where nothing stands, an empty set is told
-pub none_listed : {E : Type 0} (seed : ℕ) (old : World) (key : List ℕ) (set : Members) (result : Result (List Part) E) → look old key ≡ None → set ≡ empty → IfOk result (λ reply. AreMembers (Some set) reply)
+pub none_listed : {E : Type 0} (seed : ℕ) (old : World) (key : List ℕ) (set : Members) (result : Result (List Part) E) → look old key ≡ None → set ≡ empty
+    → IfOk result (λ reply. AreMembers (Some set) reply)
     → IfOk result (λ reply. may_sets seed old (sets.SMembers key) reply old)
 none_listed seed old key set (Ok reply) none is told =
     let all : AreMembers None reply = subst (λ (s : Members). AreMembers (Some s) reply) is told in
     subst (λ (o : Option Entry). may_tell set_in old o AreMembers reply old) (sym none) (all, refl)
 none_listed seed old key set (Err x) none is told = tt
 
-pub set_listed : {E : Type 0} (seed : ℕ) (old : World) (m : Blocks) (key : List ℕ) (set : object.Members) (result : Result (List Part) E) → FoundSet old m key set → IfOk result (λ reply. AreMembers (Some (object_of.members m set)) reply)
+pub set_listed : {E : Type 0} (seed : ℕ) (old : World) (m : Blocks) (key : List ℕ) (set : object.Members) (result : Result (List Part) E) → FoundSet old m key set
+    → IfOk result (λ reply. AreMembers (Some (object_of.members m set)) reply)
     → IfOk result (λ reply. may_sets seed old (sets.SMembers key) reply old)
 set_listed seed old m key set (Ok reply) found told = subst (λ (o : Option Entry). may_tell set_in old o AreMembers reply old) (sym found.stands) (told, refl)
 set_listed seed old m key set (Err x) found told = tt

@@ -23,14 +23,16 @@ use Rattle.keyspace.specs.Commands.{seen}
 use Rattle.cmd_sets.specs.Found.{FoundOther}
 
 -- whatever would be made of a set, a value of another type is refused
-pub refused_other : {E : Type 0} (old : World) (key : List ℕ) (answer : Option Members → Outcome) (result : Result (List Part) E) → FoundOther old key → IfOk result (λ reply. reply ≡ Refused WrongType ∷ [])
+pub refused_other : {E : Type 0} (old : World) (key : List ℕ) (answer : Option Members → Outcome) (result : Result (List Part) E) → FoundOther old key
+    → IfOk result (λ reply. reply ≡ Refused WrongType ∷ [])
     → IfOk result (λ reply. on_set old key answer ≡ leaves reply old)
 refused_other old key answer (Ok reply) found is =
     ap (λ o. on_type set_in old o answer) found.stands ∙ ap (λ o. of_type old o answer) found.other ∙ ap (λ r. leaves r old) (sym is)
 refused_other old key answer (Err x) found is = tt
 
 -- what is made where nothing stands
-pub told_none : {E : Type 0} (old : World) (key : List ℕ) (answer : Option Members → Outcome) (result : Result (List Part) E) → look old key ≡ None → IfOk result (λ reply. reply ≡ (answer None).reply) → (answer None).world ≡ old
+pub told_none : {E : Type 0} (old : World) (key : List ℕ) (answer : Option Members → Outcome) (result : Result (List Part) E) → look old key ≡ None
+    → IfOk result (λ reply. reply ≡ (answer None).reply) → (answer None).world ≡ old
     → IfOk result (λ reply. on_set old key answer ≡ leaves reply old)
 told_none old key answer (Ok reply) none is stays = ap (λ o. on_type set_in old o answer) none ∙ ap (λ r. leaves r (answer None).world) (sym is) ∙ ap (leaves reply) stays
 told_none old key answer (Err x) none is stays = tt

@@ -59,7 +59,8 @@ module _ {E : Type 0} (bases : Bases) (m : Blocks) (at : Ctx) (key : List ℕ) (
   abbrev PageOf : object.Members → List Part → Type 0
   PageOf own reply = IsPageOf (scan.CanStand own.body) (λ c. (scan.moved own.body c).0) (λ c. (scan.moved own.body c).1) (set_items.member_at m own) (words m own) cursor options reply
 
-  pub set_paged : (value : Value) (b : Box object.Members) (own : object.Members) → value ≡ kinds.Set b → own ≡ b.value → Found bases m at.db key at.moment value → Sound bases m → IfOk result (PageOf own) → IfOk result Told
+  pub set_paged : (value : Value) (b : Box object.Members) (own : object.Members) → value ≡ kinds.Set b → own ≡ b.value → Found bases m at.db key at.moment value → Sound bases m
+      → IfOk result (PageOf own) → IfOk result Told
   set_paged value b own is same found sound page =
       tells_page set_in tells false telling bases m at key cursor options (kinds.Set b) (members m b.value) refl (here value b is found) sound (words m b.value)
       (λ next items elements s. listed_alone next elements)

@@ -80,7 +80,8 @@ module _ (limits : Limits) (set : Members) (x : List ℕ) where
   fits_fewer Stream fits = fits
 
   -- one member more
-  least_one : (there : Bool) (from form : Form) → has set x ≡ there → IsLeast (FitsMembers limits set) from → RisesIf there limits from (insert set x tt) form → IsLeast (FitsMembers limits (insert set x tt)) form
+  least_one : (there : Bool) (from form : Form) → has set x ≡ there → IsLeast (FitsMembers limits set) from → RisesIf there limits from (insert set x tt) form
+      → IsLeast (FitsMembers limits (insert set x tt)) form
   least_one true from form is least rises =
       subst (λ (s : Members). IsLeast (FitsMembers limits s) form) (sym (insert_there set x is)) (subst (IsLeast (FitsMembers limits set)) (sym rises) least)
   least_one false from form is least rises = record {
@@ -88,7 +89,8 @@ module _ (limits : Limits) (set : Members) (x : List ℕ) where
     least = λ other fits. rises.least other fits (least.least other (fits_fewer other fits));
   }
 
-least_all : (limits : Limits) (from form : Form) (set : Members) (words : List (List ℕ)) → IsLeast (FitsMembers limits set) from → RisesWith limits from set words form → IsLeast (FitsMembers limits (add_all set words)) form
+least_all : (limits : Limits) (from form : Form) (set : Members) (words : List (List ℕ)) → IsLeast (FitsMembers limits set) from → RisesWith limits from set words form
+    → IsLeast (FitsMembers limits (add_all set words)) form
 least_all limits from form set [] least rises = subst (IsLeast (FitsMembers limits set)) (sym rises) least
 least_all limits from form set (x ∷ words) least rises = least_all limits rises.0 form (insert set x tt) words (least_one limits set x (has set x) from rises.0 refl least rises.1) rises.2
 
@@ -188,18 +190,21 @@ module _ {S : Type 0} (blocks : S → Blocks) (old mid new : Keyspace S) (at : C
 
   pub put_form : mid.bases.limits ≡ old.bases.limits → AllAt (IsNewSet (has (set_of words)) old.bases) new.bases (blocks new.store) at.db key
   put_form same number e found bytes =
-      let had : IsLeast (FitsMembers mid.bases.limits empty) p.from = subst (λ (b : Option Members). IsSourceForm (is_some b) (FitsMembers mid.bases.limits empty) mid.bases (blocks mid.store) at.db key p.from) nothing p.was_form in
+      let had : IsLeast (FitsMembers mid.bases.limits empty) p.from =
+      subst (λ (b : Option Members). IsSourceForm (is_some b) (FitsMembers mid.bases.limits empty) mid.bases (blocks mid.store) at.db key p.from) nothing p.was_form in
       let risen : RisesWith mid.bases.limits p.from empty words p.form = subst (λ (b : Option Members). RisesWith mid.bases.limits p.from (or_no_members b) words p.form) nothing p.made.risen in
       record {
         members = set_of words;
         form = p.form;
         all = λ q. refl;
         is = (p.is number e found bytes).0;
-        least = subst (λ (l : Limits). IsLeast (FitsMembers l (set_of words)) p.form) same (subst (λ (s : Members). IsLeast (FitsMembers mid.bases.limits s) p.form) (filled words) (least_all mid.bases.limits p.from p.form empty words had risen));
+        least = subst (λ (l : Limits). IsLeast (FitsMembers l (set_of words)) p.form) same
+            (subst (λ (s : Members). IsLeast (FitsMembers mid.bases.limits s) p.form) (filled words) (least_all mid.bases.limits p.from p.form empty words had risen));
       }
 
 -- a key is removed, and then it changes
-pub held_anew : {S : Type 0} (blocks : S → Blocks) (step : S → S → Type 0) (db : ℕ) (key : List ℕ) (old mid new : Keyspace S) → Held blocks step (no_key db) old mid → Held blocks step (one_key db key) mid new → Held blocks step (one_key db key) old new
+pub held_anew : {S : Type 0} (blocks : S → Blocks) (step : S → S → Type 0) (db : ℕ) (key : List ℕ) (old mid new : Keyspace S) → Held blocks step (no_key db) old mid
+    → Held blocks step (one_key db key) mid new → Held blocks step (one_key db key) old new
 held_anew blocks step db key old mid new p q =
     held_then blocks step (one_key db key) old mid new
     (record {

@@ -21,7 +21,8 @@ pub added_last : (set : Members) (list : List (List ℕ)) (x : List ℕ) → add
 added_last set [] x = refl
 added_last set (y ∷ list) x = added_last (insert set y tt) list x
 
-pub added_more : (set now new : Members) (list : List (List ℕ)) (k : ℕ) (x : List ℕ) → k < length list → now ≡ add_all set (take k list) → x ≡ get_or list k [] → new ≡ insert now x tt → new ≡ add_all set (take (k + 1) list)
+pub added_more : (set now new : Members) (list : List (List ℕ)) (k : ℕ) (x : List ℕ) → k < length list → now ≡ add_all set (take k list) → x ≡ get_or list k [] → new ≡ insert now x tt
+    → new ≡ add_all set (take (k + 1) list)
 added_more set now new list k x inside so_far is put =
     put ∙ ap (λ s. insert s x tt) so_far ∙ sym (added_last set (take k list) x)
     ∙ ap (add_all set) (ap (λ y. take k list ++ y ∷ []) is ∙ sym (take_more list k [] inside))
@@ -89,7 +90,8 @@ module _ (world : World) (keys : List (List ℕ)) where
       ∙ together (has old q) (has (set_at world key) q) (in_all (sets_here world (drop (i + 1) keys)) q)
       ∙ ap (λ (l : List (List ℕ)). has old q && in_all (sets_here world l) q) (sym (rest_from keys i key inside is))
 
-  pub own_more : (one : List ℕ) (key : List ℕ) (old new : Members) → ((q : List ℕ) → has new q ≡ (has old q && has (set_at world key) q)) → ((q : List ℕ) → has old q ≡ true → has (set_at world one) q ≡ true)
+  pub own_more : (one : List ℕ) (key : List ℕ) (old new : Members) → ((q : List ℕ) → has new q ≡ (has old q && has (set_at world key) q))
+      → ((q : List ℕ) → has old q ≡ true → has (set_at world one) q ≡ true)
       → (q : List ℕ) → has new q ≡ true → has (set_at world one) q ≡ true
   own_more one key old new h own q is = own q (and_parts (has old q) (has (set_at world key) q) (sym (h q) ∙ is)).0
 

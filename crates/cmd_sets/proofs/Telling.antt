@@ -36,7 +36,8 @@ pub each_is_reply : (members : Members) (words : List (List ℕ)) → IsReply (A
 each_is_reply members words = let e : 0 + length words ≡ length words = omega arith in subst (λ n. AreReplies n (told_each members words)) (sym e) (told_are_replies members words)
 
 -- the head of an array, and what is told behind it
-pub each_parts : (members : Members) (words : List (List ℕ)) (first mid new : List Part) → first ≡ [] → mid ≡ first ++ Array (length words) ∷ [] → new ≡ mid ++ told_each members words → new ≡ Array (length words) ∷ told_each members words
+pub each_parts : (members : Members) (words : List (List ℕ)) (first mid new : List Part) → first ≡ [] → mid ≡ first ++ Array (length words) ∷ [] → new ≡ mid ++ told_each members words
+    → new ≡ Array (length words) ∷ told_each members words
 each_parts members words first mid new e f h = h ∙ ap (λ l. l ++ told_each members words) (f ∙ ap (λ l. l ++ Array (length words) ∷ []) e)
 
 -- ---- the set that was there
@@ -99,9 +100,11 @@ dropped_none old key words none (Ok reply) told = on_before old key None (drop_m
 
 -- ---- how what was written is encoded
 
-module _ {S : Type 0} (own : Members → Form → Members → Form → Type 0) (blocks : S → Blocks) (step : S → S → Type 0) (old new : Keyspace S) (at : Ctx) (key : List ℕ) (p : SetChanged own keep_set IsLasting blocks old new at key) (held : Held blocks step (one_key at.db key) old new) where
+module _ {S : Type 0} (own : Members → Form → Members → Form → Type 0) (blocks : S → Blocks) (step : S → S → Type 0) (old new : Keyspace S) (at : Ctx) (key : List ℕ)
+    (p : SetChanged own keep_set IsLasting blocks old new at key) (held : Held blocks step (one_key at.db key) old new) where
   -- it has risen by the members that were put in
-  pub formed_risen : (words : List (List ℕ)) → RisesWith old.bases.limits p.from (or_no_members p.before) words p.form → {A X : Type 0} (result : Result A X) → IfOk result (λ reply. Formed blocks (set_with at.db (sight blocks old at) key words) old new)
+  pub formed_risen : (words : List (List ℕ)) → RisesWith old.bases.limits p.from (or_no_members p.before) words p.form → {A X : Type 0} (result : Result A X)
+      → IfOk result (λ reply. Formed blocks (set_with at.db (sight blocks old at) key words) old new)
   formed_risen words risen (Err x) = tt
   formed_risen words risen (Ok reply) =
       formed_key (set_with at.db (sight blocks old at) key words) at.db key old.bases new.bases (blocks old.store) (blocks new.store) held.within held.sound.arranged
@@ -122,6 +125,7 @@ module _ {S : Type 0} (own : Members → Form → Members → Form → Type 0) (
       (λ number e found bytes. let now = p.is number e found bytes in (had.0, had.1, now.0 ∙ ap OfForm (same now.1) ∙ sym had.2))
 
 -- what is answered and left, where both are known
-pub told_by : {X : Type 0} (outcome : Outcome) (parts : List Part) (world : World) (result : Result (List Part) X) → outcome ≡ leaves parts world → IfOk result (λ reply. reply ≡ parts) → IfOk result (λ reply. outcome ≡ leaves reply world)
+pub told_by : {X : Type 0} (outcome : Outcome) (parts : List Part) (world : World) (result : Result (List Part) X) → outcome ≡ leaves parts world → IfOk result (λ reply. reply ≡ parts)
+    → IfOk result (λ reply. outcome ≡ leaves reply world)
 told_by outcome parts world (Ok reply) is told = is ∙ ap (λ r. leaves r world) (sym told)
 told_by outcome parts world (Err x) is told = tt

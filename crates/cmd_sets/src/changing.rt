@@ -27,7 +27,8 @@ pub fn set_sought<B: BlockStore>(
 ) -> Look<usize>
     requires ready { Ready B.blocks keyspace.now at.now }
     requires sees { Sees B.blocks keyspace.now at.now key.now found }
-    ensures { IsLook (look (sight B.blocks keyspace.now at.now) key.now ≡ None) (FoundOther (sight B.blocks keyspace.now at.now) key.now) (SetItem (sight B.blocks keyspace.now at.now) keyspace.now.bases (B.blocks keyspace.now.store) at.now.db key.now at.now.moment) result }
+    ensures { IsLook (look (sight B.blocks keyspace.now at.now) key.now ≡ None) (FoundOther (sight B.blocks keyspace.now at.now) key.now)
+        (SetItem (sight B.blocks keyspace.now at.now) keyspace.now.bases (B.blocks keyspace.now.store) at.now.db key.now at.now.moment) result }
 {
     // what was found tells the key
     let _ = key;

@@ -47,7 +47,9 @@ fn add_at<B: BlockStore, C: BlockStore>(
     requires ready { Ready B.blocks keyspace.now at.now }
     requires all { IsMembers (C.blocks own.old) all.old }
     ensures sound { OnOk result (IsMembers (C.blocks own.new) all.new) }
-    ensures members { OnOk result ((name : List ℕ) → has (members (C.blocks own.new) all.new) name ≡ (has (members (C.blocks own.old) all.old) name || has (forms.set_at (sight B.blocks keyspace.now at.now) key.now) name)) }
+    ensures members { OnOk result
+        ((name : List ℕ) → has (members (C.blocks own.new) all.new) name ≡
+        (has (members (C.blocks own.old) all.old) name || has (forms.set_at (sight B.blocks keyspace.now at.now) key.now) name)) }
 {
     match set_at(keyspace, at, key) {
         Look::Missing => Ok(()),
@@ -67,7 +69,9 @@ fn add_each<B: BlockStore, C: BlockStore>(
     requires ready { Ready B.blocks keyspace.now at.now }
     requires all { IsMembers (C.blocks own.old) all.old }
     ensures sound { OnOk result (IsMembers (C.blocks own.new) all.new) }
-    ensures members { OnOk result ((name : List ℕ) → has (members (C.blocks own.new) all.new) name ≡ (has (members (C.blocks own.old) all.old) name || in_any (sets_here (sight B.blocks keyspace.now at.now) keys.now) name)) }
+    ensures members { OnOk result
+        ((name : List ℕ) → has (members (C.blocks own.new) all.new) name ≡
+        (has (members (C.blocks own.old) all.old) name || in_any (sets_here (sight B.blocks keyspace.now at.now) keys.now) name)) }
 {
     for key in keys {
         add_at(keyspace, at, key.as_slice(), own, all)?;
@@ -84,7 +88,8 @@ fn drop_each<B: BlockStore>(
 ) -> Result<Vec<Bytes>, Memory>
     requires ready { Ready B.blocks keyspace.now at.now }
     requires once { IsOnce names.items }
-    ensures left { IfOk result (λ kept. (name : List ℕ) → has (set_of kept.items) name ≡ (has (set_of names.items) name && not (in_any (sets_here (sight B.blocks keyspace.now at.now) keys.now) name))) }
+    ensures left { IfOk result
+        (λ kept. (name : List ℕ) → has (set_of kept.items) name ≡ (has (set_of names.items) name && not (in_any (sets_here (sight B.blocks keyspace.now at.now) keys.now) name))) }
     ensures once { IfOk result (λ kept. IsOnce kept.items) }
 {
     let mut kept = names;

@@ -1,5 +1,6 @@
 -- Ids that are acknowledged, one after the other.
-use Rattle.std.proofs.Common.{◌≡◌, ℕ, zero, suc, ◌+◌, ◌-◌, ◌<◌, Bool, true, false, cond, List, [], ◌∷◌, ◌++◌, length, take, get_or, Option, None, Some, is_some, inl, inr, refl, sym, ap, subst, ◌∙◌, arith}
+use Rattle.std.proofs.Common.{◌≡◌, ℕ, zero, suc, ◌+◌, ◌-◌, ◌<◌, Bool, true, false, cond, List, [], ◌∷◌, ◌++◌, length, take, get_or, Option, None, Some, is_some, inl, inr, refl, sym, ap}
+use Rattle.std.proofs.Common.{subst, ◌∙◌, arith}
 use Rattle.std.specs.Prelude.{pos}
 use Rattle.std.specs.Ordering.{is_eq}
 use Rattle.std.specs.Cmp.{tied_itself}
@@ -64,7 +65,8 @@ one_acked groups name id = by (fin.get groups name) refl
         ∙ one_less group.pending id
         ∙ sym (ap waits is)
 
-pub counted_hit : (old new : Log) (name : List ℕ) (id : Id) (hit told : Bool) → hit ≡ is_pending id (fin.get old.groups name) → hit ≡ told → new ≡ record old { groups = changed old.groups name (without id) } → cond told 1 0 + waits (fin.get new.groups name) ≡ waits (fin.get old.groups name)
+pub counted_hit : (old new : Log) (name : List ℕ) (id : Id) (hit told : Bool) → hit ≡ is_pending id (fin.get old.groups name) → hit ≡ told
+    → new ≡ record old { groups = changed old.groups name (without id) } → cond told 1 0 + waits (fin.get new.groups name) ≡ waits (fin.get old.groups name)
 counted_hit old new name id hit told is was now =
     ap (λ b. cond b 1 0 + waits (fin.get new.groups name)) (sym was ∙ is)
     ∙ ap (λ (s : Log). cond (is_pending id (fin.get old.groups name)) 1 0 + waits (fin.get s.groups name)) now
@@ -75,14 +77,16 @@ acked-append [] id group = refl
 acked-append (a ∷ ids) id group = acked-append ids id (without a group)
 
 -- one id more is acknowledged
-pub more_acked : (groups : Groups) (name : List ℕ) (ids : List Id) (i : ℕ) (id : Id) → i < length ids → id ≡ get_or ids i id → changed (changed groups name (without_ids (take i ids))) name (without id) ≡ changed groups name (without_ids (take (i + 1) ids))
+pub more_acked : (groups : Groups) (name : List ℕ) (ids : List Id) (i : ℕ) (id : Id) → i < length ids → id ≡ get_or ids i id
+    → changed (changed groups name (without_ids (take i ids))) name (without id) ≡ changed groups name (without_ids (take (i + 1) ids))
 more_acked groups name ids i id inside is =
     changed_twice groups name (without_ids (take i ids)) (without id)
     ∙ (λ k. changed groups name (λ group. sym (acked-append (take i ids) id group) k))
     ∙ ap (λ (x : Id). changed groups name (without_ids (take i ids ++ x ∷ []))) is
     ∙ ap (λ xs. changed groups name (without_ids xs)) (sym (take_more ids i id inside))
 
-pub more_stream : (old mid new : Log) (name : List ℕ) (ids : List Id) (i : ℕ) (id : Id) → i < length ids → id ≡ get_or ids i id → mid ≡ record old { groups = changed old.groups name (without_ids (take i ids)) } → new ≡ record mid { groups = changed mid.groups name (without id) }
+pub more_stream : (old mid new : Log) (name : List ℕ) (ids : List Id) (i : ℕ) (id : Id) → i < length ids → id ≡ get_or ids i id
+    → mid ≡ record old { groups = changed old.groups name (without_ids (take i ids)) } → new ≡ record mid { groups = changed mid.groups name (without id) }
     → new ≡ record old { groups = changed old.groups name (without_ids (take (i + 1) ids)) }
 more_stream old mid new name ids i id inside is was now =
     now
@@ -94,13 +98,15 @@ same_get [] i d = refl
 same_get (x ∷ ids) zero d = refl
 same_get (x ∷ ids) (suc i) d = same_get ids i d
 
-pub more_at : (old mid new : Log) (name : List ℕ) (ids : List Id) (i : ℕ) (d : Id) → i < length ids → mid ≡ record old { groups = changed old.groups name (without_ids (take i ids)) } → new ≡ record mid { groups = changed mid.groups name (without (get_or ids i d)) }
+pub more_at : (old mid new : Log) (name : List ℕ) (ids : List Id) (i : ℕ) (d : Id) → i < length ids → mid ≡ record old { groups = changed old.groups name (without_ids (take i ids)) }
+    → new ≡ record mid { groups = changed mid.groups name (without (get_or ids i d)) }
     → new ≡ record old { groups = changed old.groups name (without_ids (take (i + 1) ids)) }
 more_at old mid new name ids i d inside was now = more_stream old mid new name ids i (get_or ids i d) inside (same_get ids i d) was now
 
 -- ---- what is told
 
-pub no_acks : (old : World) (m : Blocks) (key name : List ℕ) (ids : List Id) (stream : Log) → FoundStream old m key stream → fin.contains_key stream.groups name ≡ false → on_stream old key (ack old key name ids) ≡ leaves (Number (pos 0) ∷ []) old
+pub no_acks : (old : World) (m : Blocks) (key name : List ℕ) (ids : List Id) (stream : Log) → FoundStream old m key stream → fin.contains_key stream.groups name ≡ false
+    → on_stream old key (ack old key name ids) ≡ leaves (Number (pos 0) ∷ []) old
 no_acks old m key name ids stream found none =
     on_before old key (Some (stream_of m stream)) (ack old key name ids) (has_found old m key stream found) ∙ by (fin.get stream.groups name) none
   where
@@ -108,7 +114,8 @@ no_acks old m key name ids stream found none =
     by None is = refl
     by (Some group) is = absurd (true≢false is)
 
-acked_in : (old : World) (key name : List ℕ) (ids : List Id) (s now : Stream) (gone : ℕ) → fin.contains_key s.groups name ≡ true → Acknowledges name ids gone s now → ack_in old key name ids s (fin.get s.groups name) ≡ leaves (Number (pos gone) ∷ []) (keep_stream old key now)
+acked_in : (old : World) (key name : List ℕ) (ids : List Id) (s now : Stream) (gone : ℕ) → fin.contains_key s.groups name ≡ true → Acknowledges name ids gone s now
+    → ack_in old key name ids s (fin.get s.groups name) ≡ leaves (Number (pos gone) ∷ []) (keep_stream old key now)
 acked_in old key name ids s now gone there made = by (fin.get s.groups name) refl
   where
     by : (o : Option Group) → fin.get s.groups name ≡ o → ack_in old key name ids s o ≡ leaves (Number (pos gone) ∷ []) (keep_stream old key now)
@@ -121,7 +128,8 @@ acked_in old key name ids s now gone there made = by (fin.get s.groups name) ref
         ap (λ n. leaves (Number (pos n) ∷ []) (keep_stream old key (regrouped s (changed s.groups name (without_ids ids))))) (sym same)
         ∙ ap (λ (t : Stream). leaves (Number (pos gone) ∷ []) (keep_stream old key t)) (sym made.is)
 
-pub acked : (old new : World) (m : Blocks) (key name : List ℕ) (ids : List Id) (stream : Log) (was : Option Stream) (now : Stream) (gone : ℕ) → FoundStream old m key stream → fin.contains_key stream.groups name ≡ true → IsBefore old key was → Acknowledges name ids gone (or_no_stream was) now → new ≡ keep_stream old key now
+pub acked : (old new : World) (m : Blocks) (key name : List ℕ) (ids : List Id) (stream : Log) (was : Option Stream) (now : Stream) (gone : ℕ) → FoundStream old m key stream
+    → fin.contains_key stream.groups name ≡ true → IsBefore old key was → Acknowledges name ids gone (or_no_stream was) now → new ≡ keep_stream old key now
     → on_stream old key (ack old key name ids) ≡ leaves (Number (pos gone) ∷ []) new
 acked old new m key name ids stream was now gone found there stands made world =
     let s = stream_of m stream in

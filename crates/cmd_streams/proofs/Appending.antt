@@ -17,18 +17,21 @@ use Rattle.cmd_streams.specs.Changed.{IsBefore, IsStreamThere}
 use Rattle.cmd_streams.proofs.Gone.{on_before}
 
 -- what stands at a key that was sought
-pub before_there : (world : World) (bases : Bases) (m : Blocks) (db : ℕ) (key : List ℕ) (moment : ℕ) (there : Option ℕ) → IsStreamThere world bases m db key moment there → (before : Option Stream) × IsBefore world key before × (is_none before ≡ true → there ≡ None)
+pub before_there : (world : World) (bases : Bases) (m : Blocks) (db : ℕ) (key : List ℕ) (moment : ℕ) (there : Option ℕ) → IsStreamThere world bases m db key moment there
+    → (before : Option Stream) × IsBefore world key before × (is_none before ≡ true → there ≡ None)
 before_there world bases m db key moment None is = (None, is, λ e. refl)
 before_there world bases m db key moment (Some item) is = (Some is.stream, is.has, λ e. cc)
 
 -- whatever is there, XADD goes by the last id, where it may make a stream
-pub asked_of : (old : World) (moment : ℕ) (key : List ℕ) (options : AppendOptions) (asked : NewId) (pairs : List Pair) (before : Option Stream) → IsBefore old key before → (is_none before ≡ true → options.only_there ≡ false)
+pub asked_of : (old : World) (moment : ℕ) (key : List ℕ) (options : AppendOptions) (asked : NewId) (pairs : List Pair) (before : Option Stream) → IsBefore old key before
+    → (is_none before ≡ true → options.only_there ≡ false)
     → on_stream old key (append old moment key options asked pairs) ≡ append_as old key options.trim pairs (or_no_stream before) (id_for moment (or_no_stream before).last asked)
 asked_of old moment key options asked pairs None is makes = on_before old key None (append old moment key options asked pairs) is ∙ cond-false _ _ _ (makes refl)
 asked_of old moment key options asked pairs (Some s) is makes = on_before old key (Some s) (append old moment key options asked pairs) is
 
 -- there is no id for it
-pub no_id_told : {X : Type 0} (old : World) (moment : ℕ) (key : List ℕ) (options : AppendOptions) (asked : NewId) (pairs : List Pair) (before : Option Stream) (last : ℕ × ℕ) (refusal : Refusal) → IsBefore old key before → (is_none before ≡ true → options.only_there ≡ false) → (or_no_stream before).last ≡ last → id_for moment last asked ≡ Err refusal
+pub no_id_told : {X : Type 0} (old : World) (moment : ℕ) (key : List ℕ) (options : AppendOptions) (asked : NewId) (pairs : List Pair) (before : Option Stream) (last : ℕ × ℕ)
+    (refusal : Refusal) → IsBefore old key before → (is_none before ≡ true → options.only_there ≡ false) → (or_no_stream before).last ≡ last → id_for moment last asked ≡ Err refusal
     → (result : Result (List Part) X) → IfOk result (λ reply. reply ≡ Refused refusal ∷ []) → IfOk result (λ reply. on_stream old key (append old moment key options asked pairs) ≡ leaves reply old)
 no_id_told old moment key options asked pairs before last refusal is makes same none (Err x) told = tt
 no_id_told old moment key options asked pairs before last refusal is makes same none (Ok reply) told =
@@ -39,8 +42,10 @@ no_id_told old moment key options asked pairs before last refusal is makes same 
     ∙ ap (λ r. leaves r old) (sym told)
 
 -- or there is one
-pub id_told : {X : Type 0} (old new : World) (moment : ℕ) (key : List ℕ) (options : AppendOptions) (asked : NewId) (pairs : List Pair) (before : Option Stream) (last id : ℕ × ℕ) → IsBefore old key before → (is_none before ≡ true → options.only_there ≡ false) → (or_no_stream before).last ≡ last → id_for moment last asked ≡ Ok id
-    → (result : Result (List Part) X) → IfOk result (λ reply. (b : Option Stream) → IsBefore old key b → append_as old key options.trim pairs (or_no_stream b) (Ok id) ≡ leaves reply new) → IfOk result (λ reply. on_stream old key (append old moment key options asked pairs) ≡ leaves reply new)
+pub id_told : {X : Type 0} (old new : World) (moment : ℕ) (key : List ℕ) (options : AppendOptions) (asked : NewId) (pairs : List Pair) (before : Option Stream) (last id : ℕ × ℕ)
+    → IsBefore old key before → (is_none before ≡ true → options.only_there ≡ false) → (or_no_stream before).last ≡ last → id_for moment last asked ≡ Ok id
+    → (result : Result (List Part) X) → IfOk result (λ reply. (b : Option Stream) → IsBefore old key b → append_as old key options.trim pairs (or_no_stream b) (Ok id) ≡ leaves reply new)
+    → IfOk result (λ reply. on_stream old key (append old moment key options asked pairs) ≡ leaves reply new)
 id_told old new moment key options asked pairs before last id is makes same some (Err x) told = tt
 id_told old new moment key options asked pairs before last id is makes same some (Ok reply) told =
     let s = or_no_stream before in

@@ -36,7 +36,8 @@ not_stream (kinds.Hash box) other = refl
 not_stream (kinds.Zset box) other = refl
 
 -- the stream that was found at a key
-pub stream_item : (bases : Bases) (m : Blocks) (at : Ctx) (key : List ℕ) (number : ℕ) (value : Value) (box : Box kept.Stream) → value ≡ kinds.Stream box → StandsAt bases m at.db key at.moment number → Found bases m at.db key at.moment value → StreamItem (seen at bases m) bases m at.db key at.moment number
+pub stream_item : (bases : Bases) (m : Blocks) (at : Ctx) (key : List ℕ) (number : ℕ) (value : Value) (box : Box kept.Stream) → value ≡ kinds.Stream box
+    → StandsAt bases m at.db key at.moment number → Found bases m at.db key at.moment value → StreamItem (seen at bases m) bases m at.db key at.moment number
 stream_item bases m at key number value box is there found = record {
   there = there;
   stream = object.stream_of m box.value;
@@ -44,7 +45,8 @@ stream_item bases m at key number value box is there found = record {
 }
 
 -- the value that was found at a key is a stream
-pub found_stream : (bases : Bases) (m : Blocks) (at : Ctx) (key : List ℕ) (value : Value) (box : Box kept.Stream) → value ≡ kinds.Stream box → Sound bases m → Found bases m at.db key at.moment value → FoundStream (seen at bases m) m key box.value
+pub found_stream : (bases : Bases) (m : Blocks) (at : Ctx) (key : List ℕ) (value : Value) (box : Box kept.Stream) → value ≡ kinds.Stream box → Sound bases m
+    → Found bases m at.db key at.moment value → FoundStream (seen at bases m) m key box.value
 found_stream bases m at key value box is sound found =
     let own = subst (Found bases m at.db key at.moment) is found in
     record {
@@ -58,7 +60,8 @@ abbrev HoldsThere : (Stream → Type 0) → Option Entry → Type 0
 HoldsThere Is None = Unit {0}
 HoldsThere Is (Some entry) = IsStreamThat Is entry.value
 
-pub takes_there : (Is : Stream → Type 0) (world : World) (key : List ℕ) (stream : Stream) → HasStream world key stream → Is stream → (entry : Entry) → look world key ≡ Some entry → IsStreamThat Is entry.value
+pub takes_there : (Is : Stream → Type 0) (world : World) (key : List ℕ) (stream : Stream) → HasStream world key stream → Is stream → (entry : Entry) → look world key ≡ Some entry
+    → IsStreamThat Is entry.value
 takes_there Is world key stream has holds entry is = subst (HoldsThere Is) (sym has.stands ∙ is) holds
 
 module _ {S T X : Type 0} (makes : T → T → Shape → Shape → Type 0) (own : Made) (first last : T) (blocks : S → Blocks) (old new : Keyspace S) (at : Ctx) (key : List ℕ)
@@ -74,7 +77,8 @@ module _ {S T X : Type 0} (makes : T → T → Shape → Shape → Type 0) (own 
         stands = none;
         now = q.now;
         made = subst (λ (s : Stream). own s q.now) nothing q.made;
-        world = p.world ∙ ap (λ (v : model.Value). put (sight blocks old at) key (record { value = v; deadline = None })) q.is ∙ ap (λ (d : Option ℕ). put (sight blocks old at) key (record { value = StreamOf q.now; deadline = d })) (sym (ap deadline_of none));
+        world = p.world ∙ ap (λ (v : model.Value). put (sight blocks old at) key (record { value = v; deadline = None })) q.is
+            ∙ ap (λ (d : Option ℕ). put (sight blocks old at) key (record { value = StreamOf q.now; deadline = d })) (sym (ap deadline_of none));
         value = p.now;
         only = p.only;
         encoded = p.encoded ∙ q.is_form;
@@ -89,18 +93,21 @@ module _ {S T X : Type 0} (makes : T → T → Shape → Shape → Type 0) (own 
         stands = record { deadline = p.deadline; stands = p.stands ∙ ap (λ (v : model.Value). Some (record { value = v; deadline = p.deadline })) q.was };
         now = q.now;
         made = q.made;
-        world = p.world ∙ ap (λ (v : model.Value). put (sight blocks old at) key (record { value = v; deadline = p.deadline })) q.is ∙ ap (λ (d : Option ℕ). put (sight blocks old at) key (record { value = StreamOf q.now; deadline = d })) (sym (ap deadline_of p.stands));
+        world = p.world ∙ ap (λ (v : model.Value). put (sight blocks old at) key (record { value = v; deadline = p.deadline })) q.is
+            ∙ ap (λ (d : Option ℕ). put (sight blocks old at) key (record { value = StreamOf q.now; deadline = d })) (sym (ap deadline_of p.stands));
         value = p.now;
         only = p.only;
         encoded = q.is_form;
       }
 
 -- the stream that was written is encoded as any stream
-pub formed_log : {S : Type 0} (own : Made) (blocks : S → Blocks) (step : S → S → Type 0) (old new : Keyspace S) (at : Ctx) (key : List ℕ) (p : StreamChanged own blocks old new at key) → Held blocks step (one_key at.db key) old new → Formed blocks Log old new
+pub formed_log : {S : Type 0} (own : Made) (blocks : S → Blocks) (step : S → S → Type 0) (old new : Keyspace S) (at : Ctx) (key : List ℕ) (p : StreamChanged own blocks old new at key)
+    → Held blocks step (one_key at.db key) old new → Formed blocks Log old new
 formed_log own blocks step old new at key p held =
     written_key value_refs (HasForm Log old.bases (blocks old.store)) at.db key p.value p.encoded old.bases new.bases (blocks old.store) (blocks new.store) held.within held.sound.arranged p.only
 
 -- what an edit makes of a stream, it makes of the value
-pub made_stream : {X : Type 0} (own : Made) (old new : Shape) (s t : Stream) → old.means ≡ StreamOf s → new.means ≡ StreamOf t → new.encoding ≡ OfForm forms.Stream → (result : Result (Unit {0}) X) → OnOk result (own s t) → OnOk result (MakesStream own old new)
+pub made_stream : {X : Type 0} (own : Made) (old new : Shape) (s t : Stream) → old.means ≡ StreamOf s → new.means ≡ StreamOf t → new.encoding ≡ OfForm forms.Stream
+    → (result : Result (Unit {0}) X) → OnOk result (own s t) → OnOk result (MakesStream own old new)
 made_stream own old new s t was is form (Ok u) made = record { stream = s; now = t; was = was; is = is; is_form = form; made = made }
 made_stream own old new s t was is form (Err e) made = tt

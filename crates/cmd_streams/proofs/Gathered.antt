@@ -19,7 +19,8 @@ one_read : (limit : Option ℕ) (asked : Asked) (stream : Option Stream) → som
 one_read limit asked None = refl
 one_read limit asked (Some s) = refl
 
-pub read_is : (limit : Option ℕ) (asked : Asked) (entry : Option Entry) (entries : List StreamEntry) → entries ≡ entries_above limit asked.1 (stream_there entry) → some_listed asked.0 entries ≡ read_one limit asked (stream_there entry)
+pub read_is : (limit : Option ℕ) (asked : Asked) (entry : Option Entry) (entries : List StreamEntry) → entries ≡ entries_above limit asked.1 (stream_there entry)
+    → some_listed asked.0 entries ≡ read_one limit asked (stream_there entry)
 read_is limit asked entry entries is = ap (some_listed asked.0) is ∙ one_read limit asked (stream_there entry)
 
 pub key_one : (k : KeyRead) → Many 1 (read_parts k)
@@ -30,12 +31,14 @@ key_one k =
 -- ---- one key after the other
 
 module _ (world : World) (limit : Option ℕ) (asked : List Asked) (i : ℕ) (one : Asked) (rest : drop i asked ≡ one ∷ drop (i + 1) asked) where
-  pub none_more : is_other_at world one ≡ false → list_any (is_other_at world) (drop i asked) ≡ list_any (is_other_at world) asked → list_any (is_other_at world) (drop (i + 1) asked) ≡ list_any (is_other_at world) asked
+  pub none_more : is_other_at world one ≡ false → list_any (is_other_at world) (drop i asked) ≡ list_any (is_other_at world) asked
+      → list_any (is_other_at world) (drop (i + 1) asked) ≡ list_any (is_other_at world) asked
   none_more same so_far =
       let others = list_any (is_other_at world) (drop (i + 1) asked) in
       ap (λ b. b || others) (sym same) ∙ ap (list_any (is_other_at world)) (sym rest) ∙ so_far
 
-  pub one_gathered : (first found new : List (List Part)) (entries : List StreamEntry) → entries ≡ entries_above limit one.1 (stream_there (look world one.0)) → new ≡ found ++ some_listed one.0 entries → found ++ flat_map (told_at world limit) (drop i asked) ≡ first ++ flat_map (told_at world limit) asked
+  pub one_gathered : (first found new : List (List Part)) (entries : List StreamEntry) → entries ≡ entries_above limit one.1 (stream_there (look world one.0)) → new ≡ found
+      ++ some_listed one.0 entries → found ++ flat_map (told_at world limit) (drop i asked) ≡ first ++ flat_map (told_at world limit) asked
       → new ++ flat_map (told_at world limit) (drop (i + 1) asked) ≡ first ++ flat_map (told_at world limit) asked
   one_gathered first found new entries is put so_far =
       let others = flat_map (told_at world limit) (drop (i + 1) asked) in
@@ -56,7 +59,8 @@ map_long (k ∷ found) = ap suc (map_long found)
 
 pub keys_told : (found : List KeyRead) → (length found == 0) ≡ false → all_listed (map read_parts found) ≡ Array (length found) ∷ flat_map read_parts found
 keys_told [] some = cc
-keys_told (k ∷ found) some = ap (λ n. Array n ∷ flat_map (λ (parts : List Part). parts) (map read_parts (k ∷ found))) (map_long (k ∷ found)) ∙ ap (λ l. Array (length (k ∷ found)) ∷ l) (told_map (k ∷ found))
+keys_told (k ∷ found) some = ap (λ n. Array n ∷ flat_map (λ (parts : List Part). parts) (map read_parts (k ∷ found))) (map_long (k ∷ found))
+    ∙ ap (λ l. Array (length (k ∷ found)) ∷ l) (told_map (k ∷ found))
 
 pub keys_one : (found : List KeyRead) → Many 1 (Array (length found) ∷ flat_map read_parts found)
 keys_one found = array (length found) (flat_map read_parts found) (each read_parts key_one found)

@@ -59,7 +59,16 @@ module _ (who : Reader) (s : Stream) (above : Id) (most : ℕ) where
   few_ids group =
       let all = entries group.pending in
       let behind = later (Some above) group.pending in
-      omega (arith, length-map (filter (is_of who.consumer) behind) (λ e. e.0), length-filter (is_of who.consumer) behind, count_by-le-length (is_of who.consumer) behind, length-filter (is_above above) all, count_by-le-length (is_above above) all, len-entries group.pending)
+      omega (
+        arith,
+        length-map (filter (is_of who.consumer) behind) (λ e. e.0),
+        length-filter (is_of who.consumer) behind,
+        count_by-le-length (is_of who.consumer) behind,
+        length-filter
+            (is_above above) all,
+        count_by-le-length (is_above above) all,
+        len-entries group.pending,
+      )
 
   waits_is : (group : Group) → Suffice who most group → object.waiting s.entries who.consumer above most group ≡ waiting who s above group
   waits_is group same = ap (λ (ids : List Id). map (λ id. (id, find (has_id id) s.entries)) ids) (same (own_ids group) (few_ids group))
@@ -68,7 +77,8 @@ module _ (who : Reader) (s : Stream) (above : Id) (most : ℕ) where
     pub again_left : changed groups who.group (object.handed_again s.entries who.consumer above most who.moment) ≡ changed groups who.group (left_of who (Some above) s)
     again_left = by (get groups who.group) refl
       where
-        by : (o : Option Group) → get groups who.group ≡ o → changed_from groups who.group (object.handed_again s.entries who.consumer above most who.moment) o ≡ changed_from groups who.group (left_of who (Some above) s) o
+        by : (o : Option Group) → get groups who.group ≡ o → changed_from groups who.group (object.handed_again s.entries who.consumer above most who.moment) o ≡ changed_from groups
+            who.group (left_of who (Some above) s) o
         by None is = refl
         by (Some group) is =
             let read = with_consumer who.consumer group in
@@ -81,10 +91,12 @@ module _ (who : Reader) (s : Stream) (above : Id) (most : ℕ) where
         by None is = refl
         by (Some group) is = cc
 
-    pub some_again : (list : List Waits) → Some list ≡ option_map (object.waiting s.entries who.consumer above most) (get groups who.group) → (key : List ℕ) → of_key key (waits_listed list) ∷ [] ≡ told_in who key (Some above) s (get groups who.group)
+    pub some_again : (list : List Waits) → Some list ≡ option_map (object.waiting s.entries who.consumer above most) (get groups who.group) → (key : List ℕ)
+        → of_key key (waits_listed list) ∷ [] ≡ told_in who key (Some above) s (get groups who.group)
     some_again list is key = by (get groups who.group) refl is
       where
-        by : (o : Option Group) → get groups who.group ≡ o → Some list ≡ option_map (object.waiting s.entries who.consumer above most) o → of_key key (waits_listed list) ∷ [] ≡ told_in who key (Some above) s o
+        by : (o : Option Group) → get groups who.group ≡ o → Some list ≡ option_map (object.waiting s.entries who.consumer above most) o → of_key key (waits_listed list)
+            ∷ [] ≡ told_in who key (Some above) s o
         by None at is = cc
         by (Some group) at is =
             let own : list ≡ object.waiting s.entries who.consumer above most group = cc in
@@ -98,7 +110,8 @@ none_handed world who key above none = ap (λ o. hand_at world who key above (st
 pub other_handed : (world : World) (who : Reader) (key : List ℕ) (above : Option Id) → FoundOther world key → hand_at world who key above (stream_there (look world key)) ≡ ([], world)
 other_handed world who key above found = ap (hand_at world who key above) (ap stream_there found.stands ∙ found.other)
 
-pub stream_handed : (world new : World) (who : Reader) (key : List ℕ) (above : Option Id) (handed : Option Handed) (s : Stream) (was : Option Stream) (now : Stream) → HasStream world key s → IsBefore world key was → Hands who above handed (or_no_stream was) now → new ≡ keep_stream world key now
+pub stream_handed : (world new : World) (who : Reader) (key : List ℕ) (above : Option Id) (handed : Option Handed) (s : Stream) (was : Option Stream) (now : Stream) → HasStream world key s
+    → IsBefore world key was → Hands who above handed (or_no_stream was) now → new ≡ keep_stream world key now
     → hand_at world who key above (stream_there (look world key)) ≡ (told_of_key key handed, new)
 stream_handed world new who key above handed s was now has stands hands is =
     let same : s ≡ or_no_stream was = ap or_no_stream (same_before world key (Some s) was has stands) in
@@ -108,7 +121,8 @@ stream_handed world new who key above handed s was now has stands hands is =
 
 -- ---- one key after the other
 
-module _ (w new : World) (who : Reader) (asked : List Asked) (i : ℕ) (one : Asked) (told : List (List Part)) (rest : drop i asked ≡ one ∷ drop (i + 1) asked) (is : hand_at w who one.0 one.1 (stream_there (look w one.0)) ≡ (told, new)) where
+module _ (w new : World) (who : Reader) (asked : List Asked) (i : ℕ) (one : Asked) (told : List (List Part)) (rest : drop i asked ≡ one ∷ drop (i + 1) asked)
+    (is : hand_at w who one.0 one.1 (stream_there (look w one.0)) ≡ (told, new)) where
   step : hand_out w who (drop i asked) ≡ (told ++ (hand_out new who (drop (i + 1) asked)).0, (hand_out new who (drop (i + 1) asked)).1)
   step = ap (hand_out w who) rest ∙ ap (λ (first : List (List Part) × World). (first.0 ++ (hand_out first.1 who (drop (i + 1) asked)).0, (hand_out first.1 who (drop (i + 1) asked)).1)) is
 

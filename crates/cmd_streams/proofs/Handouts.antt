@@ -1,5 +1,6 @@
 -- What is told of what was handed out.
-use Rattle.std.proofs.Common.{◌≡◌, ℕ, suc, ◌+◌, ◌==◌, true, false, List, [], ◌∷◌, ◌++◌, length, map, drop, flat_map, is_some, Option, None, Some, Result, Ok, Err, IfOk, OnOk, refl, sym, ap, subst, ◌∙◌, arith}
+use Rattle.std.proofs.Common.{◌≡◌, ℕ, suc, ◌+◌, ◌==◌, true, false, List, [], ◌∷◌, ◌++◌, length, map, drop, flat_map, is_some, Option, None, Some, Result, Ok, Err, IfOk, OnOk, refl, sym}
+use Rattle.std.proofs.Common.{ap, subst, ◌∙◌, arith}
 use Rattle.std.specs.List.{Contains}
 use Rattle.std.proofs.lemmas.List.{append_assoc}
 use Rattle.blocks.specs.Blocks.{Blocks}
@@ -59,7 +60,8 @@ map_long (k ∷ found) = ap suc (map_long found)
 
 pub handed_told : (found : List KeyHanded) → (length found == 0) ≡ false → all_listed (map key_parts found) ≡ Array (length found) ∷ flat_map key_parts found
 handed_told [] some = cc
-handed_told (k ∷ found) some = ap (λ n. Array n ∷ flat_map (λ (parts : List Part). parts) (map key_parts (k ∷ found))) (map_long (k ∷ found)) ∙ ap (λ l. Array (length (k ∷ found)) ∷ l) (told_map (k ∷ found))
+handed_told (k ∷ found) some = ap (λ n. Array n ∷ flat_map (λ (parts : List Part). parts) (map key_parts (k ∷ found))) (map_long (k ∷ found))
+    ∙ ap (λ l. Array (length (k ∷ found)) ∷ l) (told_map (k ∷ found))
 
 pub handed_one : (found : List KeyHanded) → Many 1 (Array (length found) ∷ flat_map key_parts found)
 handed_one found = array (length found) (flat_map key_parts found) (each key_parts (λ k. parts_one k.key.now k.handed) found)
@@ -73,7 +75,8 @@ pub again_long : (list : List Entry) → length (map told list) ≡ length list
 again_long [] = refl
 again_long (a ∷ list) = ap suc (again_long list)
 
-pub waiting_told : {X : Type 0} (result : Result (Unit {0}) X) (first mid new : List Part) (list : List Entry) → mid ≡ first ++ Array (length list) ∷ [] → OnOk result (new ≡ mid ++ flat_map again_parts list) → OnOk result (new ≡ first ++ waits_listed (map told list))
+pub waiting_told : {X : Type 0} (result : Result (Unit {0}) X) (first mid new : List Part) (list : List Entry) → mid ≡ first ++ Array (length list) ∷ []
+    → OnOk result (new ≡ mid ++ flat_map again_parts list) → OnOk result (new ≡ first ++ waits_listed (map told list))
 waiting_told (Err x) first mid new list p q = tt
 waiting_told (Ok u) first mid new list p q =
     q ∙ ap (λ l. l ++ flat_map again_parts list) p ∙ append_assoc first (Array (length list) ∷ []) (flat_map again_parts list)
@@ -101,21 +104,26 @@ module _ (one : Asked) (others asked : List Asked) (part : AreAsked (one ∷ oth
 -- ---- keys that are refused
 
 module _ (world : World) (name : List ℕ) (asked : List Asked) (i : ℕ) (one : Asked) (rest : drop i asked ≡ one ∷ drop (i + 1) asked) where
-  pub none_refused : (refusal : Option Refusal) → refusal ≡ refusal_at name (look world one.0) → is_some refusal ≡ false → first_refusal world name (drop i asked) ≡ first_refusal world name asked → first_refusal world name (drop (i + 1) asked) ≡ first_refusal world name asked
+  pub none_refused : (refusal : Option Refusal) → refusal ≡ refusal_at name (look world one.0) → is_some refusal ≡ false
+      → first_refusal world name (drop i asked) ≡ first_refusal world name asked → first_refusal world name (drop (i + 1) asked) ≡ first_refusal world name asked
   none_refused None is none so_far = ap (λ o. or_else o (first_refusal world name (drop (i + 1) asked))) is ∙ sym (ap (first_refusal world name) rest) ∙ so_far
   none_refused (Some refusal) is none so_far = cc
 
-  pub one_refused : (refusal : Option Refusal) → refusal ≡ refusal_at name (look world one.0) → is_some refusal ≡ true → first_refusal world name (drop i asked) ≡ first_refusal world name asked → refusal ≡ first_refusal world name asked
+  pub one_refused : (refusal : Option Refusal) → refusal ≡ refusal_at name (look world one.0) → is_some refusal ≡ true
+      → first_refusal world name (drop i asked) ≡ first_refusal world name asked → refusal ≡ first_refusal world name asked
   one_refused None is some so_far = cc
   one_refused (Some refusal) is some so_far = ap (λ o. or_else o (first_refusal world name (drop (i + 1) asked))) is ∙ sym (ap (first_refusal world name) rest) ∙ so_far
 
 -- ---- what is given
 
-pub refused_told : {X : Type 0} (old : World) (who : Reader) (asked : List Asked) (refusal : Refusal) (first : Option Refusal) → first ≡ first_refusal old who.group asked → first ≡ Some refusal → (result : Result (List Part) X) → IfOk result (λ reply. reply ≡ Refused refusal ∷ []) → IfOk result (λ reply. read_group old who asked ≡ leaves reply old)
+pub refused_told : {X : Type 0} (old : World) (who : Reader) (asked : List Asked) (refusal : Refusal) (first : Option Refusal) → first ≡ first_refusal old who.group asked
+    → first ≡ Some refusal → (result : Result (List Part) X) → IfOk result (λ reply. reply ≡ Refused refusal ∷ []) → IfOk result (λ reply. read_group old who asked ≡ leaves reply old)
 refused_told old who asked refusal first is some (Ok reply) told = ap (λ o. unless_refused old o (hand_out old who asked)) (sym is ∙ some) ∙ ap (λ r. leaves r old) (sym told)
 refused_told old who asked refusal first is some (Err x) told = tt
 
-pub handed_out : {X : Type 0} (old new : World) (who : Reader) (asked : List Asked) (first : Option Refusal) (told : List (List Part)) → first ≡ first_refusal old who.group asked → first ≡ None → told ≡ (hand_out old who asked).0 → new ≡ (hand_out old who asked).1 → (result : Result (List Part) X) → IfOk result (λ reply. reply ≡ all_listed told) → IfOk result (λ reply. read_group old who asked ≡ leaves reply new)
+pub handed_out : {X : Type 0} (old new : World) (who : Reader) (asked : List Asked) (first : Option Refusal) (told : List (List Part)) → first ≡ first_refusal old who.group asked
+    → first ≡ None → told ≡ (hand_out old who asked).0 → new ≡ (hand_out old who asked).1 → (result : Result (List Part) X) → IfOk result (λ reply. reply ≡ all_listed told)
+    → IfOk result (λ reply. read_group old who asked ≡ leaves reply new)
 handed_out old new who asked first told is none same world (Ok reply) replied =
     ap (λ o. unless_refused old o (hand_out old who asked)) (sym is ∙ none)
     ∙ ap (λ l. leaves (all_listed l) (hand_out old who asked).1) (sym same)
@@ -123,19 +131,22 @@ handed_out old new who asked first told is none same world (Ok reply) replied =
     ∙ ap (leaves reply) (sym world)
 handed_out old new who asked first told is none same world (Err x) replied = tt
 
-pub handed_calm : {S X : Type 0} (blocks : S → Blocks) (step : S → S → Type 0) (scope : Scope) (old new : Keyspace S) (told : List (List Part)) (result : Result (List Part) X) → IfOk result (λ reply. reply ≡ all_listed told) → Held blocks step scope old new → Kept blocks step scope old new result
+pub handed_calm : {S X : Type 0} (blocks : S → Blocks) (step : S → S → Type 0) (scope : Scope) (old new : Keyspace S) (told : List (List Part)) (result : Result (List Part) X)
+    → IfOk result (λ reply. reply ≡ all_listed told) → Held blocks step scope old new → Kept blocks step scope old new result
 handed_calm blocks step scope old new told (Err x) is held = calm blocks step scope old new (Err x) tt held
 handed_calm blocks step scope old new told (Ok reply) is held = calm blocks step scope old new (Ok reply) (λ refused. listed_calm told (subst IsRefusal is refused)) held
 
 -- ---- what is held
 
 -- what is held to one key is held to those that it is one of
-pub held_wider : {S : Type 0} (blocks : S → Blocks) (step : S → S → Type 0) (db : ℕ) (key : List ℕ) (keys : List (List ℕ)) → Contains keys key → (old new : Keyspace S) → Held blocks step (one_key db key) old new → Held blocks step (some_keys db keys) old new
+pub held_wider : {S : Type 0} (blocks : S → Blocks) (step : S → S → Type 0) (db : ℕ) (key : List ℕ) (keys : List (List ℕ)) → Contains keys key → (old new : Keyspace S)
+    → Held blocks step (one_key db key) old new → Held blocks step (some_keys db keys) old new
 held_wider blocks step db key keys there old new held = record {
   sound = held.sound;
   served = held.served;
   settings = held.settings;
-  within = within_wider value_refs (one_key db key) (some_keys db keys) (λ number here. here) (λ number other named. (named.0, subst (Contains keys) (sym named.1) there)) (λ number no. no) old.bases new.bases (blocks old.store) (blocks new.store) held.within;
+  within = within_wider value_refs (one_key db key) (some_keys db keys) (λ number here. here) (λ number other named. (named.0, subst (Contains keys) (sym named.1) there)) (λ number no. no)
+      old.bases new.bases (blocks old.store) (blocks new.store) held.within;
 }
 
 -- streams that are written one after the other are encoded as any stream

@@ -19,7 +19,8 @@ use Rattle.keyspace.specs.Commands.{seen}
 use Rattle.cmd_streams.specs.Found.{FoundOther}
 
 -- whatever would be made of a stream, a value of another type is refused
-pub refused_other : {E : Type 0} (old : World) (key : List ℕ) (answer : Option Stream → Outcome) (result : Result (List Part) E) → FoundOther old key → IfOk result (λ reply. reply ≡ Refused WrongType ∷ [])
+pub refused_other : {E : Type 0} (old : World) (key : List ℕ) (answer : Option Stream → Outcome) (result : Result (List Part) E) → FoundOther old key
+    → IfOk result (λ reply. reply ≡ Refused WrongType ∷ [])
     → IfOk result (λ reply. on_stream old key answer ≡ leaves reply old)
 refused_other old key answer (Ok reply) found is =
     ap (λ o. on_type stream_in old o answer) found.stands ∙ ap (λ o. of_type old o answer) found.other ∙ ap (λ r. leaves r old) (sym is)

@@ -11,7 +11,8 @@ pub same_changes : (m : Blocks) (s : Log) → IsStream m s → Changes m m (refs
 same_changes m s sound = Changes-same m (refs m s) (stream_laws_hold.owned m s sound)
 
 pub left_changes : (before after : Blocks) (old new : Log) → IsStream before old → new ≡ old → after ≡ before → Changes before after (refs before old) (refs after new)
-left_changes before after old new sound same stays = subst (λ h. Changes before after (refs before old) (refs after h)) (sym same) (subst (λ b. Changes before b (refs before old) (refs b old)) (sym stays) (same_changes before old sound))
+left_changes before after old new sound same stays = subst (λ h. Changes before after (refs before old) (refs after h)) (sym same)
+    (subst (λ b. Changes before b (refs before old) (refs b old)) (sym stays) (same_changes before old sound))
 
 -- the rest of a list from a place on is the element there and the rest behind it
 pub rest_from : {A : Type 0} (xs : List A) (i : ℕ) (x : A) → i < length xs → x ≡ get_or xs i x → drop i xs ≡ x ∷ drop (i + 1) xs

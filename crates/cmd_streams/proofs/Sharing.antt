@@ -1,5 +1,6 @@
 -- What is pending in a group, and what is told of it.
-use Rattle.std.proofs.Common.{◌≡◌, ℕ, zero, suc, ◌+◌, ◌<◌, Bool, true, false, cond, List, [], ◌∷◌, ◌++◌, length, map, flat_map, Option, None, Some, Result, Ok, Err, IfOk, is_some, inl, inr, refl, sym, ap, subst, ◌∙◌, arith}
+use Rattle.std.proofs.Common.{◌≡◌, ℕ, zero, suc, ◌+◌, ◌<◌, Bool, true, false, cond, List, [], ◌∷◌, ◌++◌, length, map, flat_map, Option, None, Some, Result, Ok, Err, IfOk, is_some, inl}
+use Rattle.std.proofs.Common.{inr, refl, sym, ap, subst, ◌∙◌, arith}
 use Rattle.std.specs.Prelude.{T, pos, slice_get, ◌-◌, ◌&&◌}
 use Rattle.std.specs.List.{count_by}
 use Rattle.std.specs.Option.{option_map}
@@ -41,7 +42,8 @@ module _ {X : Type 0} (number : List ℕ → ℕ) where
 
   numbered_below : (x : List ℕ) (es : List (List ℕ × X)) → T (below_all name_cmp x es) → T (below_all name_cmp x (numbered es))
   numbered_below x [] h = tt
-  numbered_below x (e ∷ es) h = elim (is_lt (name_cmp x e.0)) as (λ b. T (b && below_all name_cmp x es) → T (b && below_all name_cmp x (numbered es))) [ true ↦ λ t. numbered_below x es t | false ↦ λ t. t ] h
+  numbered_below x (e ∷ es) h = elim (is_lt (name_cmp x e.0)) as (λ b. T (b && below_all name_cmp x es) → T (b && below_all name_cmp x (numbered es)))
+      [ true ↦ λ t. numbered_below x es t | false ↦ λ t. t ] h
 
   numbered_sorted : (es : List (List ℕ × X)) → T (is_sorted name_cmp es) → T (is_sorted name_cmp (numbered es))
   numbered_sorted [] h = tt
@@ -139,7 +141,8 @@ waiting_is pending w is =
     ∙ ap (λ l. Array 4 ∷ Number (pos (fin.len pending)) ∷ id_or_null least ∷ id_or_null greatest ∷ l) (owners_share w.owners.items ∙ ap shares_parts (shares_are pending w is))
 
 -- what is pending in a group is told
-pub waiting_leaves : {X : Type 0} (group : Option Group) (told : Told) (given : Option Told) → Some told ≡ given → Tells group (option_map waiting_of given) → (result : Result (List Part) X) → IfOk result (λ reply. reply ≡ waiting_told (waiting_of told))
+pub waiting_leaves : {X : Type 0} (group : Option Group) (told : Told) (given : Option Told) → Some told ≡ given → Tells group (option_map waiting_of given)
+    → (result : Result (List Part) X) → IfOk result (λ reply. reply ≡ waiting_told (waiting_of told))
     → IfOk result (λ reply. (world : World) → pending_in world group ≡ leaves reply world)
 waiting_leaves group told given is tells (Err x) replied = tt
 waiting_leaves group told given is tells (Ok reply) replied = λ world. by group (subst (λ o. Tells group (option_map waiting_of o)) (sym is) tells) world
@@ -149,7 +152,8 @@ waiting_leaves group told given is tells (Ok reply) replied = λ world. by group
     by (Some g) t world = ap (λ l. leaves l world) (sym (replied ∙ waiting_is g.pending (waiting_of told) t))
 
 -- or there is no such group
-pub none_leaves : {X : Type 0} (group : Option Group) (given : Option Told) → None ≡ given → Tells group (option_map waiting_of given) → (result : Result (List Part) X) → IfOk result (λ reply. reply ≡ Refused NoSuchGroup ∷ [])
+pub none_leaves : {X : Type 0} (group : Option Group) (given : Option Told) → None ≡ given → Tells group (option_map waiting_of given) → (result : Result (List Part) X)
+    → IfOk result (λ reply. reply ≡ Refused NoSuchGroup ∷ [])
     → IfOk result (λ reply. (world : World) → pending_in world group ≡ leaves reply world)
 none_leaves group given is tells (Err x) replied = tt
 none_leaves group given is tells (Ok reply) replied = λ world. by group (subst (λ o. Tells group (option_map waiting_of o)) (sym is) tells) world

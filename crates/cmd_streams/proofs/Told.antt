@@ -7,7 +7,8 @@ use Rattle.plain_world.specs.declared.reply.Part.{Part}
 use Rattle.plain_model.specs.StreamSteps.{entry_parts}
 
 -- all elements are told
-pub all_told : {A : Type 0} (tell : A → List Part) (list : List A) (i : ℕ) (first parts : List Part) → length list ≤ i → parts ≡ first ++ flat_map tell (take i list) → parts ≡ first ++ flat_map tell list
+pub all_told : {A : Type 0} (tell : A → List Part) (list : List A) (i : ℕ) (first parts : List Part) → length list ≤ i → parts ≡ first ++ flat_map tell (take i list) → parts ≡ first
+    ++ flat_map tell list
 all_told tell list i first parts end so_far = so_far ∙ ap (λ l. first ++ flat_map tell l) (take_all i list end)
 
 -- what is told of an entry that was taken out

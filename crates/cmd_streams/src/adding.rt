@@ -155,7 +155,10 @@ fn append_at<B: BlockStore>(
     requires seeks { Seeks keyspace.old.bases (B.blocks keyspace.old.store) at.now.db key.now sought }
     requires there { IsStreamThere (sight B.blocks keyspace.old at.now) keyspace.old.bases (B.blocks keyspace.old.store) at.now.db key.now at.now.moment there }
     requires above { (before : Option model.Stream) → IsBefore (sight B.blocks keyspace.old at.now) key.now before → IsNext append.id append.pairs (or_no_stream before) }
-    ensures gives { IfOk result (λ reply. (before : Option model.Stream) → IsBefore (sight B.blocks keyspace.old at.now) key.now before → steps.append_as (sight B.blocks keyspace.old at.now) key.now append.trim append.pairs (or_no_stream before) (Ok (pair_of append.id)) ≡ leaves reply (sight B.blocks keyspace.new at.now)) }
+    ensures gives { IfOk result
+        (λ reply. (before : Option model.Stream) → IsBefore (sight B.blocks keyspace.old at.now) key.now before
+        → steps.append_as (sight B.blocks keyspace.old at.now) key.now append.trim append.pairs (or_no_stream before) (Ok (pair_of append.id)) ≡ leaves reply
+        (sight B.blocks keyspace.new at.now)) }
     ensures kept { Kept B.blocks B.step (one_key at.now.db key.now) keyspace.old keyspace.new result }
     ensures forms { IfOk result (λ reply. Formed B.blocks Log keyspace.old keyspace.new) }
 {

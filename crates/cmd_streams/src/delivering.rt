@@ -113,8 +113,10 @@ fn hand_fresh<B: BlockStore>(
     moment: u64,
 ) -> Result<Option<Handed>, Memory>
     requires sound { IsStream (B.blocks store.now) stream.old }
-    ensures told { IfOk result (λ handed. (key : List ℕ) → told_of_key key handed ≡ told_in (reader moment who.now) key None (stream_of (B.blocks store.now) stream.old) (get stream.old.groups who.now.group.now)) }
-    ensures ok { OnOk result (stream.new ≡ record stream.old { groups = changed stream.old.groups who.now.group.now (left_of (reader moment who.now) None (stream_of (B.blocks store.now) stream.old)) }) }
+    ensures told { IfOk result
+        (λ handed. (key : List ℕ) → told_of_key key handed ≡ told_in (reader moment who.now) key None (stream_of (B.blocks store.now) stream.old) (get stream.old.groups who.now.group.now)) }
+    ensures ok { OnOk result
+        (stream.new ≡ record stream.old { groups = changed stream.old.groups who.now.group.now (left_of (reader moment who.now) None (stream_of (B.blocks store.now) stream.old)) }) }
     ensures err { OnErr result (stream.new ≡ stream.old) }
 {
     let most = most_of(stream, who.limit);
@@ -133,8 +135,11 @@ fn hand_again<B: BlockStore>(
     moment: u64,
 ) -> Result<Option<Handed>, Memory>
     requires sound { IsStream (B.blocks store.now) stream.old }
-    ensures told { IfOk result (λ handed. (key : List ℕ) → told_of_key key handed ≡ told_in (reader moment who.now) key (Some above) (stream_of (B.blocks store.now) stream.old) (get stream.old.groups who.now.group.now)) }
-    ensures ok { OnOk result (stream.new ≡ record stream.old { groups = changed stream.old.groups who.now.group.now (left_of (reader moment who.now) (Some above) (stream_of (B.blocks store.now) stream.old)) }) }
+    ensures told { IfOk result
+        (λ handed. (key : List ℕ) → told_of_key key handed ≡ told_in (reader moment who.now) key (Some above) (stream_of (B.blocks store.now) stream.old)
+        (get stream.old.groups who.now.group.now)) }
+    ensures ok { OnOk result
+        (stream.new ≡ record stream.old { groups = changed stream.old.groups who.now.group.now (left_of (reader moment who.now) (Some above) (stream_of (B.blocks store.now) stream.old)) }) }
     ensures err { OnErr result (stream.new ≡ stream.old) }
 {
     let most = most_waiting(stream, who.group, who.limit)?;
@@ -187,7 +192,9 @@ fn hand_one<B: BlockStore>(
     above: Option<EntryId>,
 ) -> Result<Option<Handed>, Memory>
     requires ready { Ready B.blocks keyspace.old at.now }
-    ensures gives { IfOk result (λ handed. hand_at (sight B.blocks keyspace.old at.now) (reader at.now.moment who.now) key.now above (stream_there (look (sight B.blocks keyspace.old at.now) key.now)) ≡ (told_of_key key.now handed, sight B.blocks keyspace.new at.now)) }
+    ensures gives { IfOk result
+        (λ handed. hand_at (sight B.blocks keyspace.old at.now) (reader at.now.moment who.now) key.now above (stream_there (look (sight B.blocks keyspace.old at.now) key.now)) ≡
+        (told_of_key key.now handed, sight B.blocks keyspace.new at.now)) }
     ensures held { Held B.blocks B.step (one_key at.now.db key.now) keyspace.old keyspace.new }
     ensures forms { IfOk result (λ handed. Formed B.blocks Log keyspace.old keyspace.new) }
 {

@@ -90,7 +90,9 @@ fn create_at<B: BlockStore>(
     requires seeks { Seeks keyspace.old.bases (B.blocks keyspace.old.store) at.now.db key.now sought }
     requires there { IsStreamThere (sight B.blocks keyspace.old at.now) keyspace.old.bases (B.blocks keyspace.old.store) at.now.db key.now at.now.moment there }
     requires free { (before : Option model.Stream) → IsBefore (sight B.blocks keyspace.old at.now) key.now before → contains_key (or_no_stream before).groups name.now ≡ false }
-    ensures gives { IfOk result (λ reply. (before : Option model.Stream) → IsBefore (sight B.blocks keyspace.old at.now) key.now before → create_in (sight B.blocks keyspace.old at.now) key.now name.now id (or_no_stream before) ≡ leaves reply (sight B.blocks keyspace.new at.now)) }
+    ensures gives { IfOk result
+        (λ reply. (before : Option model.Stream) → IsBefore (sight B.blocks keyspace.old at.now) key.now before
+        → create_in (sight B.blocks keyspace.old at.now) key.now name.now id (or_no_stream before) ≡ leaves reply (sight B.blocks keyspace.new at.now)) }
     ensures kept { Kept B.blocks B.step (one_key at.now.db key.now) keyspace.old keyspace.new result }
     ensures forms { IfOk result (λ reply. Formed B.blocks Log keyspace.old keyspace.new) }
 {

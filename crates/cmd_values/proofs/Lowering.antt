@@ -45,14 +45,20 @@ module _ (at : Ctx) (old mid : Bases) (m own after : Blocks) (key : List ℕ) (l
     text_sound clause = subst (λ b. Sound new b) (sym stays) (Lower-sound old mid m after at.db at.moment key lifted lowered [] lifts sound changes refl refl new clause)
 
     -- from the clauses `within` of `lift` and `lower`
-    pub text_within : Within (one_key at.db key) old mid m m → ((k : List ℕ) (deadline : Option ℕ) → IsPlace mid after lifted.db lifted.item k deadline → Within (one_key lifted.db k) mid new after after) → Within (one_key at.db key) old new m later
-    text_within taken clause = subst (Within (one_key at.db key) old new m) (sym stays) (Lower-within old mid m after at.db at.moment key lifted lowered [] lifts sound changes refl refl new taken clause)
+    pub text_within : Within (one_key at.db key) old mid m m →
+        ((k : List ℕ) (deadline : Option ℕ) → IsPlace mid after lifted.db lifted.item k deadline → Within (one_key lifted.db k) mid new after after)
+        → Within (one_key at.db key) old new m later
+    text_within taken clause = subst (Within (one_key at.db key) old new m) (sym stays)
+        (Lower-within old mid m after at.db at.moment key lifted lowered [] lifts sound changes refl refl new taken clause)
 
     -- from the clause `has` of `lower`
-    pub text_has : ((k : List ℕ) (deadline : Option ℕ) → IsPlace mid after lifted.db lifted.item k deadline → HasOnly new after lifted.db k (values.Text changed)) → HasOnly new later at.db key (values.Text changed)
+    pub text_has : ((k : List ℕ) (deadline : Option ℕ) → IsPlace mid after lifted.db lifted.item k deadline → HasOnly new after lifted.db k (values.Text changed))
+        → HasOnly new later at.db key (values.Text changed)
     text_has clause = subst (λ b. HasOnly new b at.db key (values.Text changed)) (sym stays) (Lower-has old mid m after at.db at.moment key lifted lowered [] lifts sound changes refl refl new clause)
 
-    pub text_becomes : ((k : List ℕ) (deadline : Option ℕ) → IsPlace mid after lifted.db lifted.item k deadline → means lifted.db new after ≡ put (means lifted.db mid after) k (record { value = value_of after (values.Text changed); deadline = deadline }))
+    pub text_becomes :
+        ((k : List ℕ) (deadline : Option ℕ) → IsPlace mid after lifted.db lifted.item k deadline
+        → means lifted.db new after ≡ put (means lifted.db mid after) k (record { value = value_of after (values.Text changed); deadline = deadline }))
         → (next : List ℕ → List ℕ) → text_bytes after changed ≡ next (text_bytes own text)
         → Becomes (seen at old m) key next (seen at new later)
     text_becomes clause next e bytes there =
@@ -75,12 +81,15 @@ string_kind m (values.Zset b) is = absurd is
 string_kind m (values.Stream b) is = absurd is
 
 -- the value that was lifted from a key where a string stands is one
-pub lifted_string : (old mid : Bases) (m : Blocks) (at : Ctx) (key : List ℕ) (lifted : Lifted) → Lifts old mid m at.db key at.moment lifted → ((entry : Entry) → look (seen at old m) key ≡ Some entry → IsString entry.value) → IsText lifted.value
+pub lifted_string : (old mid : Bases) (m : Blocks) (at : Ctx) (key : List ℕ) (lifted : Lifted) → Lifts old mid m at.db key at.moment lifted
+    → ((entry : Entry) → look (seen at old m) key ≡ Some entry → IsString entry.value) → IsText lifted.value
 lifted_string old mid m at key lifted lifts is = string_kind m lifted.value (is (record { value = value_of m lifted.value; deadline = lifts.deadline }) lifts.stands)
 
 -- the value that was lifted from a key where these bytes stand is a string
-pub lifted_there : (old mid : Bases) (m : Blocks) (at : Ctx) (key bytes : List ℕ) (lifted : Lifted) → Lifts old mid m at.db key at.moment lifted → IsThere (seen at old m) key bytes → IsText lifted.value
-lifted_there old mid m at key bytes lifted lifts there = lifted_string old mid m at key lifted lifts (λ entry stands. subst IsString (sym (entry_of there.deadline entry (sym there.stands ∙ stands))) tt)
+pub lifted_there : (old mid : Bases) (m : Blocks) (at : Ctx) (key bytes : List ℕ) (lifted : Lifted) → Lifts old mid m at.db key at.moment lifted → IsThere (seen at old m) key bytes
+    → IsText lifted.value
+lifted_there old mid m at key bytes lifted lifts there = lifted_string old mid m at key lifted lifts
+    (λ entry stands. subst IsString (sym (entry_of there.deadline entry (sym there.stands ∙ stands))) tt)
   where
     value_in : Option Entry → model.Value
     value_in None = Str []

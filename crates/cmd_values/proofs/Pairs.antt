@@ -19,9 +19,11 @@ module _ (pair : List ℕ × List ℕ) (others pairs : List (List ℕ × List �
   rest_part key there = part key (suc there.0, omega (arith, there.1), there.2)
 
 -- what is within one key is within those that it is one of
-pub within_pairs : (db : ℕ) (key : List ℕ) (pairs : List (List ℕ × List ℕ)) → Contains (first_words pairs) key → (old new : Bases) (m after : Blocks) → Within (one_key db key) old new m after → Within (some_keys db (first_words pairs)) old new m after
+pub within_pairs : (db : ℕ) (key : List ℕ) (pairs : List (List ℕ × List ℕ)) → Contains (first_words pairs) key → (old new : Bases) (m after : Blocks)
+    → Within (one_key db key) old new m after → Within (some_keys db (first_words pairs)) old new m after
 within_pairs db key pairs there old new m after p =
-    within_wider value_refs (one_key db key) (some_keys db (first_words pairs)) (λ number here. here) (λ number other named. (named.0, subst (Contains (first_words pairs)) (sym named.1) there)) (λ number no. no) old new m after p
+    within_wider value_refs (one_key db key) (some_keys db (first_words pairs)) (λ number here. here)
+    (λ number other named. (named.0, subst (Contains (first_words pairs)) (sym named.1) there)) (λ number no. no) old new m after p
 
 -- the rest of a list from a place on is the element there and the rest behind it
 pub rest_from : {A : Type 0} (xs : List A) (i : ℕ) (x : A) → i < length xs → x ≡ get_or xs i x → drop i xs ≡ x ∷ drop (i + 1) xs

@@ -18,7 +18,8 @@ use Rattle.keyspace.specs.Values.{value_refs, value_of, value_own}
 use Rattle.keyspace.proofs.Uses.{sound_is_intact}
 
 -- what was found of a key stands over a store where a value was made
-pub kept_seeks : (bases : Bases) (m after : Blocks) (db : ℕ) (key : List ℕ) (sought : Sought) (ys : List BlockRef) → Sound bases m → Changes m after [] ys → Seeks bases m db key sought → Seeks bases after db key sought
+pub kept_seeks : (bases : Bases) (m after : Blocks) (db : ℕ) (key : List ℕ) (sought : Sought) (ys : List BlockRef) → Sound bases m → Changes m after [] ys → Seeks bases m db key sought
+    → Seeks bases after db key sought
 kept_seeks bases m after db key sought ys sound p s = record {
   hashed = s.hashed;
   stands = stands sought.item s.stands;
@@ -28,7 +29,8 @@ kept_seeks bases m after db key sought ys sound p s = record {
     same : (at : ℕ) (e : Element Value) → item (table_at bases db) at ≡ Some e → after e.key ≡ m e.key
     same at e found =
         kept_inside value_refs value_of value_own bases m after [] [] ys (sound_is_intact bases m [] sound) p (λ r. omega arith) e.key
-        (let itself : one_if (ref_eq e.key e.key) ≡ 1 = cond-true _ _ _ (ref_eq-refl e.key) in omega (arith, itself, named_in (value_refs m) (table_at bases db) at e e.key found, table_owned (value_refs m) bases db e.key))
+        (let itself : one_if (ref_eq e.key e.key) ≡ 1 = cond-true _ _ _ (ref_eq-refl e.key) in
+        omega (arith, itself, named_in (value_refs m) (table_at bases db) at e e.key found, table_owned (value_refs m) bases db e.key))
 
     stands : (o : Option ℕ) → IfSome o (λ at. Stands m (table_at bases db) at key) → IfSome o (λ at. Stands after (table_at bases db) at key)
     stands None h = tt

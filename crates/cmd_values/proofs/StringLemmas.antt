@@ -81,7 +81,8 @@ with_other old other answer is = refl
 pub on_other : (old : World) (key : List ℕ) (answer : Option (List ℕ) → Outcome) → FoundOther old key → on_string old (look old key) answer ≡ refused WrongType old
 on_other old key answer found = ap (λ o. on_string old o answer) found.stands ∙ with_other old found.entry.value (λ bytes. answer (Some bytes)) found.other
 
-pub refused_other : {E : Type 0} (old : World) (key : List ℕ) (answer : Option (List ℕ) → Outcome) (result : Result (List Part) E) → FoundOther old key → IfOk result (λ reply. reply ≡ Refused WrongType ∷ []) → IfOk result (λ reply. on_string old (look old key) answer ≡ leaves reply old)
+pub refused_other : {E : Type 0} (old : World) (key : List ℕ) (answer : Option (List ℕ) → Outcome) (result : Result (List Part) E) → FoundOther old key
+    → IfOk result (λ reply. reply ≡ Refused WrongType ∷ []) → IfOk result (λ reply. on_string old (look old key) answer ≡ leaves reply old)
 refused_other old key answer (Ok reply) found is = on_other old key answer found ∙ ap (λ r. leaves r old) (sym is)
 refused_other old key answer (Err x) found is = tt
 
@@ -118,7 +119,8 @@ pub old_none : (world : World) (key : List ℕ) (reply : List Part) → look wor
 old_none world key reply none is = record { before = None; is = λ answer. ap (λ o. on_string world o answer) none; reply_is = is }
 
 -- the old value is the reply, and this world is left
-pub old_value_then : (old new : World) (key : List ℕ) (reply : List Part) (left : World) → OldValue old key reply → new ≡ left → on_string old (look old key) (λ before. leaves (or_null before ∷ []) left) ≡ leaves reply new
+pub old_value_then : (old new : World) (key : List ℕ) (reply : List Part) (left : World) → OldValue old key reply → new ≡ left
+    → on_string old (look old key) (λ before. leaves (or_null before ∷ []) left) ≡ leaves reply new
 old_value_then old new key reply left o is =
     o.is (λ before. leaves (or_null before ∷ []) left) ∙ ap (λ r. leaves r left) (sym o.reply_is) ∙ ap (leaves reply) (sym is)
 
@@ -129,8 +131,10 @@ due_fits old moment time n answer is fits =
     ∙ ap (λ b. if b then answer n else refused InvalidExpireTime old) (fits_to n fits)
 
 -- a string is written that lasts until then
-pub set_lasting : {E : Type 0} (old new : World) (moment : ℕ) (key value : List ℕ) (unit : TimeUnit) (n : ℤ) (d : ℤ) (deadline : ℕ) (line : Part) (result : Result (List Part) E) → d ≡ due moment (record { unit = unit; from = Now; n = n }) → FitsSigned w64 d → deadline ≡ from_zero d
-    → new ≡ stand old moment key (record { value = Str value; deadline = Some deadline }) → line ≡ ok → IfOk result (λ reply. reply ≡ line ∷ []) → IfOk result (λ reply. set_for old moment key unit n value ≡ leaves reply new)
+pub set_lasting : {E : Type 0} (old new : World) (moment : ℕ) (key value : List ℕ) (unit : TimeUnit) (n : ℤ) (d : ℤ) (deadline : ℕ) (line : Part) (result : Result (List Part) E)
+    → d ≡ due moment (record { unit = unit; from = Now; n = n }) → FitsSigned w64 d → deadline ≡ from_zero d
+    → new ≡ stand old moment key (record { value = Str value; deadline = Some deadline }) → line ≡ ok → IfOk result (λ reply. reply ≡ line ∷ [])
+    → IfOk result (λ reply. set_for old moment key unit n value ≡ leaves reply new)
 set_lasting old new moment key value unit n d deadline line (Ok reply) is fits from world same told =
     due_fits old moment (record { unit = unit; from = Now; n = n }) d (λ due. leaves (ok ∷ []) (stand old moment key (lasts_until (Str value) (from_zero due)))) is fits
     ∙ ap (λ t. leaves (ok ∷ []) (stand old moment key (lasts_until (Str value) t))) (sym from)
@@ -138,7 +142,8 @@ set_lasting old new moment key value unit n d deadline line (Ok reply) is fits f
 set_lasting old new moment key value unit n d deadline line (Err x) is fits from world same told = tt
 
 -- a string that was made is put at a key
-pub replaced : {E : Type 0} (at : Ctx) (bases : Bases) (m after : Blocks) (text : Text) (sound : Sound bases m) (p : Changes m after [] (text_refs text)) (new : Bases) (later : Blocks) (key value : List ℕ) (deadline : Option ℕ)
+pub replaced : {E : Type 0} (at : Ctx) (bases : Bases) (m after : Blocks) (text : Text) (sound : Sound bases m) (p : Changes m after [] (text_refs text)) (new : Bases) (later : Blocks)
+    (key value : List ℕ) (deadline : Option ℕ)
     → text_bytes after text ≡ value → (result : Result (Unit {0}) E)
     → OnOk result (means at.db new later ≡ put (means at.db bases after) key (record { value = Str (text_bytes after text); deadline = deadline }))
     → OnOk result (seen at new later ≡ stand (seen at bases m) at.moment key (record { value = Str value; deadline = deadline }))
@@ -245,29 +250,34 @@ on_ok (Err e) h = tt
 
 -- the text of a number is put where nothing stood
 pub number_put : {E : Type 0} (at : Ctx) (bases new : Bases) (m later : Blocks) (key : List ℕ) (n : ℤ) (result : Result (Unit {0}) E)
-    → look (seen at bases m) key ≡ None → OnOk result (means at.db new later ≡ put (means at.db bases m) key (plain (canonical n))) → OnOk result (seen at new later ≡ change (seen at bases m) key (canonical n))
+    → look (seen at bases m) key ≡ None → OnOk result (means at.db new later ≡ put (means at.db bases m) key (plain (canonical n)))
+    → OnOk result (seen at new later ≡ change (seen at bases m) key (canonical n))
 number_put at bases new m later key n (Ok u) none h =
     ap (λ w. live w at.moment) h ∙ live_put_in_time (means at.db bases m) at.moment key (plain (canonical n)) refl
     ∙ ap (λ d. put (seen at bases m) key (record { value = Str (canonical n); deadline = d })) (sym (ap deadline_of none))
 number_put at bases new m later key n (Err e) none h = tt
 
 -- the string that was there is a number now, and keeps its deadline
-pub number_lowered : {A E : Type 0} (old new : World) (key text : List ℕ) (n : ℤ) (result : Result A E) (deadline : Option ℕ) → look old key ≡ Some (record { value = Str text; deadline = deadline }) → Becomes old key (λ _. canonical n) new → OnOk result (new ≡ change old key (canonical n))
+pub number_lowered : {A E : Type 0} (old new : World) (key text : List ℕ) (n : ℤ) (result : Result A E) (deadline : Option ℕ)
+    → look old key ≡ Some (record { value = Str text; deadline = deadline }) → Becomes old key (λ _. canonical n) new → OnOk result (new ≡ change old key (canonical n))
 number_lowered old new key text n result deadline stands becomes = on_ok result (becomes text (record { deadline = deadline; stands = stands }))
 
 -- where a key was found there is one
-pub item_there : (bases : Bases) (m : Blocks) (db moment : ℕ) (key : List ℕ) (there : Option ℕ) → IfSome there (λ at. StandsAt bases m db key moment at) → IfSome there (λ at. (own : List ℕ) × StandsAt bases m db own moment at)
+pub item_there : (bases : Bases) (m : Blocks) (db moment : ℕ) (key : List ℕ) (there : Option ℕ) → IfSome there (λ at. StandsAt bases m db key moment at)
+    → IfSome there (λ at. (own : List ℕ) × StandsAt bases m db own moment at)
 item_there bases m db moment key None h = tt
 item_there bases m db moment key (Some at) h = (key, h)
 
 -- a value that is a string stands at a key
-pub found_text : (bases : Bases) (m : Blocks) (at : Ctx) (key : List ℕ) (value : kinds.Value) (text : Text) → value ≡ kinds.TheVariants.Text text → Found bases m at.db key at.moment value → FoundText (seen at bases m) m key text
+pub found_text : (bases : Bases) (m : Blocks) (at : Ctx) (key : List ℕ) (value : kinds.Value) (text : Text) → value ≡ kinds.TheVariants.Text text → Found bases m at.db key at.moment value
+    → FoundText (seen at bases m) m key text
 found_text bases m at key value text is found =
     let own = subst (Found bases m at.db key at.moment) is found in
     record { deadline = own.deadline; stands = own.stands; owned = own.owned }
 
 -- the number at a key, from the text there
-pub number_read : (world : World) (blocks : Blocks) (key : List ℕ) (text : Text) (answer : Option ℤ) → FoundText world blocks key text → Reads (text_bytes blocks text) answer → HasNumber world key answer
+pub number_read : (world : World) (blocks : Blocks) (key : List ℕ) (text : Text) (answer : Option ℤ) → FoundText world blocks key text → Reads (text_bytes blocks text) answer
+    → HasNumber world key answer
 number_read world blocks key text answer found reads = record {
   before = Some (text_bytes blocks text);
   is = some_before world key (text_bytes blocks text) found.deadline found.stands;
@@ -292,22 +302,26 @@ pub not_counted : (old : World) (key : List ℕ) (n : ℤ) → ¬ (FitsSigned w6
 not_counted old key n large = ap (λ b. if b then leaves (Number n ∷ []) (change old key (canonical n)) else refused Overflow old) (no_fit n large)
 
 -- a number is counted on, and the new one is written
-pub counted : {E : Type 0} (old new : World) (key : List ℕ) (n m : ℤ) (next : ℤ → ℤ) (result : Result (List Part) E) → HasNumber old key (Some n) → FitsSigned w64 m → m ≡ next n → IfOk result (λ reply. reply ≡ Number m ∷ []) → OnOk result (new ≡ change old key (canonical m)) → IfOk result (λ reply. count old key next ≡ leaves reply new)
+pub counted : {E : Type 0} (old new : World) (key : List ℕ) (n m : ℤ) (next : ℤ → ℤ) (result : Result (List Part) E) → HasNumber old key (Some n) → FitsSigned w64 m → m ≡ next n
+    → IfOk result (λ reply. reply ≡ Number m ∷ []) → OnOk result (new ≡ change old key (canonical m)) → IfOk result (λ reply. count old key next ≡ leaves reply new)
 counted old new key n m next (Ok reply) at fits is told world =
     at.is (λ before. count_on old key next (number_at before)) ∙ ap (count_on old key next) at.number_is ∙ ap (count_to old key) (sym is) ∙ counted_on old key m fits
     ∙ ap (λ r. leaves r (change old key (canonical m))) (sym told) ∙ ap (leaves reply) (sym world)
 counted old new key n m next (Err x) at fits is told world = tt
 
 -- what SET answers and leaves
-pub set_given : (old new : World) (moment : ℕ) (key : List ℕ) (entry : Entry) (condition : Condition) (get written : Bool) (reply : List Part) → written ≡ allows condition (is_some (look old key)) → IsSetReply old key get written (Some reply)
+pub set_given : (old new : World) (moment : ℕ) (key : List ℕ) (entry : Entry) (condition : Condition) (get written : Bool) (reply : List Part)
+    → written ≡ allows condition (is_some (look old key)) → IsSetReply old key get written (Some reply)
     → new ≡ (if written then stand old moment key entry else old) → set_outcome old moment key entry condition get ≡ leaves reply new
 set_given old new moment key entry condition true written reply is told world =
     old_value_then old new key reply (set old moment key entry condition) told (world ∙ ap (λ b. if b then stand old moment key entry else old) is)
 set_given old new moment key entry condition false written reply is told world =
-    sym (ap (λ b. leaves ((if b then ok else Null) ∷ []) (if b then stand old moment key entry else old)) is) ∙ ap (λ r. leaves r (if written then stand old moment key entry else old)) (sym told) ∙ ap (leaves reply) (sym world)
+    sym (ap (λ b. leaves ((if b then ok else Null) ∷ []) (if b then stand old moment key entry else old)) is)
+    ∙ ap (λ r. leaves r (if written then stand old moment key entry else old)) (sym told) ∙ ap (leaves reply) (sym world)
 
 -- SET with GET of a value of another type is refused
-pub set_other : (old : World) (moment : ℕ) (key : List ℕ) (entry : Entry) (condition : Condition) (get written : Bool) → IsSetReply old key get written None → set_outcome old moment key entry condition get ≡ refused WrongType old
+pub set_other : (old : World) (moment : ℕ) (key : List ℕ) (entry : Entry) (condition : Condition) (get written : Bool) → IsSetReply old key get written None
+    → set_outcome old moment key entry condition get ≡ refused WrongType old
 set_other old moment key entry condition true written told = on_other old key (λ before. leaves (or_null before ∷ []) (set old moment key entry condition)) told
 set_other old moment key entry condition false written told = absurd told
 
@@ -319,7 +333,8 @@ not_number old key next (Ok reply) at is =
 not_number old key next (Err x) at is = tt
 
 -- the new number doesn't fit
-pub overflowed : {E : Type 0} (old : World) (key : List ℕ) (n : ℤ) (next : ℤ → ℤ) (result : Result (List Part) E) → HasNumber old key (Some n) → ¬ (FitsSigned w64 (next n)) → IfOk result (λ reply. reply ≡ Refused Overflow ∷ [])
+pub overflowed : {E : Type 0} (old : World) (key : List ℕ) (n : ℤ) (next : ℤ → ℤ) (result : Result (List Part) E) → HasNumber old key (Some n) → ¬ (FitsSigned w64 (next n))
+    → IfOk result (λ reply. reply ≡ Refused Overflow ∷ [])
     → IfOk result (λ reply. count old key next ≡ leaves reply old)
 overflowed old key n next (Ok reply) at large is =
     at.is (λ before. count_on old key next (number_at before)) ∙ ap (count_on old key next) at.number_is ∙ not_counted old key (next n) large ∙ ap (λ r. leaves r old) (sym is)
@@ -327,32 +342,38 @@ overflowed old key n next (Err x) at large is = tt
 
 -- a command on strings ran
 pub ran_strings : {S E : Type 0} (blocks : S → Blocks) (step : S → S → Type 0) (old new : Keyspace S) (at : Ctx) (command : Command) (own same : StringCommand) (result : Result (List Part) E)
-    → command ≡ Strings own → own ≡ same → Gives blocks old new at same result → Kept blocks step (string_scope at.db same) old new result → IfOk result (λ reply. Formed blocks (string_form (sight blocks old at) same) old new) → Runs blocks step old new at command result
+    → command ≡ Strings own → own ≡ same → Gives blocks old new at same result → Kept blocks step (string_scope at.db same) old new result
+    → IfOk result (λ reply. Formed blocks (string_form (sight blocks old at) same) old new) → Runs blocks step old new at command result
 ran_strings blocks step old new at command own same result e f given kept forms =
     record {
       answers = step_of old.bases.seed at.moment (sight blocks old at) (sight blocks new at) command own same result e f given;
       kept = subst (λ x. Kept blocks step (scope_of at.db x) old new result) (sym e) (subst (λ x. Kept blocks step (string_scope at.db x) old new result) (sym f) kept);
       shows = subst (λ x. IfOk result (λ reply. Shows blocks old new at x reply)) (sym e) (nothing_shown result);
-      forms = subst (λ x. IfOk result (λ reply. Formed blocks (form_of at.db (sight blocks old at) x) old new)) (sym e) (subst (λ x. IfOk result (λ reply. Formed blocks (string_form (sight blocks old at) x) old new)) (sym f) forms);
+      forms = subst (λ x. IfOk result (λ reply. Formed blocks (form_of at.db (sight blocks old at) x) old new)) (sym e)
+          (subst (λ x. IfOk result (λ reply. Formed blocks (string_form (sight blocks old at) x) old new)) (sym f) forms);
     }
 
 -- a command on strings that writes none
 pub removed_strings : {S E : Type 0} (blocks : S → Blocks) (step : S → S → Type 0) (old new : Keyspace S) (at : Ctx) (command : Command) (own same : StringCommand) (result : Result (List Part) E)
-    → ((db : ℕ) (key : List ℕ) → (string_scope at.db same).writes db key → ⊥) → command ≡ Strings own → own ≡ same → Gives blocks old new at same result → Kept blocks step (string_scope at.db same) old new result → Runs blocks step old new at command result
+    → ((db : ℕ) (key : List ℕ) → (string_scope at.db same).writes db key → ⊥) → command ≡ Strings own → own ≡ same → Gives blocks old new at same result
+    → Kept blocks step (string_scope at.db same) old new result → Runs blocks step old new at command result
 removed_strings blocks step old new at command own same result none e f given kept =
     ran_strings blocks step old new at command own same result e f given kept
-    (formed_ok blocks (string_form (sight blocks old at) same) old new result (formed_scope (string_form (sight blocks old at) same) (string_scope at.db same) none old.bases new.bases (blocks old.store) (blocks new.store) kept.held.within))
+    (formed_ok blocks (string_form (sight blocks old at) same) old new result
+    (formed_scope (string_form (sight blocks old at) same) (string_scope at.db same) none old.bases new.bases (blocks old.store) (blocks new.store) kept.held.within))
 
 -- a command on strings only looked
 pub looked_strings : {S E : Type 0} (blocks : S → Blocks) (step : S → S → Type 0) (keyspace : Keyspace S) (at : Ctx) (command : Command) (own same : StringCommand) (result : Result (List Part) E)
     → command ≡ Strings own → own ≡ same → Gives blocks keyspace keyspace at same result → Ready blocks keyspace at → Runs blocks step keyspace keyspace at command result
 looked_strings blocks step keyspace at command own same result e f given ready =
-    ran_strings blocks step keyspace keyspace at command own same result e f given (unchanged blocks step (string_scope at.db same) keyspace result ready.sound) (unformed blocks (string_form (sight blocks keyspace at) same) keyspace result)
+    ran_strings blocks step keyspace keyspace at command own same result e f given (unchanged blocks step (string_scope at.db same) keyspace result ready.sound)
+    (unformed blocks (string_form (sight blocks keyspace at) same) keyspace result)
 
 -- what was put stands there
 pub put_there : (old mid : World) (key bytes : List ℕ) → mid ≡ replace old key bytes → IsThere mid key bytes
 put_there old mid key bytes e = record { deadline = None; stands = ap (λ w. look w key) e ∙ look_put old key (plain bytes) }
 
 -- the piece of a request's SETRANGE ends at the greatest length at most
-pub asked_fits : (command : Command) (own : StringCommand) (key piece : List ℕ) (at : ℕ) → IsAsked command → command ≡ Strings own → own ≡ strings.SetRange key at piece → 0 < length piece → at + length piece ≤ 536870912
+pub asked_fits : (command : Command) (own : StringCommand) (key piece : List ℕ) (at : ℕ) → IsAsked command → command ≡ Strings own → own ≡ strings.SetRange key at piece → 0 < length piece
+    → at + length piece ≤ 536870912
 asked_fits command own key piece at asked e f = meant_fits asked.words (strings.SetRange key at piece) (asked.means ∙ ap Ok (e ∙ ap Strings f))

@@ -49,7 +49,8 @@ not_zset (kinds.Hash box) other = refl
 not_zset (kinds.Stream box) other = refl
 
 -- the sorted set that was found at a key
-pub zset_item : (bases : Bases) (m : Blocks) (at : Ctx) (key : List ℕ) (number : ℕ) (value : Value) (box : Box kept.Scored) → value ≡ kinds.Zset box → StandsAt bases m at.db key at.moment number → Found bases m at.db key at.moment value → ZsetItem (seen at bases m) bases m at.db key at.moment number
+pub zset_item : (bases : Bases) (m : Blocks) (at : Ctx) (key : List ℕ) (number : ℕ) (value : Value) (box : Box kept.Scored) → value ≡ kinds.Zset box
+    → StandsAt bases m at.db key at.moment number → Found bases m at.db key at.moment value → ZsetItem (seen at bases m) bases m at.db key at.moment number
 zset_item bases m at key number value box is there found = record {
   there = there;
   scores = object.scores m box.value;
@@ -71,10 +72,12 @@ limits_known limits seed m (kinds.Zset box) own sound is = sym (ap (limits_or ow
 limits_known limits seed m (kinds.Stream box) own sound is = cc
 
 kept_by : (bases : Bases) (m : Blocks) (db : ℕ) (key : List ℕ) (value : Value) (own : Limits) → Sound bases m → HasValue bases m db key value → limits_of value ≡ Some own → own ≡ bases.limits
-kept_by bases m db key value own sound had is = limits_known bases.limits bases.seed m value own (subst (IsSound bases.limits bases.seed m) had.is (sound.arranged.values db had.at had.element had.found)) is
+kept_by bases m db key value own sound had is = limits_known bases.limits bases.seed m value own
+    (subst (IsSound bases.limits bases.seed m) had.is (sound.arranged.values db had.at had.element had.found)) is
 
 -- the value that was found at a key is a sorted set
-pub found_zset : (bases : Bases) (m : Blocks) (at : Ctx) (key : List ℕ) (value : Value) (box : Box kept.Scored) → value ≡ kinds.Zset box → Sound bases m → Found bases m at.db key at.moment value → FoundZset (seen at bases m) m key box.value
+pub found_zset : (bases : Bases) (m : Blocks) (at : Ctx) (key : List ℕ) (value : Value) (box : Box kept.Scored) → value ≡ kinds.Zset box → Sound bases m
+    → Found bases m at.db key at.moment value → FoundZset (seen at bases m) m key box.value
 found_zset bases m at key value box is sound found =
     let own = subst (Found bases m at.db key at.moment) is found in
     record {
@@ -96,12 +99,14 @@ abbrev HoldsThere : (Scores → Type 0) → Option Entry → Type 0
 HoldsThere Is None = Unit {0}
 HoldsThere Is (Some entry) = IsZsetThat Is entry.value
 
-pub takes_there : (Is : Scores → Type 0) (world : World) (key : List ℕ) (scores : Scores) → HasZset world key scores → Is scores → (entry : Entry) → look world key ≡ Some entry → IsZsetThat Is entry.value
+pub takes_there : (Is : Scores → Type 0) (world : World) (key : List ℕ) (scores : Scores) → HasZset world key scores → Is scores → (entry : Entry) → look world key ≡ Some entry
+    → IsZsetThat Is entry.value
 takes_there Is world key scores has holds entry is = subst (HoldsThere Is) (sym has.stands ∙ is) holds
 
 module _ {S T X : Type 0} (makes : T → T → Shape → Shape → Type 0) (own : Made) (left : ℕ) (first last : T) (blocks : S → Blocks) (old new : Keyspace S) (at : Ctx) (key : List ℕ)
     (same : (o n : Shape) → makes first last o n → MakesZset own left o n) where
-  pub zset_new : (fresh : Value) → value_of (blocks old.store) fresh ≡ SortedOf empty → limits_of fresh ≡ Some old.bases.limits → ((f : Form) → encoding_of fresh ≡ OfForm f → IsLeast (FitsScored old.bases.limits empty) f) → look (sight blocks old at) key ≡ None
+  pub zset_new : (fresh : Value) → value_of (blocks old.store) fresh ≡ SortedOf empty → limits_of fresh ≡ Some old.bases.limits
+      → ((f : Form) → encoding_of fresh ≡ OfForm f → IsLeast (FitsScored old.bases.limits empty) f) → look (sight blocks old at) key ≡ None
       → (result : Result (Unit {0}) X) → OnOk result (MakesNew makes first last blocks old new at key fresh) → OnOk result (ZsetChanged (Counting own left) keep_any blocks old new at key)
   zset_new fresh blank limits least none (Err e) p = tt
   zset_new fresh blank limits least none (Ok u) p =
@@ -116,13 +121,15 @@ module _ {S T X : Type 0} (makes : T → T → Shape → Shape → Type 0) (own 
         form = q.form;
         made = (subst (λ (n : Limits). own n empty q.from q.now q.form) by (subst (λ (l : Scores). own q.limits l q.from q.now q.form) nothing q.made), q.counted);
         was_form = least q.from q.was_form;
-        world = p.world ∙ ap (λ (v : model.Value). put (sight blocks old at) key (record { value = v; deadline = None })) q.is ∙ ap (λ (d : Option ℕ). put (sight blocks old at) key (record { value = SortedOf q.now; deadline = d })) (sym (ap deadline_of none));
+        world = p.world ∙ ap (λ (v : model.Value). put (sight blocks old at) key (record { value = v; deadline = None })) q.is
+            ∙ ap (λ (d : Option ℕ). put (sight blocks old at) key (record { value = SortedOf q.now; deadline = d })) (sym (ap deadline_of none));
         value = p.now;
         only = p.only;
         encoded = p.encoded ∙ q.is_form;
       }
 
-  pub zset_there : Sound old.bases (blocks old.store) → (result : Result (Unit {0}) X) → OnOk result (Edits makes first last blocks old new at key) → OnOk result (ZsetChanged (Counting own left) keep_any blocks old new at key)
+  pub zset_there : Sound old.bases (blocks old.store) → (result : Result (Unit {0}) X) → OnOk result (Edits makes first last blocks old new at key)
+      → OnOk result (ZsetChanged (Counting own left) keep_any blocks old new at key)
   zset_there sound (Err e) p = tt
   zset_there sound (Ok u) p =
       let q = same (shape (blocks old.store) p.was) (shape (blocks new.store) p.now) p.made in
@@ -135,7 +142,8 @@ module _ {S T X : Type 0} (makes : T → T → Shape → Shape → Type 0) (own 
         form = q.form;
         made = (subst (λ (n : Limits). own n q.scores q.from q.now q.form) by q.made, q.counted);
         was_form = (p.was, p.had, q.was_form);
-        world = p.world ∙ ap (λ (v : model.Value). put (sight blocks old at) key (record { value = v; deadline = p.deadline })) q.is ∙ ap (λ (d : Option ℕ). put (sight blocks old at) key (record { value = SortedOf q.now; deadline = d })) (sym (ap deadline_of p.stands));
+        world = p.world ∙ ap (λ (v : model.Value). put (sight blocks old at) key (record { value = v; deadline = p.deadline })) q.is
+            ∙ ap (λ (d : Option ℕ). put (sight blocks old at) key (record { value = SortedOf q.now; deadline = d })) (sym (ap deadline_of p.stands));
         value = p.now;
         only = p.only;
         encoded = q.is_form;
@@ -172,7 +180,8 @@ module _ {S : Type 0} (own : Made) (left : ℕ) (blocks : S → Blocks) (old mid
     encoded = p.encoded;
   }
 
-  pub zset_gone : left ≡ 0 → (new : Keyspace S) → sight blocks new at ≡ remove (sight blocks mid at) key → Within (no_key at.db) mid.bases new.bases (blocks mid.store) (blocks new.store) → ZsetChanged own keep_zset blocks old new at key
+  pub zset_gone : left ≡ 0 → (new : Keyspace S) → sight blocks new at ≡ remove (sight blocks mid at) key → Within (no_key at.db) mid.bases new.bases (blocks mid.store) (blocks new.store)
+      → ZsetChanged own keep_zset blocks old new at key
   zset_gone none new world within = record {
     before = p.before;
     stands = p.stands;
@@ -181,14 +190,17 @@ module _ {S : Type 0} (own : Made) (left : ℕ) (blocks : S → Blocks) (old mid
     form = p.form;
     made = p.made.0;
     was_form = p.was_form;
-    world = gone_is (sight blocks old at) (sight blocks new at) key p.now (omega (arith, none, p.made.1)) (world ∙ ap (λ (w : World). remove w key) p.world ∙ remove_put (sight blocks old at) key (record { value = SortedOf p.now; deadline = deadline_of (look (sight blocks old at) key) }));
+    world = gone_is (sight blocks old at) (sight blocks new at) key p.now (omega (arith, none, p.made.1))
+        (world ∙ ap (λ (w : World). remove w key) p.world ∙ remove_put (sight blocks old at) key
+        (record { value = SortedOf p.now; deadline = deadline_of (look (sight blocks old at) key) }));
     value = p.value;
     only = only_on mid.bases new.bases (blocks mid.store) (blocks new.store) at.db key p.value p.only within;
     encoded = p.encoded;
   }
 
 -- a key is removed after it was changed
-pub held_gone : {S : Type 0} (blocks : S → Blocks) (step : S → S → Type 0) (db : ℕ) (key : List ℕ) (old mid new : Keyspace S) → Held blocks step (one_key db key) old mid → Held blocks step (no_key db) mid new → Held blocks step (one_key db key) old new
+pub held_gone : {S : Type 0} (blocks : S → Blocks) (step : S → S → Type 0) (db : ℕ) (key : List ℕ) (old mid new : Keyspace S) → Held blocks step (one_key db key) old mid
+    → Held blocks step (no_key db) mid new → Held blocks step (one_key db key) old new
 held_gone blocks step db key old mid new p q =
     held_then blocks step (one_key db key) old mid new p
     (record {

@@ -1,10 +1,12 @@
 -- Scores within bounds are the scores between two ranks.
-use Rattle.std.proofs.Common.{◌≡◌, inl, inr, ℕ, zero, suc, ◌+◌, ◌-◌, ◌≤◌, min, ℤ, pos, ◌+ℤ◌, int_lt, Bool, true, false, not, ◌&&◌, cond, List, [], ◌∷◌, ◌++◌, length, take, drop, reverse, filter, count_by, Some, slice_get, Ordering, Less, Equal, Greater, refl, sym, ap, subst, ◌∙◌, arith}
+use Rattle.std.proofs.Common.{◌≡◌, inl, inr, ℕ, zero, suc, ◌+◌, ◌-◌, ◌≤◌, min, ℤ, pos, ◌+ℤ◌, int_lt, Bool, true, false, not, ◌&&◌, cond, List, [], ◌∷◌, ◌++◌, length, take, drop, reverse}
+use Rattle.std.proofs.Common.{filter, count_by, Some, slice_get, Ordering, Less, Equal, Greater, refl, sym, ap, subst, ◌∙◌, arith}
 use Rattle.std.specs.Ordering.{nat_cmp, ordering_then}
 use Rattle.std.specs.Cmp.Lexicographic.{slice_cmp}
 use Rattle.std.proofs.lemmas.Int.{ints}
 use Rattle.std.proofs.lemmas.Bool.{cases_Bool, cases_lt}
-use Rattle.std.proofs.lemmas.List.{append_assoc, append-nil, drop_all, drop-take, drop-drop, take-append-drop, drop_at, take_at, length-take, length-take-le, length-drop, length-reverse, reverse-append}
+use Rattle.std.proofs.lemmas.List.{append_assoc, append-nil, drop_all, drop-take, drop-drop, take-append-drop, drop_at, take_at, length-take, length-take-le, length-drop, length-reverse}
+use Rattle.std.proofs.lemmas.List.{reverse-append}
 use Rattle.std.proofs.lemmas.List.Elements.{filter-append}
 use Rattle.std.proofs.lemmas.List.Sums.{count_by-le-length}
 use mathlib.Core.List.{reverse-cons}
@@ -141,7 +143,8 @@ pub count_next : (most above : ℤ) (xs : List Scored) → above ≡ most +ℤ p
 count_next most above xs e = count_alike (λ x. int_lt x.0 above) (λ x. not (int_lt most x.0)) (λ x. next_is x.0 most above e) xs
 
 -- the same of a list that is another by name
-pub count_next_in : (most above : ℤ) (xs ys : List Scored) (n : ℕ) → above ≡ most +ℤ pos 1 → xs ≡ ys → n ≡ count_by (λ (x : Scored). int_lt x.0 above) xs → n ≡ count_by (λ (x : Scored). not (int_lt most x.0)) ys
+pub count_next_in : (most above : ℤ) (xs ys : List Scored) (n : ℕ) → above ≡ most +ℤ pos 1 → xs ≡ ys → n ≡ count_by (λ (x : Scored). int_lt x.0 above) xs
+    → n ≡ count_by (λ (x : Scored). not (int_lt most x.0)) ys
 count_next_in most above xs ys n e same is = is ∙ ap (count_by (λ (x : Scored). int_lt x.0 above)) same ∙ count_next most above ys e
 
 twice : (b : Bool) → b ≡ not (not b)
@@ -253,7 +256,8 @@ part_is xs lo hi low count least many = elim (cases_lt hi lo) [
 
 module _ (min_bound max_bound : ScoreBound) where
   -- the scores within bounds stand between two ranks
-  pub within_is : (from : Direction) (xs : List Scored) (len lo hi low start count : ℕ) → IsOrdered xs → len ≡ length xs → lo ≡ count_by (λ (x : Scored). not (is_above min_bound x.0)) xs → hi ≡ count_by (λ (x : Scored). is_below max_bound x.0) xs
+  pub within_is : (from : Direction) (xs : List Scored) (len lo hi low start count : ℕ) → IsOrdered xs → len ≡ length xs → lo ≡ count_by (λ (x : Scored). not (is_above min_bound x.0)) xs
+      → hi ≡ count_by (λ (x : Scored). is_below max_bound x.0) xs
       → low ≡ min lo hi → start ≡ start_of from len low hi → count ≡ hi - low → take count (drop start (met from xs)) ≡ within min_bound max_bound (met from xs)
   within_is Rising xs len lo hi low start count o long is_lo is_hi least is_start many =
       ap (λ n. take count (drop n xs)) is_start ∙ sym (part_is xs lo hi low count least many)
@@ -262,7 +266,9 @@ module _ (min_bound max_bound : ScoreBound) where
       let most : hi ≤ length xs = omega (arith, is_hi, count_by-le-length (Under min_bound max_bound) xs) in
       let from_end : start ≡ length xs - hi = is_start ∙ ap (λ n. n - hi) long in
       ap (λ n. take count (drop n (reverse xs))) from_end ∙ reverse_part xs low count hi (omega (arith, least, many)) most
-      ∙ ap reverse (sym (part_is xs lo hi low count least many) ∙ ap (λ n. drop n (take hi xs)) is_lo ∙ ap (λ n. drop (count_by (Out min_bound max_bound) xs) (take n xs)) is_hi ∙ sym (between min_bound max_bound xs (rises_of xs o)))
+      ∙ ap reverse
+      (sym (part_is xs lo hi low count least many) ∙ ap (λ n. drop n (take hi xs)) is_lo ∙ ap (λ n. drop (count_by (Out min_bound max_bound) xs) (take n xs)) is_hi
+      ∙ sym (between min_bound max_bound xs (rises_of xs o)))
       ∙ sym (filter_reverse (Both min_bound max_bound) xs)
 
 -- a count of those that pass a test is no more than all

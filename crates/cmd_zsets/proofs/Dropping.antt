@@ -27,7 +27,8 @@ rising_at [] n x at = cc
 rising_at (y ∷ ys) zero x at = ap (λ (z : Scored). z ∷ ys) (some_same y x at) ∙ ap (λ l. x ∷ l) (sym (drop_none ys))
 rising_at (y ∷ ys) (suc n) x at = rising_at ys n x at
 
-falling_at : (list : List Scored) (start rank : ℕ) (x : Scored) → suc (rank + start) ≡ length list → slice_get list rank ≡ Some x → drop start (reverse list) ≡ x ∷ drop start (reverse (removed list rank))
+falling_at : (list : List Scored) (start rank : ℕ) (x : Scored) → suc (rank + start) ≡ length list → slice_get list rank ≡ Some x → drop start (reverse list) ≡ x
+    ∷ drop start (reverse (removed list rank))
 falling_at [] start rank x size at = cc
 falling_at (y ∷ ys) start zero x size at =
     let none : drop start (reverse ys) ≡ [] = drop_all start (reverse ys) (omega (arith, size, length-reverse ys)) in
@@ -41,13 +42,15 @@ falling_at (y ∷ ys) start (suc rank) x size at =
     ∙ ap (λ l. x ∷ l) (sym (drop-append-le start left (y ∷ []) long)) ∙ ap (λ l. x ∷ drop start l) (sym (reverse-append (y ∷ []) (removed ys rank)))
 
 -- the member that is met at a place is the first one there, and is met no more without its rank
-pub met_taken : (from : Direction) (list : List Scored) (place rank : ℕ) (x : Scored) → place < length list → rank ≡ rank_of from (length list) place → slice_get list rank ≡ Some x → drop place (met from list) ≡ x ∷ drop place (met from (removed list rank))
+pub met_taken : (from : Direction) (list : List Scored) (place rank : ℕ) (x : Scored) → place < length list → rank ≡ rank_of from (length list) place → slice_get list rank ≡ Some x
+    → drop place (met from list) ≡ x ∷ drop place (met from (removed list rank))
 met_taken Rising list place rank x inside is at =
     rising_at list place x (ap (slice_get list) (sym is) ∙ at) ∙ ap (λ n. x ∷ drop place (removed list n)) (sym is)
 met_taken Falling list place rank x inside is at = falling_at list place rank x (omega (arith, inside, is)) at
 
 -- what is left after one more member was taken out
-pub takes_on : (scores then : Scores) (left : ℕ) (x : Scored) (list rest : List Scored) → list ≡ x ∷ rest → then ≡ remove scores x.1 → without_members then (members_of (take left rest)) ≡ without_members scores (members_of (take (suc left) list))
+pub takes_on : (scores then : Scores) (left : ℕ) (x : Scored) (list rest : List Scored) → list ≡ x ∷ rest → then ≡ remove scores x.1
+    → without_members then (members_of (take left rest)) ≡ without_members scores (members_of (take (suc left) list))
 takes_on scores then left x list rest is taken =
     ap (λ s. without_members s (members_of (take left rest))) taken ∙ ap (λ l. without_members scores (members_of (take (suc left) l))) (sym is)
 

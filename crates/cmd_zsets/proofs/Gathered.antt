@@ -45,7 +45,9 @@ module _ {Z : Type 0} where
   put_entry : (es : List (Vec ℕ Z × ℤ)) (k : Vec ℕ Z) (v : ℤ) → map entry_of (insert_entry by_bytes es k v) ≡ put (slice_cmp nat_cmp) k.items v (map entry_of es)
   put_entry [] k v = refl
   put_entry (e ∷ es) k v =
-      elim (by_bytes k e.0) as (λ o. map entry_of (match_ordering o ((k, v) ∷ e ∷ es) ((e.0, v) ∷ es) (e ∷ insert_entry by_bytes es k v)) ≡ by_order o ((k.items, v) ∷ entry_of e ∷ map entry_of es) ((e.0.items, v) ∷ map entry_of es) (entry_of e ∷ put (slice_cmp nat_cmp) k.items v (map entry_of es))) [
+      elim (by_bytes k e.0) as
+      (λ o. map entry_of (match_ordering o ((k, v) ∷ e ∷ es) ((e.0, v) ∷ es) (e ∷ insert_entry by_bytes es k v)) ≡ by_order o ((k.items, v) ∷ entry_of e ∷ map entry_of es)
+      ((e.0.items, v) ∷ map entry_of es) (entry_of e ∷ put (slice_cmp nat_cmp) k.items v (map entry_of es))) [
         | Less ↦ refl
         | Equal ↦ refl
         | Greater ↦ ap (λ l. entry_of e ∷ l) (put_entry es k v)
@@ -74,9 +76,11 @@ module _ {Z : Type 0} where
 
   -- ---- the entries in their order
 
-  put_first : (e : Vec ℕ Z × ℤ) (es : List (Vec ℕ Z × ℤ)) → AllByRecursion (λ y. by_bytes e.0 y ≡ Less) (map (λ (f : Vec ℕ Z × ℤ). f.0) es) → put (slice_cmp nat_cmp) e.0.items e.1 (map entry_of es) ≡ entry_of e ∷ map entry_of es
+  put_first : (e : Vec ℕ Z × ℤ) (es : List (Vec ℕ Z × ℤ)) → AllByRecursion (λ y. by_bytes e.0 y ≡ Less) (map (λ (f : Vec ℕ Z × ℤ). f.0) es)
+      → put (slice_cmp nat_cmp) e.0.items e.1 (map entry_of es) ≡ entry_of e ∷ map entry_of es
   put_first e [] below = refl
-  put_first e (f ∷ es) below = ap (λ o. by_order o (entry_of e ∷ entry_of f ∷ map entry_of es) ((f.0.items, e.1) ∷ map entry_of es) (entry_of f ∷ put (slice_cmp nat_cmp) e.0.items e.1 (map entry_of es))) below.0
+  put_first e (f ∷ es) below = ap
+      (λ o. by_order o (entry_of e ∷ entry_of f ∷ map entry_of es) ((f.0.items, e.1) ∷ map entry_of es) (entry_of f ∷ put (slice_cmp nat_cmp) e.0.items e.1 (map entry_of es))) below.0
 
   sorted_entries : (es : List (Vec ℕ Z × ℤ)) → IsStrictlySortedBy by_bytes (map (λ (f : Vec ℕ Z × ℤ). f.0) es) → entries (from_entries {R = slice_cmp nat_cmp} (map entry_of es)) ≡ map entry_of es
   sorted_entries [] sorted = none_in
@@ -99,7 +103,8 @@ module _ {Z : Type 0} where
   one_over old new k v zset e none q =
       ap (or_else (get (gathered new) q)) (get-insert nat_list_cmp_total zset k.items v q)
       ∙ over_one (tied q k.items) (get (gathered new) q) (get zset q) v (λ same. ap (get (gathered new)) (tied-true q k.items same) ∙ get_gathered new k.items ∙ none)
-      ∙ ap (λ o. or_else o (get zset q)) (sym (ap (λ (es : List (Vec ℕ Z × ℤ)). get (from_entries {R = slice_cmp nat_cmp} (map entry_of es)) q) e ∙ get-insert nat_list_cmp_total (gathered new) k.items v q))
+      ∙ ap (λ o. or_else o (get zset q))
+      (sym (ap (λ (es : List (Vec ℕ Z × ℤ)). get (from_entries {R = slice_cmp nat_cmp} (map entry_of es)) q) e ∙ get-insert nat_list_cmp_total (gathered new) k.items v q))
 
   pub none_over : (m : BTreeMap (Vec ℕ Z) ℤ) (zset : Scores) → m.entries ≡ [] → (q : List ℕ) → or_else (get (gathered m) q) (get zset q) ≡ get zset q
   none_over m zset none q = ap (λ o. or_else o (get zset q)) (ap (λ s. get s q) (none_gathered m none) ∙ get-empty (slice_cmp nat_cmp) q)

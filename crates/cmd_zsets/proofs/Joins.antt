@@ -17,7 +17,8 @@ use Rattle.plain_world.specs.declared.reply.Part.TheVariants.{Refused, Number}
 use Rattle.plain_model.specs.Outcomes.{Outcome, IsOutcome, refused}
 use Rattle.plain_model.specs.OfType.{zset_in, set_in, source, with_source, or_no_sources, may_do_of}
 use Rattle.plain_model.specs.ListSteps.{tells_number}
-use Rattle.plain_model.specs.ZsetSteps.{Scores, Scored, or_no_scores, scores_in, one_each, weighted, score_with, score_from, have_all, joined_score, IsJoin, are_scores, weights_of, zsets_at, store_zset, store_scores, StoresScores, aggregated, may_zsets}
+use Rattle.plain_model.specs.ZsetSteps.{Scores, Scored, or_no_scores, scores_in, one_each, weighted, score_with, score_from, have_all, joined_score, IsJoin, are_scores, weights_of}
+use Rattle.plain_model.specs.ZsetSteps.{zsets_at, store_zset, store_scores, StoresScores, aggregated, may_zsets}
 use Rattle.plain_model.specs.declared.zset_command.ZsetCommand.TheVariants as zsets
 use Rattle.plain_model.specs.declared.zset_command.ScoreJoin.{ScoreJoin}
 use Rattle.plain_model.specs.declared.zset_command.ScoreJoin.TheVariants.{Inter, Union}
@@ -114,7 +115,8 @@ sources_are world (key ∷ keys) there =
     ap (λ (o : Option Scores). with_source o (zsets_at world keys)) (known own parts.0) ∙ ap (with_source (Some (scores_at world key.1))) (sources_are world keys parts.1)
 
 -- a source leaves it to the others, and another value decides it
-pub source_passes : (world : World) (list others : List Scored) (key : Scored) → list ≡ key ∷ others → is_some (source scores_in empty (look world key.1)) ≡ true → is_some (zsets_at world others) ≡ is_some (zsets_at world list)
+pub source_passes : (world : World) (list others : List Scored) (key : Scored) → list ≡ key ∷ others → is_some (source scores_in empty (look world key.1)) ≡ true
+    → is_some (zsets_at world others) ≡ is_some (zsets_at world list)
 source_passes world list others key is there =
     sym (ap (λ (l : List Scored). is_some (zsets_at world l)) is ∙ both (source scores_in empty (look world key.1)) (zsets_at world others) ∙ ap (λ b. b && is_some (zsets_at world others)) there)
 
@@ -125,7 +127,8 @@ other_stops world list others key is none =
 -- ---- one key after the other
 
 module _ (world : World) (join : ScoreJoin) (how : Aggregate) where
-  pub one_key_more : (list others : List Scored) (key : Scored) (old new : Scores) (q : List ℕ) → list ≡ key ∷ others → get new q ≡ met_with join how (get old q) (weighted key.0 (get (scores_at world key.1) q))
+  pub one_key_more : (list others : List Scored) (key : Scored) (old new : Scores) (q : List ℕ) → list ≡ key ∷ others
+      → get new q ≡ met_with join how (get old q) (weighted key.0 (get (scores_at world key.1) q))
       → met_each join how (get new q) (weights_of others) (scores_here world others) q ≡ met_each join how (get old q) (weights_of list) (scores_here world list) q
   one_key_more list others key old new q is h =
       ap (λ (o : Option ℤ). met_each join how o (weights_of others) (scores_here world others) q) h
@@ -148,21 +151,27 @@ module _ (world : World) (how : Aggregate) (q : List ℕ) where
   none_each (key ∷ keys) =
       ap (λ (o : Option ℤ). met_each Inter how o (weights_of keys) (scores_here world keys) q) (none_with (weighted key.0 (get (scores_at world key.1) q))) ∙ none_each keys
 
-  inter_each : (keys : List Scored) (before : ℤ) → met_each Inter how (Some before) (weights_of keys) (scores_here world keys) q ≡ (if have_all (scores_here world keys) q then score_from how (Some before) (weights_of keys) (scores_here world keys) q else None)
+  inter_each : (keys : List Scored) (before : ℤ) → met_each Inter how (Some before) (weights_of keys) (scores_here world keys) q ≡
+      (if have_all (scores_here world keys) q then score_from how (Some before) (weights_of keys) (scores_here world keys) q else None)
   inter_each [] before = refl
   inter_each (key ∷ keys) before =
       let own = scores_here world keys in
-      elim (get (scores_at world key.1) q) as (λ o. met_each Inter how (met_with Inter how (Some before) (weighted key.0 o)) (weights_of keys) own q ≡ (if is_some o && have_all own q then score_from how (score_with how (Some before) (weighted key.0 o)) (weights_of keys) own q else None)) [
+      elim (get (scores_at world key.1) q) as
+      (λ o. met_each Inter how (met_with Inter how (Some before) (weighted key.0 o)) (weights_of keys) own q ≡
+      (if is_some o && have_all own q then score_from how (score_with how (Some before) (weighted key.0 o)) (weights_of keys) own q else None)) [
         | None ↦ none_each keys
         | Some v ↦ inter_each keys (aggregated how before (key.0 *ℤ v))
       ]
 
-  joined : (join : ScoreJoin) (first : Scored) (others : List Scored) → met_each join how (score_with how None (weighted first.0 (get (scores_at world first.1) q))) (weights_of others) (scores_here world others) q
+  joined : (join : ScoreJoin) (first : Scored) (others : List Scored)
+      → met_each join how (score_with how None (weighted first.0 (get (scores_at world first.1) q))) (weights_of others) (scores_here world others) q
       ≡ joined_score join how (weights_of (first ∷ others)) (scores_here world (first ∷ others)) q
   joined Union first others = union_each others (score_with how None (weighted first.0 (get (scores_at world first.1) q)))
   joined Inter first others =
       let own = scores_here world others in
-      elim (get (scores_at world first.1) q) as (λ o. met_each Inter how (score_with how None (weighted first.0 o)) (weights_of others) own q ≡ (if is_some o && have_all own q then score_from how (score_with how None (weighted first.0 o)) (weights_of others) own q else None)) [
+      elim (get (scores_at world first.1) q) as
+      (λ o. met_each Inter how (score_with how None (weighted first.0 o)) (weights_of others) own q ≡
+      (if is_some o && have_all own q then score_from how (score_with how None (weighted first.0 o)) (weights_of others) own q else None)) [
         | None ↦ none_each others
         | Some v ↦ inter_each others (first.0 *ℤ v)
       ]
@@ -182,7 +191,8 @@ pub some_join : (world : World) (join : ScoreJoin) (how : Aggregate) (keys other
 some_join world join how keys others first start mid all is none one rest q =
     let own = weighted first.0 (get (scores_at world first.1) q) in
     rest q
-    ∙ ap (λ (o : Option ℤ). met_each join how o (weights_of others) (scores_here world others) q) (one q ∙ ap (λ (o : Option ℤ). score_with how o own) (ap (λ (s : Scores). get s q) none ∙ get-empty (slice_cmp nat_cmp) q))
+    ∙ ap (λ (o : Option ℤ). met_each join how o (weights_of others) (scores_here world others) q)
+    (one q ∙ ap (λ (o : Option ℤ). score_with how o own) (ap (λ (s : Scores). get s q) none ∙ get-empty (slice_cmp nat_cmp) q))
     ∙ joined world how q join first others
     ∙ ap (λ (l : List Scored). joined_score join how (weights_of l) (scores_here world l) q) (sym is)
 
@@ -193,11 +203,14 @@ none_of None h = refl
 none_of (Some x) h = cc
 
 module _ (seed : ℕ) (old : World) (join : ScoreJoin) (how : Aggregate) (to : List ℕ) (keys : List Scored) where
-  pub stored_refused : {E : Type 0} (result : Result (List Part) E) → is_some (zsets_at old keys) ≡ false → IfOk result (λ reply. reply ≡ Refused WrongType ∷ []) → IfOk result (λ reply. may_zsets seed old (zsets.ZJoinStore join to keys how) reply old)
-  stored_refused (Ok reply) other is = subst (λ (o : Option (List Scores)). may_do_of old o (StoresScores old to join how (weights_of keys)) reply old) (sym (none_of (zsets_at old keys) other)) (is, refl)
+  pub stored_refused : {E : Type 0} (result : Result (List Part) E) → is_some (zsets_at old keys) ≡ false → IfOk result (λ reply. reply ≡ Refused WrongType ∷ [])
+      → IfOk result (λ reply. may_zsets seed old (zsets.ZJoinStore join to keys how) reply old)
+  stored_refused (Ok reply) other is = subst (λ (o : Option (List Scores)). may_do_of old o (StoresScores old to join how (weights_of keys)) reply old)
+      (sym (none_of (zsets_at old keys) other)) (is, refl)
   stored_refused (Err x) other is = tt
 
-  pub stored_told : {E : Type 0} (new : World) (n : ℕ) (scores : Scores) (result : Result (List Part) E) → is_some (zsets_at old keys) ≡ true → IsJoin join how (weights_of keys) (scores_here old keys) scores → are_scores (entries scores) ≡ true
+  pub stored_told : {E : Type 0} (new : World) (n : ℕ) (scores : Scores) (result : Result (List Part) E) → is_some (zsets_at old keys) ≡ true
+      → IsJoin join how (weights_of keys) (scores_here old keys) scores → are_scores (entries scores) ≡ true
       → n ≡ len scores → new ≡ store_zset old to scores → IfOk result (λ reply. reply ≡ Number (pos n) ∷ []) → IfOk result (λ reply. may_zsets seed old (zsets.ZJoinStore join to keys how) reply new)
   stored_told new n scores (Ok reply) there is range counted world told =
       let outcome : store_scores old to scores ≡ tells_number (pos (len scores)) (store_zset old to scores) = cond-true _ _ _ range in
@@ -205,7 +218,8 @@ module _ (seed : ℕ) (old : World) (join : ScoreJoin) (how : Aggregate) (to : L
       (scores, is, subst (λ (o : Outcome). IsOutcome o reply new) (sym outcome) (told ∙ ap (λ k. Number (pos k) ∷ []) counted, world))
   stored_told new n scores (Err x) there is range counted world told = tt
 
-  pub stored_out : {E : Type 0} (scores : Scores) (result : Result (List Part) E) → is_some (zsets_at old keys) ≡ true → IsJoin join how (weights_of keys) (scores_here old keys) scores → are_scores (entries scores) ≡ false
+  pub stored_out : {E : Type 0} (scores : Scores) (result : Result (List Part) E) → is_some (zsets_at old keys) ≡ true → IsJoin join how (weights_of keys) (scores_here old keys) scores
+      → are_scores (entries scores) ≡ false
       → IfOk result (λ reply. reply ≡ Refused NotAWholeScore ∷ []) → IfOk result (λ reply. may_zsets seed old (zsets.ZJoinStore join to keys how) reply old)
   stored_out scores (Ok reply) there is range told =
       let outcome : store_scores old to scores ≡ refused NotAWholeScore old = cond-false _ _ _ range in
@@ -215,7 +229,8 @@ module _ (seed : ℕ) (old : World) (join : ScoreJoin) (how : Aggregate) (to : L
 
 module _ (old : World) (join : ScoreJoin) (how : Aggregate) (keys : List Scored) where
   -- a sorted set that has just the scores of a join is encoded as one
-  pub stored_form : (scores : Scores) (bases : Bases) (value : kinds.Value) → is_some (zsets_at old keys) ≡ true → IsJoin join how (weights_of keys) (scores_here old keys) scores → forms.IsNewZset (get scores) bases value
+  pub stored_form : (scores : Scores) (bases : Bases) (value : kinds.Value) → is_some (zsets_at old keys) ≡ true → IsJoin join how (weights_of keys) (scores_here old keys) scores
+      → forms.IsNewZset (get scores) bases value
       → forms.IsNewZset (joined_score join how (weights_of keys) (or_no_sources (zsets_at old keys))) bases value
   stored_form scores bases value there is n = record {
     scores = n.scores;

@@ -23,14 +23,16 @@ use Rattle.keyspace.specs.Commands.{seen}
 use Rattle.cmd_zsets.specs.Found.{FoundZset, FoundOther}
 
 -- whatever would be made of a sorted set, a value of another type is refused
-pub refused_other : {E : Type 0} (old : World) (key : List ℕ) (answer : Option Scores → Outcome) (result : Result (List Part) E) → FoundOther old key → IfOk result (λ reply. reply ≡ Refused WrongType ∷ [])
+pub refused_other : {E : Type 0} (old : World) (key : List ℕ) (answer : Option Scores → Outcome) (result : Result (List Part) E) → FoundOther old key
+    → IfOk result (λ reply. reply ≡ Refused WrongType ∷ [])
     → IfOk result (λ reply. on_zset old key answer ≡ leaves reply old)
 refused_other old key answer (Ok reply) found is =
     ap (λ o. on_type zset_in old o answer) found.stands ∙ ap (λ o. of_type old o answer) found.other ∙ ap (λ r. leaves r old) (sym is)
 refused_other old key answer (Err x) found is = tt
 
 -- what is told where nothing stands
-pub told_none : {E : Type 0} (old : World) (key : List ℕ) (told : Scores → List Part) (parts : List Part) (result : Result (List Part) E) → look old key ≡ None → told empty ≡ parts → IfOk result (λ reply. reply ≡ parts)
+pub told_none : {E : Type 0} (old : World) (key : List ℕ) (told : Scores → List Part) (parts : List Part) (result : Result (List Part) E) → look old key ≡ None → told empty ≡ parts
+    → IfOk result (λ reply. reply ≡ parts)
     → IfOk result (λ reply. tell_zset old key told ≡ leaves reply old)
 told_none old key told parts (Ok reply) none same is = ap (λ o. on_type zset_in old o (λ before. tells (told (or_no_scores before)) old)) none ∙ ap (λ r. leaves r old) (same ∙ sym is)
 told_none old key told parts (Err x) none same is = tt

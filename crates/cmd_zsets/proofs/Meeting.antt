@@ -59,10 +59,11 @@ one_if (Some u) = Some (pos 1)
 
 find_one : (q : List ℕ) (es : List (List ℕ × Unit {0})) → find (slice_cmp nat_cmp) q (map (λ (e : List ℕ × Unit {0}). (e.0, pos 1)) es) ≡ one_if (find (slice_cmp nat_cmp) q es)
 find_one q [] = refl
-find_one q (e ∷ es) = elim (tied q e.0) as (λ t. cond t (Some (pos 1)) (find (slice_cmp nat_cmp) q (map (λ (e : List ℕ × Unit {0}). (e.0, pos 1)) es)) ≡ one_if (cond t (Some e.1) (find (slice_cmp nat_cmp) q es))) [
-  | true ↦ refl
-  | false ↦ find_one q es
-]
+find_one q (e ∷ es) = elim (tied q e.0) as
+    (λ t. cond t (Some (pos 1)) (find (slice_cmp nat_cmp) q (map (λ (e : List ℕ × Unit {0}). (e.0, pos 1)) es)) ≡ one_if (cond t (Some e.1) (find (slice_cmp nat_cmp) q es))) [
+      | true ↦ refl
+      | false ↦ find_one q es
+    ]
 
 get_one : (own : Strings) (q : List ℕ) → get (one_each own) q ≡ one_if (get own q)
 get_one own q =
@@ -117,7 +118,8 @@ none_there (Some x) h = absurd (let e : false ≡ true = h refl in cc)
 
 module _ (join : ScoreJoin) (how : Aggregate) where
   -- what is written of a member is what the join has of it
-  put_got : (before : Option ℤ) (score : ℤ) (now : Scores) (member : List ℕ) → get now member ≡ met_with join how before None → get (put_if now member (met_with join how before (Some score))) member ≡ met_with join how before (Some score)
+  put_got : (before : Option ℤ) (score : ℤ) (now : Scores) (member : List ℕ) → get now member ≡ met_with join how before None
+      → get (put_if now member (met_with join how before (Some score))) member ≡ met_with join how before (Some score)
   put_got before score now member was = by_join join before was
     where
       by_join : (j : ScoreJoin) (b : Option ℤ) → get now member ≡ met_with j how b None → get (put_if now member (met_with j how b (Some score))) member ≡ met_with j how b (Some score)
@@ -137,7 +139,8 @@ module _ (join : ScoreJoin) (how : Aggregate) where
       by_join Union f = refl
       by_join Inter f = ap (λ (s : Scores). get s member) f ∙ get-empty (slice_cmp nat_cmp) member
 
-  asked_left : (before first now : Scores) (member : List ℕ) → get now member ≡ met_with join how (get (asked_of join before first) member) None → get (asked_of join before now) member ≡ get (asked_of join before first) member
+  asked_left : (before first now : Scores) (member : List ℕ) → get now member ≡ met_with join how (get (asked_of join before first) member) None
+      → get (asked_of join before now) member ≡ get (asked_of join before first) member
   asked_left before first now member left = by_join join left
     where
       by_join : (j : ScoreJoin) → get now member ≡ met_with j how (get (asked_of j before first) member) None → get (asked_of j before now) member ≡ get (asked_of j before first) member
@@ -168,14 +171,17 @@ module _ (join : ScoreJoin) (how : Aggregate) where
 
     module _ (top : ℕ) (source : Scores) (all : Numbers at top source) where
       -- the member of the number is met
-      pub goes_on : (now new : Scores) (i : ℕ) (score : ℤ) (member : List ℕ) → at i ≡ Some (score, member) → new ≡ put_if now member (met_with join how (get (asked_of join before now) member) (Some (weight *ℤ score)))
+      pub goes_on : (now new : Scores) (i : ℕ) (score : ℤ) (member : List ℕ) → at i ≡ Some (score, member)
+          → new ≡ put_if now member (met_with join how (get (asked_of join before now) member) (Some (weight *ℤ score)))
           → IsSoFar at weight before first now i → IsSoFar at weight before first new (i + 1)
       goes_on now new i score member here is so =
           let none : (j : ℕ) (s : ℤ) → j < i → at j ≡ Some (s, member) → ⊥ = λ j s below e. (let same : i ≡ j = all.apart i j score s member here e in omega (arith, same, below)) in
           let was = so.left member none in
           let asked = get (asked_of join before first) member in
-          let made : new ≡ put_if now member (met_with join how asked (Some (weight *ℤ score))) = is ∙ ap (λ o. put_if now member (met_with join how o (Some (weight *ℤ score)))) (asked_left before first now member was) in
-          let others : (q : List ℕ) → tied q member ≡ false → get new q ≡ get now q = λ q apart. ap (λ (s : Scores). get s q) made ∙ put_other (met_with join how asked (Some (weight *ℤ score))) now member q apart in
+          let made : new ≡ put_if now member (met_with join how asked (Some (weight *ℤ score))) = is
+          ∙ ap (λ o. put_if now member (met_with join how o (Some (weight *ℤ score)))) (asked_left before first now member was) in
+          let others : (q : List ℕ) → tied q member ≡ false → get new q ≡ get now q = λ q apart. ap (λ (s : Scores). get s q) made
+          ∙ put_other (met_with join how asked (Some (weight *ℤ score))) now member q apart in
           record {
             met = λ j s q below e. elim (cases_Bool (tied q member)) [
               | inl t ↦

@@ -69,7 +69,8 @@ module _ {E : Type 0} (bases : Bases) (m : Blocks) (at : Ctx) (key : List ℕ) (
   abbrev PageOf : object.Scored → List Part → Type 0
   PageOf own reply = IsPageOf (scan.CanStand own.body) (λ c. (scan.moved own.body c).0) (λ c. (scan.moved own.body c).1) (λ i. member_of (pair_at m own i)) (words m own) cursor options reply
 
-  pub zset_paged : (value : Value) (b : Box object.Scored) (own : object.Scored) → value ≡ kinds.Zset b → own ≡ b.value → Found bases m at.db key at.moment value → Sound bases m → IfOk result (PageOf own) → IfOk result Told
+  pub zset_paged : (value : Value) (b : Box object.Scored) (own : object.Scored) → value ≡ kinds.Zset b → own ≡ b.value → Found bases m at.db key at.moment value → Sound bases m
+      → IfOk result (PageOf own) → IfOk result Told
   zset_paged value b own is same found sound page =
       tells_page zset_in tells true telling bases m at key cursor options (kinds.Zset b) (scores m b.value) refl (here value b is found) sound (words m b.value)
       (listed_both (told_of (scores m b.value)) (λ member. canonical (unwrap_or (get (scores m b.value) member) (pos 0))) (λ i member. PassesIn m (kinds.Zset b) options.pattern i member)

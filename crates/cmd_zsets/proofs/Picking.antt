@@ -71,7 +71,8 @@ module _ (m : Blocks) (zset : object.Scored) (sound : object_of.IsScored m zset)
   -- item numbers that were picked are those of members that were picked
   members_picked : (n : Option ℤ) (items : List ℕ) → IsPick (λ blocks. object_of.IsScored blocks zset) (λ blocks at. IsSome (pair_at blocks zset at)) n items
       → ArePicked (λ member. is_some (get (object_of.scores m zset) member)) (len (object_of.scores m zset)) n (elements_of (λ at. member_of (pair_at m zset at)) items)
-  members_picked n items p = are_picked (object_of.scores m zset) (λ at. member_of (pair_at m zset at)) zset_arranged (λ blocks. object_of.IsScored blocks zset) (λ blocks at. IsSome (pair_at blocks zset at)) m sound (λ at h. has_member (pair_at m zset at) h) (λ at h. has_pair (pair_at m zset at) h) n items p
+  members_picked n items p = are_picked (object_of.scores m zset) (λ at. member_of (pair_at m zset at)) zset_arranged (λ blocks. object_of.IsScored blocks zset)
+      (λ blocks at. IsSome (pair_at blocks zset at)) m sound (λ at h. has_member (pair_at m zset at) h) (λ at h. has_pair (pair_at m zset at) h) n items p
 
   scores_are : (items : List ℕ) → ((at : ℕ) → Contains items at → IsSome (pair_at m zset at)) → HaveScores (object_of.scores m zset) (pairs_of (λ at. pair_at m zset at) items)
   scores_are [] real = tt
@@ -100,7 +101,8 @@ only_members : (list : List Scored) → map (λ (p : Scored). Bulk p.1) list ≡
 only_members [] = refl
 only_members (p ∷ list) = ap (λ l. Bulk p.1 ∷ l) (only_members list)
 
-with_scores_each : (scores : Scores) (list : List Scored) → HaveScores scores list → flat_map (λ (p : Scored). Bulk p.1 ∷ Bulk (canonical p.0) ∷ []) list ≡ flat_map (λ member. Bulk member ∷ score_or_null (get scores member) ∷ []) (names_of list)
+with_scores_each : (scores : Scores) (list : List Scored) → HaveScores scores list
+    → flat_map (λ (p : Scored). Bulk p.1 ∷ Bulk (canonical p.0) ∷ []) list ≡ flat_map (λ member. Bulk member ∷ score_or_null (get scores member) ∷ []) (names_of list)
 with_scores_each scores [] have = refl
 with_scores_each scores (p ∷ list) have =
     ap (λ l. Bulk p.1 ∷ Bulk (canonical p.0) ∷ l) (with_scores_each scores list have.1)
@@ -117,17 +119,21 @@ listed_is true scores list have =
 pub pairs_long : (f : ℕ → Option Scored) (items : List ℕ) → length items ≡ length (pairs_of f items)
 pairs_long f items = sym (length-map items (λ at. or_empty (f at)))
 
-module _ {E : Type 0} (m : Blocks) (zset : object.Scored) (sound : object_of.IsScored m zset) (n : Option ℤ) (with_scores : Bool) (items : List ℕ) (p : IsPick (λ blocks. object_of.IsScored blocks zset) (λ blocks at. IsSome (pair_at blocks zset at)) n items) where
-  pub first_picked : n ≡ None → (result : Result (List Part) E) → IfOk result (λ reply. reply ≡ first_told (pairs_of (λ at. pair_at m zset at) items)) → IfOk result (λ reply. PicksMembers n with_scores (Some (object_of.scores m zset)) reply)
+module _ {E : Type 0} (m : Blocks) (zset : object.Scored) (sound : object_of.IsScored m zset) (n : Option ℤ) (with_scores : Bool) (items : List ℕ)
+    (p : IsPick (λ blocks. object_of.IsScored blocks zset) (λ blocks at. IsSome (pair_at blocks zset at)) n items) where
+  pub first_picked : n ≡ None → (result : Result (List Part) E) → IfOk result (λ reply. reply ≡ first_told (pairs_of (λ at. pair_at m zset at) items))
+      → IfOk result (λ reply. PicksMembers n with_scores (Some (object_of.scores m zset)) reply)
   first_picked none (Ok reply) is = (
     elements_of (λ at. member_of (pair_at m zset at)) items,
     members_picked m zset sound n items p,
-    is ∙ first_is (members_listed with_scores (object_of.scores m zset)) (pairs_of (λ at. pair_at m zset at) items) ∙ ap (picks_told (members_listed with_scores (object_of.scores m zset)) None) (names_are (λ at. pair_at m zset at) items)
+    is ∙ first_is (members_listed with_scores (object_of.scores m zset)) (pairs_of (λ at. pair_at m zset at) items)
+        ∙ ap (picks_told (members_listed with_scores (object_of.scores m zset)) None) (names_are (λ at. pair_at m zset at) items)
         ∙ ap (λ (k : Option ℤ). picks_told (members_listed with_scores (object_of.scores m zset)) k (elements_of (λ at. member_of (pair_at m zset at)) items)) (sym none),
   )
   first_picked none (Err x) is = tt
 
-  pub many_picked : is_some n ≡ true → ((at : ℕ) → Contains items at → IsSome (pair_at m zset at)) → (result : Result (List Part) E) → IfOk result (λ reply. reply ≡ listed with_scores (pairs_of (λ at. pair_at m zset at) items))
+  pub many_picked : is_some n ≡ true → ((at : ℕ) → Contains items at → IsSome (pair_at m zset at)) → (result : Result (List Part) E)
+      → IfOk result (λ reply. reply ≡ listed with_scores (pairs_of (λ at. pair_at m zset at) items))
       → IfOk result (λ reply. PicksMembers n with_scores (Some (object_of.scores m zset)) reply)
   many_picked some real (Ok reply) is = (
     elements_of (λ at. member_of (pair_at m zset at)) items,
@@ -147,12 +153,14 @@ none_random seed n with_scores old key scores (Ok reply) none is told =
     subst (λ (o : Option Entry). may_tell zset_in old o (PicksMembers n with_scores) reply old) (sym none) (all, refl)
 none_random seed n with_scores old key scores (Err x) none is told = tt
 
-pub zset_random : {E : Type 0} (seed : ℕ) (n : Option ℤ) (with_scores : Bool) (old : World) (m : Blocks) (key : List ℕ) (zset : object.Scored) (result : Result (List Part) E) → FoundZset old m key zset
+pub zset_random : {E : Type 0} (seed : ℕ) (n : Option ℤ) (with_scores : Bool) (old : World) (m : Blocks) (key : List ℕ) (zset : object.Scored) (result : Result (List Part) E)
+    → FoundZset old m key zset
     → IfOk result (λ reply. PicksMembers n with_scores (Some (object_of.scores m zset)) reply) → IfOk result (λ reply. may_zsets seed old (zsets.ZRandMember key n with_scores) reply old)
 zset_random seed n with_scores old m key zset (Ok reply) found told = subst (λ (o : Option Entry). may_tell zset_in old o (PicksMembers n with_scores) reply old) (sym found.stands) (told, refl)
 zset_random seed n with_scores old m key zset (Err x) found told = tt
 
-pub other_random : {E : Type 0} (seed : ℕ) (n : Option ℤ) (with_scores : Bool) (old : World) (key : List ℕ) (result : Result (List Part) E) → FoundOther old key → IfOk result (λ reply. reply ≡ Refused WrongType ∷ [])
+pub other_random : {E : Type 0} (seed : ℕ) (n : Option ℤ) (with_scores : Bool) (old : World) (key : List ℕ) (result : Result (List Part) E) → FoundOther old key
+    → IfOk result (λ reply. reply ≡ Refused WrongType ∷ [])
     → IfOk result (λ reply. may_zsets seed old (zsets.ZRandMember key n with_scores) reply old)
 other_random seed n with_scores old key (Ok reply) found is =
     subst (λ (o : Option Entry). may_tell zset_in old o (PicksMembers n with_scores) reply old) (sym found.stands)

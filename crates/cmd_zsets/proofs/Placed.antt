@@ -1,5 +1,6 @@
 -- Where a member stands in the list of a sorted set.
-use Rattle.std.proofs.Common.{◌≡◌, inl, inr, ℕ, zero, suc, ◌+◌, ◌-◌, ℤ, false, List, [], ◌∷◌, ◌++◌, length, take, drop, reverse, Some, None, slice_get, bytes_eq, if◌then◌else◌, Less, Equal, refl, sym, ap, subst, ◌∙◌, arith}
+use Rattle.std.proofs.Common.{◌≡◌, inl, inr, ℕ, zero, suc, ◌+◌, ◌-◌, ℤ, false, List, [], ◌∷◌, ◌++◌, length, take, drop, reverse, Some, None, slice_get, bytes_eq, if◌then◌else◌, Less}
+use Rattle.std.proofs.Common.{Equal, refl, sym, ap, subst, ◌∙◌, arith}
 use Rattle.std.specs.FinMap.{get}
 use Rattle.std.proofs.lemmas.Bool.{cases_Bool}
 use Rattle.std.proofs.lemmas.Cmp.{tied_itself}
@@ -123,7 +124,8 @@ turned : (front back : List Scored) (x : Scored) → reverse (front ++ x ∷ bac
 turned front back x = reverse-append front (x ∷ back) ∙ ap (λ l. l ++ reverse front) (reverse-cons x back) ∙ append_assoc (reverse back) (x ∷ []) (reverse front)
 
 -- a pair that has a rank is met there
-pub placed : (from : Direction) (scores : Scores) (xs : List Scored) (rank : ℕ) (x : Scored) → IsRanking scores xs → slice_get xs rank ≡ Some x → place_from 0 x.1 (met from xs) ≡ Some (rank_of from (length xs) rank, x.0)
+pub placed : (from : Direction) (scores : Scores) (xs : List Scored) (rank : ℕ) (x : Scored) → IsRanking scores xs → slice_get xs rank ≡ Some x
+    → place_from 0 x.1 (met from xs) ≡ Some (rank_of from (length xs) rank, x.0)
 placed Rising scores xs rank x r at =
     let lt = (some_at xs rank x x at).0 in
     let n : 0 + length (take rank xs) ≡ rank = omega (arith, length-take-le rank xs (omega (arith, lt))) in

@@ -19,7 +19,8 @@ few_met from list count most is =
     ap (λ n. take n (met from list)) few ∙ take_min most (met from list)
 
 module _ {E : Type 0} (old new : Scores) (was form : Form) (kept : List Scored) (same : kept ≡ ranked old) (form_is : form ≡ was) where
-  pub many_popped : (from : Direction) (count most : ℕ) (told : Option (List Part)) (reply : List Part) → count ≡ min (length kept) most → told ≡ Some reply → reply ≡ listed true (take count (drop 0 (met from (ranked old))))
+  pub many_popped : (from : Direction) (count most : ℕ) (told : Option (List Part)) (reply : List Part) → count ≡ min (length kept) most → told ≡ Some reply
+      → reply ≡ listed true (take count (drop 0 (met from (ranked old))))
       → (result : Result (Unit {0}) E) → OnOk result (new ≡ without_members old (members_of (take count (drop 0 (met from kept))))) → OnOk result (PopsMany from most told old was new form)
   many_popped from count most told reply few is lists (Err e) gone = tt
   many_popped from count most told reply few is lists (Ok u) gone =
@@ -30,7 +31,8 @@ module _ {E : Type 0} (old new : Scores) (was form : Form) (kept : List Scored) 
         form_is = form_is;
       }
 
-  pub part_gone : (part : List Scored → List Scored) (from : Direction) (start count gone : ℕ) → gone ≡ count → count ≡ length (part (ranked old)) → take count (drop start (met from (ranked old))) ≡ part (ranked old)
+  pub part_gone : (part : List Scored → List Scored) (from : Direction) (start count gone : ℕ) → gone ≡ count → count ≡ length (part (ranked old))
+      → take count (drop start (met from (ranked old))) ≡ part (ranked old)
       → (result : Result (Unit {0}) E) → OnOk result (new ≡ without_members old (members_of (take count (drop start (met from kept))))) → OnOk result (DropsPart part gone old was new form)
   part_gone part from start count gone counts counted is (Err e) left = tt
   part_gone part from start count gone counts counted is (Ok u) left = record {

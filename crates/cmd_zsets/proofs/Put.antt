@@ -147,7 +147,8 @@ module _ {S : Type 0} (blocks : S → Blocks) (old mid new : Keyspace S) (at : C
 
   pub put_form : mid.bases.limits ≡ old.bases.limits → AllAt (IsNewZset (get all) old.bases) new.bases (blocks new.store) at.db key
   put_form same number e found bytes =
-      let had : IsLeast (FitsScored mid.bases.limits empty) p.from = subst (λ (b : Option Scores). IsSourceForm (is_some b) (FitsScored mid.bases.limits empty) mid.bases (blocks mid.store) at.db key p.from) nothing p.was_form in
+      let had : IsLeast (FitsScored mid.bases.limits empty) p.from =
+      subst (λ (b : Option Scores). IsSourceForm (is_some b) (FitsScored mid.bases.limits empty) mid.bases (blocks mid.store) at.db key p.from) nothing p.was_form in
       let least = p.made.least (subst (λ (b : Option Scores). IsLeast (FitsScored mid.bases.limits (or_no_scores b)) p.from) (sym nothing) had) in
       record {
         scores = p.now;
@@ -158,7 +159,8 @@ module _ {S : Type 0} (blocks : S → Blocks) (old mid new : Keyspace S) (at : C
       }
 
 -- a key is removed, and then it changes
-pub held_anew : {S : Type 0} (blocks : S → Blocks) (step : S → S → Type 0) (db : ℕ) (key : List ℕ) (old mid new : Keyspace S) → Held blocks step (no_key db) old mid → Held blocks step (one_key db key) mid new → Held blocks step (one_key db key) old new
+pub held_anew : {S : Type 0} (blocks : S → Blocks) (step : S → S → Type 0) (db : ℕ) (key : List ℕ) (old mid new : Keyspace S) → Held blocks step (no_key db) old mid
+    → Held blocks step (one_key db key) mid new → Held blocks step (one_key db key) old new
 held_anew blocks step db key old mid new p q =
     held_then blocks step (one_key db key) old mid new
     (record {

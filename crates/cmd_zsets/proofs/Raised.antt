@@ -45,7 +45,8 @@ module _ (old : World) (key member : List ℕ) (rules : ScoreRules) (by : ℤ) (
       ∙ ap (λ o. if admits rules o then raise_to old key rules member (or_no_scores before) (or_zero o +ℤ by) else tells (Null ∷ []) old) (score_is old key member found before v stands)
 
   -- a score that isn't admitted
-  pub barred_told : {X : Type 0} → admits rules found ≡ false → (result : Result (List Part) X) → IfOk result (λ reply. reply ≡ Null ∷ []) → IfOk result (λ reply. zset_outcome old (zsets.ZIncr key rules by member) ≡ leaves reply old)
+  pub barred_told : {X : Type 0} → admits rules found ≡ false → (result : Result (List Part) X) → IfOk result (λ reply. reply ≡ Null ∷ [])
+      → IfOk result (λ reply. zset_outcome old (zsets.ZIncr key rules by member) ≡ leaves reply old)
   barred_told barred (Err x) told = tt
   barred_told barred (Ok reply) told =
       raises v.before v.stands
@@ -53,32 +54,42 @@ module _ (old : World) (key member : List ℕ) (rules : ScoreRules) (by : ℤ) (
       ∙ ap (λ r. leaves r old) (sym told)
 
   module _ (admitted : admits rules found ≡ true) where
-    raising : (before : Option Scores) → IsBefore old key before → (sum : ℤ) → sum ≡ or_zero found +ℤ by → zset_outcome old (zsets.ZIncr key rules by member) ≡ raise_to old key rules member (or_no_scores before) sum
+    raising : (before : Option Scores) → IsBefore old key before → (sum : ℤ) → sum ≡ or_zero found +ℤ by
+        → zset_outcome old (zsets.ZIncr key rules by member) ≡ raise_to old key rules member (or_no_scores before) sum
     raising before stands sum sums =
         raises before stands
         ∙ ap (λ b. if b then raise_to old key rules member (or_no_scores before) (or_zero found +ℤ by) else tells (Null ∷ []) old) admitted
         ∙ ap (raise_to old key rules member (or_no_scores before)) (sym sums)
 
     -- a number that is none
-    pub large_told : {X : Type 0} → is_score (or_zero found +ℤ by) ≡ false → (result : Result (List Part) X) → IfOk result (λ reply. reply ≡ Refused NotAWholeScore ∷ []) → IfOk result (λ reply. zset_outcome old (zsets.ZIncr key rules by member) ≡ leaves reply old)
+    pub large_told : {X : Type 0} → is_score (or_zero found +ℤ by) ≡ false → (result : Result (List Part) X) → IfOk result (λ reply. reply ≡ Refused NotAWholeScore ∷ [])
+        → IfOk result (λ reply. zset_outcome old (zsets.ZIncr key rules by member) ≡ leaves reply old)
     large_told large (Err x) told = tt
     large_told large (Ok reply) told =
         let map = or_no_scores v.before in
         let sum = or_zero found +ℤ by in
         raising v.before v.stands sum refl
-        ∙ ap (λ b. if b then (if passes rules (get map member) sum then leaves (Bulk (canonical sum) ∷ []) (keep_zset old key (insert map member sum)) else tells (Null ∷ []) old) else refused NotAWholeScore old) large
+        ∙ ap
+        (λ b. if b then (if passes rules (get map member) sum then leaves (Bulk (canonical sum) ∷ []) (keep_zset old key (insert map member sum)) else tells (Null ∷ []) old) else
+        refused NotAWholeScore old) large
         ∙ ap (λ r. leaves r old) (sym told)
 
     module _ (sum : ℤ) (sums : sum ≡ or_zero found +ℤ by) (range : is_score sum ≡ true) where
-      in_range : (before : Option Scores) → IsBefore old key before → zset_outcome old (zsets.ZIncr key rules by member) ≡ (if passes rules found sum then leaves (Bulk (canonical sum) ∷ []) (keep_zset old key (insert (or_no_scores before) member sum)) else tells (Null ∷ []) old)
+      in_range : (before : Option Scores) → IsBefore old key before
+          → zset_outcome old (zsets.ZIncr key rules by member) ≡
+          (if passes rules found sum then leaves (Bulk (canonical sum) ∷ []) (keep_zset old key (insert (or_no_scores before) member sum)) else tells (Null ∷ []) old)
       in_range before stands =
           let map = or_no_scores before in
           raising before stands sum sums
-          ∙ ap (λ b. if b then (if passes rules (get map member) sum then leaves (Bulk (canonical sum) ∷ []) (keep_zset old key (insert map member sum)) else tells (Null ∷ []) old) else refused NotAWholeScore old) range
-          ∙ ap (λ o. if passes rules o sum then leaves (Bulk (canonical sum) ∷ []) (keep_zset old key (insert map member sum)) else tells (Null ∷ []) old) (score_is old key member found before v stands)
+          ∙ ap
+          (λ b. if b then (if passes rules (get map member) sum then leaves (Bulk (canonical sum) ∷ []) (keep_zset old key (insert map member sum)) else tells (Null ∷ []) old) else
+          refused NotAWholeScore old) range
+          ∙ ap (λ o. if passes rules o sum then leaves (Bulk (canonical sum) ∷ []) (keep_zset old key (insert map member sum)) else tells (Null ∷ []) old)
+          (score_is old key member found before v stands)
 
       -- a score that isn't let pass
-      pub stopped_told : {X : Type 0} → passes rules found sum ≡ false → (result : Result (List Part) X) → IfOk result (λ reply. reply ≡ Null ∷ []) → IfOk result (λ reply. zset_outcome old (zsets.ZIncr key rules by member) ≡ leaves reply old)
+      pub stopped_told : {X : Type 0} → passes rules found sum ≡ false → (result : Result (List Part) X) → IfOk result (λ reply. reply ≡ Null ∷ [])
+          → IfOk result (λ reply. zset_outcome old (zsets.ZIncr key rules by member) ≡ leaves reply old)
       stopped_told stopped (Err x) told = tt
       stopped_told stopped (Ok reply) told =
           in_range v.before v.stands
@@ -86,12 +97,14 @@ module _ (old : World) (key member : List ℕ) (rules : ScoreRules) (by : ℤ) (
           ∙ ap (λ r. leaves r old) (sym told)
 
       -- a score that is written
-      pub raised_told : {X : Type 0} → passes rules found sum ≡ true → (ch : Bool) (count : ℕ) (new : World) → IsAdded old key rules ch ((sum, member) ∷ []) count new → (result : Result (List Part) X) → IfOk result (λ reply. reply ≡ Bulk (canonical sum) ∷ [])
+      pub raised_told : {X : Type 0} → passes rules found sum ≡ true → (ch : Bool) (count : ℕ) (new : World) → IsAdded old key rules ch ((sum, member) ∷ []) count new
+          → (result : Result (List Part) X) → IfOk result (λ reply. reply ≡ Bulk (canonical sum) ∷ [])
           → IfOk result (λ reply. zset_outcome old (zsets.ZIncr key rules by member) ≡ leaves reply new)
       raised_told passed ch count new s (Err x) told = tt
       raised_told passed ch count new s (Ok reply) told =
           let map = or_no_scores s.before in
-          let written : permits rules (get map member) sum ≡ true = ap (λ o. permits rules o sum) (score_is old key member found s.before v s.stands) ∙ ap (λ b. b && passes rules found sum) admitted ∙ passed in
+          let written : permits rules (get map member) sum ≡ true = ap (λ o. permits rules o sum) (score_is old key member found s.before v s.stands)
+          ∙ ap (λ b. b && passes rules found sum) admitted ∙ passed in
           in_range s.before s.stands
           ∙ ap (λ b. if b then leaves (Bulk (canonical sum) ∷ []) (keep_zset old key (insert map member sum)) else tells (Null ∷ []) old) passed
           ∙ ap (λ r. leaves r (keep_zset old key (insert map member sum))) (sym told)
@@ -99,7 +112,8 @@ module _ (old : World) (key member : List ℕ) (rules : ScoreRules) (by : ℤ) (
           ∙ ap (leaves reply) (sym s.world)
 
   -- its form
-  pub raised_formed : {S A X : Type 0} (blocks : S → Blocks) (from to : Keyspace S) (db : ℕ) (sum : ℤ) → sum ≡ or_zero found +ℤ by → (result : Result A X) → Formed blocks (zset_to db old key rules ((sum, member) ∷ [])) from to
+  pub raised_formed : {S A X : Type 0} (blocks : S → Blocks) (from to : Keyspace S) (db : ℕ) (sum : ℤ) → sum ≡ or_zero found +ℤ by → (result : Result A X)
+      → Formed blocks (zset_to db old key rules ((sum, member) ∷ [])) from to
       → IfOk result (λ reply. Formed blocks (zset_to db old key rules ((or_zero (get (zset_at old key) member) +ℤ by, member) ∷ [])) from to)
   raised_formed blocks from to db sum sums (Err x) formed = tt
   raised_formed blocks from to db sum sums (Ok a) formed =
@@ -107,7 +121,8 @@ module _ (old : World) (key member : List ℕ) (rules : ScoreRules) (by : ℤ) (
       subst (λ n. Formed blocks (zset_to db old key rules ((n, member) ∷ [])) from to) (sums ∙ ap (λ o. or_zero o +ℤ by) (sym there)) formed
 
 -- the text of a score is no refusal
-pub text_calm : {S X : Type 0} (blocks : S → Blocks) (step : S → S → Type 0) (scope : Scope) (old new : Keyspace S) (sum : ℤ) (result : Result (List Part) X) → IfOk result (λ reply. reply ≡ Bulk (canonical sum) ∷ []) → Held blocks step scope old new
+pub text_calm : {S X : Type 0} (blocks : S → Blocks) (step : S → S → Type 0) (scope : Scope) (old new : Keyspace S) (sum : ℤ) (result : Result (List Part) X)
+    → IfOk result (λ reply. reply ≡ Bulk (canonical sum) ∷ []) → Held blocks step scope old new
     → Kept blocks step scope old new result
 text_calm blocks step scope old new sum (Err e) told held = calm blocks step scope old new (Err e) tt held
 text_calm blocks step scope old new sum (Ok reply) told held = calm blocks step scope old new (Ok reply) (λ refused. subst IsRefusal told refused) held

@@ -1,5 +1,6 @@
 -- The one list of the scores and members of a sorted set, in their order.
-use Rattle.std.proofs.Common.{◌≡◌, ◌⊎◌, inl, inr, ℕ, zero, suc, ◌<◌, ℤ, Bool, true, false, ◌&&◌, ◌||◌, T, cond, List, [], ◌∷◌, length, map, get_or, Contains, Some, is_some, Ordering, Less, Equal, Greater, is_lt, refl, sym, ap, ◌∙◌, arith}
+use Rattle.std.proofs.Common.{◌≡◌, ◌⊎◌, inl, inr, ℕ, zero, suc, ◌<◌, ℤ, Bool, true, false, ◌&&◌, ◌||◌, T, cond, List, [], ◌∷◌, length, map, get_or, Contains, Some, is_some, Ordering, Less}
+use Rattle.std.proofs.Common.{Equal, Greater, is_lt, refl, sym, ap, ◌∙◌, arith}
 use Rattle.std.specs.List.{list_any}
 use Rattle.std.specs.FinMap.{find, empty, entries, from_entries, keys, len, is_sorted, contains_key, entries_sorted, contains_key-keys, get-from_entries, get-entries, len-entries, len-empty}
 use Rattle.std.specs.FinMap.Entries.{below_all}
@@ -52,11 +53,13 @@ exact = exact_pairs int_cmp (slice_cmp nat_cmp) exact_signed exact_bytes
 
 leads_of : (x : Scored) (pairs : List Pair) → T (below_all scored_cmp x pairs) → Leads x (map (λ (p : Pair). p.0) pairs)
 leads_of x [] h = tt
-leads_of x (p ∷ pairs) h = (less (scored_cmp x p.0) (first (is_lt (scored_cmp x p.0)) (below_all scored_cmp x pairs) h), leads_of x pairs (second (is_lt (scored_cmp x p.0)) (below_all scored_cmp x pairs) h))
+leads_of x (p ∷ pairs) h =
+    (less (scored_cmp x p.0) (first (is_lt (scored_cmp x p.0)) (below_all scored_cmp x pairs) h), leads_of x pairs (second (is_lt (scored_cmp x p.0)) (below_all scored_cmp x pairs) h))
 
 ordered_of : (pairs : List Pair) → T (is_sorted scored_cmp pairs) → IsOrdered (map (λ (p : Pair). p.0) pairs)
 ordered_of [] h = tt
-ordered_of (p ∷ pairs) h = (leads_of p.0 pairs (first (below_all scored_cmp p.0 pairs) (is_sorted scored_cmp pairs) h), ordered_of pairs (second (below_all scored_cmp p.0 pairs) (is_sorted scored_cmp pairs) h))
+ordered_of (p ∷ pairs) h =
+    (leads_of p.0 pairs (first (below_all scored_cmp p.0 pairs) (is_sorted scored_cmp pairs) h), ordered_of pairs (second (below_all scored_cmp p.0 pairs) (is_sorted scored_cmp pairs) h))
 
 -- ---- the pairs
 
@@ -127,7 +130,8 @@ has_found member score (e ∷ es) s (inl here) =
     ap (λ b. cond b (Some e.1) (find Names member es)) (ap (eq_by_cmp Names member) here.0 ∙ ap is_eq (tied_itself nat_list_cmp_total member)) ∙ ap Some here.1
 has_found member score (e ∷ es) s (inr h) =
     let later : Names e.0 member ≡ Less = below_has e.0 member score es (first (below_all Names e.0 es) (is_sorted Names es) s) h in
-    ap (λ b. cond b (Some e.1) (find Names member es)) (ap is_eq (nat_list_cmp_total.antisymm member e.0 ∙ ap ordering_reverse later)) ∙ has_found member score es (second (below_all Names e.0 es) (is_sorted Names es) s) h
+    ap (λ b. cond b (Some e.1) (find Names member es)) (ap is_eq (nat_list_cmp_total.antisymm member e.0 ∙ ap ordering_reverse later))
+    ∙ has_found member score es (second (below_all Names e.0 es) (is_sorted Names es) s) h
 
 -- the set of the pairs has a pair where the entries have it turned
 turned_has : (q : Scored) (es : List Entry) → is_some (find scored_cmp q (map turned es)) ≡ true → HasEntry es q.1 q.0
@@ -164,7 +168,8 @@ model_ranking scores = record {
     λ h. get-entries scores q.1 ∙ has_found q.1 q.0 (entries scores) (entries_sorted scores)
         (turned_has q (entries scores) (sym (set_has scores q) ∙ contains_key-keys (ordered scores) q ∙ has_any q (ranked scores) (has_contained (ranked scores) q h))),
     λ h. contained_has (ranked scores) q
-        (any_has q (ranked scores) (sym (contains_key-keys (ordered scores) q) ∙ set_has scores q ∙ has_turned q (entries scores) (found_has q.1 q.0 (entries scores) (sym (get-entries scores q.1) ∙ h)))),
+        (any_has q (ranked scores)
+        (sym (contains_key-keys (ordered scores) q) ∙ set_has scores q ∙ has_turned q (entries scores) (found_has q.1 q.0 (entries scores) (sym (get-entries scores q.1) ∙ h)))),
   );
 }
 

@@ -23,7 +23,8 @@ range_is xs first end = elim (cases_lt (length xs) first) [
 ]
 
 -- how many members a range has of so many, and where it begins
-pub reach_is : (xs : List Scored) (a b : ℤ) (len first end start stop count : ℕ) → length xs ≡ len → first ≡ range_start len a → end ≡ range_end len b → start ≡ min first len → stop ≡ min end len → count ≡ stop - first
+pub reach_is : (xs : List Scored) (a b : ℤ) (len first end start stop count : ℕ) → length xs ≡ len → first ≡ range_start len a → end ≡ range_end len b → start ≡ min first len
+    → stop ≡ min end len → count ≡ stop - first
     → take count (drop start xs) ≡ list_range xs a b
 reach_is xs a b len first end start stop count size f e s t n =
     let from : start ≡ min first (length xs) = omega (arith, s, size) in

@@ -58,7 +58,8 @@ module _ (before after : Blocks) (old new : kept.Scored) (sound : IsScored befor
 
   -- from the clauses of `remove`
   pub removed_keeps : {E : Type 0} (result : Result Bool E) → (result ≡ Ok true → IsChanged before after old new map) → (result ≡ Ok false → new ≡ old) → (result ≡ Ok false → after ≡ before)
-      → OnErr result (form_of old ≢ Skiplist → new ≡ old) → OnErr result (form_of old ≢ Skiplist → after ≡ before) → OnErr result (form_of old ≡ Skiplist → IsChanged before after old new map) → Keeps before after old new
+      → OnErr result (form_of old ≢ Skiplist → new ≡ old) → OnErr result (form_of old ≢ Skiplist → after ≡ before)
+      → OnErr result (form_of old ≡ Skiplist → IsChanged before after old new map) → Keeps before after old new
   removed_keeps (Ok true) c s b es eb ec = changed (c refl)
   removed_keeps (Ok false) c s b es eb ec = left (s refl) (b refl)
   removed_keeps (Err e) c s b es eb ec = elim (table_or_not old.body) [
@@ -66,7 +67,8 @@ module _ (before after : Blocks) (old new : kept.Scored) (sound : IsScored befor
     | inr packed ↦ left (es packed) (eb packed)
   ]
 
-pub removed_is : {E : Type 0} (before after : Blocks) (old new : kept.Scored) (member : List ℕ) (was : Bool) (result : Result Bool E) → result ≡ Ok was → was ≡ contains_key (scores before old) member → (result ≡ Ok true → IsChanged before after old new (remove (scores before old) member))
+pub removed_is : {E : Type 0} (before after : Blocks) (old new : kept.Scored) (member : List ℕ) (was : Bool) (result : Result Bool E) → result ≡ Ok was
+    → was ≡ contains_key (scores before old) member → (result ≡ Ok true → IsChanged before after old new (remove (scores before old) member))
     → (result ≡ Ok false → new ≡ old) → (result ≡ Ok false → after ≡ before) → scores after new ≡ remove (scores before old) member
 removed_is before after old new member true result is there c s b = (c is).scores_are
 removed_is before after old new member false result is there c s b =

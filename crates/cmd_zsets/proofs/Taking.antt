@@ -1,5 +1,6 @@
 -- The list of a sorted set without one of its members.
-use Rattle.std.proofs.Common.{◌≡◌, ◌≢◌, ◌⊎◌, inl, inr, ℕ, zero, suc, ◌<◌, ℤ, drop, Result, Ok, Err, OnOk, Bool, true, false, List, [], ◌∷◌, length, Option, None, Some, refl, sym, ap, ◌∙◌, subst, arith, Less}
+use Rattle.std.proofs.Common.{◌≡◌, ◌≢◌, ◌⊎◌, inl, inr, ℕ, zero, suc, ◌<◌, ℤ, drop, Result, Ok, Err, OnOk, Bool, true, false, List, [], ◌∷◌, length, Option, None, Some, refl, sym, ap, ◌∙◌}
+use Rattle.std.proofs.Common.{subst, arith, Less}
 use Rattle.std.specs.Prelude.{Contains, slice_get, slice_index_or, get_or}
 use Rattle.std.specs.List.{remove as removed}
 use Rattle.std.specs.FinMap.{get, remove, get-remove}
@@ -77,7 +78,8 @@ gone (x ∷ xs) (suc n) y o at (inl e) = less_differs x y (leads_has x xs y o.0 
 gone (x ∷ xs) (suc n) y o at (inr h) = gone xs n y o.1 at h
 
 -- the map without the member at a place has the list without that place
-pub ranking_without : (map : ScoreMap) (list : List Key) (n : ℕ) (score : ℤ) (member : List ℕ) → IsRanking map list → slice_get list n ≡ Some (score, member) → IsRanking (remove map member) (removed list n)
+pub ranking_without : (map : ScoreMap) (list : List Key) (n : ℕ) (score : ℤ) (member : List ℕ) → IsRanking map list → slice_get list n ≡ Some (score, member)
+    → IsRanking (remove map member) (removed list n)
 ranking_without map list n score member r at = record {
   ordered = ranked_without n list r.ordered;
   pairs = λ key. ((λ h. forth key (has_contained (removed list n) key h)), (λ h. contained_has (removed list n) key (back key h)));
@@ -86,7 +88,10 @@ ranking_without map list n score member r at = record {
     without : (k : Key) → (get (remove map member) k.1 ≡ None) × (k.1 ≡ member) ⊎ (get (remove map member) k.1 ≡ get map k.1) × (k.1 ≢ member)
     without k = elim (cases_Bool (eq_by_cmp (slice_cmp nat_cmp) k.1 member)) [
       | inl same ↦ inl (get-remove nat_list_cmp_total map member k.1 ∙ cond-true _ _ _ same, tied k.1 member same)
-      | inr other ↦ inr (get-remove nat_list_cmp_total map member k.1 ∙ cond-false _ _ _ other, (λ e. let t = ap (eq_by_cmp (slice_cmp nat_cmp) k.1) (sym e) ∙ (eq_by_cmp_equiv nat_list_cmp_total).refl k.1 in cc))
+      | inr other ↦ inr (
+        get-remove nat_list_cmp_total map member k.1 ∙ cond-false _ _ _ other,
+        (λ e. let t = ap (eq_by_cmp (slice_cmp nat_cmp) k.1) (sym e) ∙ (eq_by_cmp_equiv nat_list_cmp_total).refl k.1 in cc),
+      )
     ]
 
     taken : Key
@@ -116,12 +121,14 @@ ranking_without map list n score member r at = record {
     ]
 
 -- so it is the list of what is left
-pub list_without : (map after : ScoreMap) (list left : List Key) (n : ℕ) (score : ℤ) (member : List ℕ) → IsRanking map list → slice_get list n ≡ Some (score, member) → after ≡ remove map member → IsRanking after left → left ≡ removed list n
+pub list_without : (map after : ScoreMap) (list left : List Key) (n : ℕ) (score : ℤ) (member : List ℕ) → IsRanking map list → slice_get list n ≡ Some (score, member)
+    → after ≡ remove map member → IsRanking after left → left ≡ removed list n
 list_without map after list left n score member r at is q =
     ranking_once (remove map member) left (removed list n) (subst (λ m. IsRanking m left) is q) (ranking_without map list n score member r at)
 
 -- the member that is met at a place was taken out
-pub takes_met : {E : Type 0} (from : Direction) (place rank : ℕ) (score : ℤ) (member : List ℕ) (old : ScoreMap) (list : List Key) (new : ScoreMap) (left : List Key) → IsRanking old list → place < length list → rank ≡ rank_of from (length list) place → slice_get list rank ≡ Some (score, member)
+pub takes_met : {E : Type 0} (from : Direction) (place rank : ℕ) (score : ℤ) (member : List ℕ) (old : ScoreMap) (list : List Key) (new : ScoreMap) (left : List Key) → IsRanking old list
+    → place < length list → rank ≡ rank_of from (length list) place → slice_get list rank ≡ Some (score, member)
     → (result : Result (Unit {0}) E) → OnOk result (new ≡ remove old member) → IsRanking new left → OnOk result (TakesMet from place old list new left)
 takes_met from place rank score member old list new left r inside is at (Err e) taken s = tt
 takes_met from place rank score member old list new left r inside is at (Ok u) taken s =

@@ -55,7 +55,8 @@ same_before world key (Some a) None p q = some_none _ _ p.stands q
 same_before world key (Some a) (Some b) p q = ap Some (ap zset_of (sym p.stands ∙ q.stands))
 
 -- the score that was found of a member stood in the sorted set that was there
-pub score_is : (world : World) (key member : List ℕ) (score : Option ℤ) (before : Option Scores) → IsScoreOf world key member score → IsBefore world key before → get (or_no_scores before) member ≡ score
+pub score_is : (world : World) (key member : List ℕ) (score : Option ℤ) (before : Option Scores) → IsScoreOf world key member score → IsBefore world key before
+    → get (or_no_scores before) member ≡ score
 score_is world key member score before v stands = ap (λ (b : Option Scores). get (or_no_scores b) member) (same_before world key before v.before stands v.stands) ∙ v.is
 
 -- a fact that holds anyway holds where a call succeeds
@@ -76,7 +77,8 @@ none_removed old key members none (Err x) told = tt
 none_removed old key members none (Ok reply) told = on_before old key None (drop_members old key members) none ∙ ap (λ r. leaves r old) (sym told)
 
 -- or tells how many members were there
-pub removed_told : {X : Type 0} (old new : World) (key : List ℕ) (members : List (List ℕ)) (gone : ℕ) (before : Option Scores) (scores : Scores) (from : Form) (now : Scores) (form : Form) → IsBefore old key before → HasZset old key scores
+pub removed_told : {X : Type 0} (old new : World) (key : List ℕ) (members : List (List ℕ)) (gone : ℕ) (before : Option Scores) (scores : Scores) (from : Form) (now : Scores) (form : Form)
+    → IsBefore old key before → HasZset old key scores
     → Removes members gone (or_no_scores before) from now form → new ≡ keep_zset old key now → (result : Result (List Part) X) → IfOk result (λ reply. reply ≡ Number (pos gone) ∷ [])
     → IfOk result (λ reply. zset_outcome old (zsets.ZRem key members) ≡ leaves reply new)
 removed_told old new key members gone before scores from now form stands has u world (Err x) told = tt
@@ -93,7 +95,8 @@ removed_told old new key members gone before scores from now form stands has u w
 -- ---- scores written
 
 -- a sorted set that is there, or may be made, is written to
-adds_to : (old : World) (key : List ℕ) (rules : ScoreRules) (ch : Bool) (pairs : List Scored) (before : Option Scores) (there : Option ℕ) → is_some before ≡ is_some there → (rules.xx ≡ true → is_some there ≡ false → ⊥) → add_to old key rules ch pairs before ≡ add_scores old key rules ch pairs (or_no_scores before)
+adds_to : (old : World) (key : List ℕ) (rules : ScoreRules) (ch : Bool) (pairs : List Scored) (before : Option Scores) (there : Option ℕ) → is_some before ≡ is_some there
+    → (rules.xx ≡ true → is_some there ≡ false → ⊥) → add_to old key rules ch pairs before ≡ add_scores old key rules ch pairs (or_no_scores before)
 adds_to old key rules ch pairs (Some scores) there same made = refl
 adds_to old key rules ch pairs None there same made = no_xx (rules.xx) refl
   where
@@ -102,7 +105,8 @@ adds_to old key rules ch pairs None there same made = no_xx (rules.xx) refl
     no_xx false is = ap (λ b. if b then tells_number (pos 0) old else add_scores old key rules ch pairs empty) is
 
 -- ZADD tells how many members are counted
-pub added_told : {X : Type 0} (old new : World) (key : List ℕ) (rules : ScoreRules) (ch : Bool) (pairs : List Scored) (count : ℕ) (there : Option ℕ) → is_some (look old key) ≡ is_some there → (rules.xx ≡ true → is_some there ≡ false → ⊥) → IsAdded old key rules ch pairs count new → (result : Result (List Part) X)
+pub added_told : {X : Type 0} (old new : World) (key : List ℕ) (rules : ScoreRules) (ch : Bool) (pairs : List Scored) (count : ℕ) (there : Option ℕ)
+    → is_some (look old key) ≡ is_some there → (rules.xx ≡ true → is_some there ≡ false → ⊥) → IsAdded old key rules ch pairs count new → (result : Result (List Part) X)
     → IfOk result (λ reply. reply ≡ Number (pos count) ∷ []) → IfOk result (λ reply. zset_outcome old (zsets.ZAdd key rules ch pairs) ≡ leaves reply new)
 added_told old new key rules ch pairs count there is made s (Err x) told = tt
 added_told old new key rules ch pairs count there is made s (Ok reply) told =
@@ -114,7 +118,8 @@ added_told old new key rules ch pairs count there is made s (Ok reply) told =
     ∙ ap (leaves reply) (sym s.world)
 
 -- XX makes no sorted set
-pub none_added : {X : Type 0} (old : World) (key : List ℕ) (rules : ScoreRules) (ch : Bool) (pairs : List Scored) → look old key ≡ None → rules.xx ≡ true → (result : Result (List Part) X) → IfOk result (λ reply. reply ≡ Number (pos 0) ∷ [])
+pub none_added : {X : Type 0} (old : World) (key : List ℕ) (rules : ScoreRules) (ch : Bool) (pairs : List Scored) → look old key ≡ None → rules.xx ≡ true → (result : Result (List Part) X)
+    → IfOk result (λ reply. reply ≡ Number (pos 0) ∷ [])
     → IfOk result (λ reply. zset_outcome old (zsets.ZAdd key rules ch pairs) ≡ leaves reply old)
 none_added old key rules ch pairs none xx (Err x) told = tt
 none_added old key rules ch pairs none xx (Ok reply) told =
@@ -125,13 +130,15 @@ none_added old key rules ch pairs none xx (Ok reply) told =
 -- ---- members taken off in order
 
 -- what stands at no key has no part
-pub none_dropped : {X : Type 0} (old : World) (key : List ℕ) (part : List Scored → List Scored) → look old key ≡ None → (result : Result (List Part) X) → IfOk result (λ reply. reply ≡ Number (pos 0) ∷ [])
+pub none_dropped : {X : Type 0} (old : World) (key : List ℕ) (part : List Scored → List Scored) → look old key ≡ None → (result : Result (List Part) X)
+    → IfOk result (λ reply. reply ≡ Number (pos 0) ∷ [])
     → IfOk result (λ reply. on_zset old key (drop_part old key part) ≡ leaves reply old)
 none_dropped old key part none (Err x) told = tt
 none_dropped old key part none (Ok reply) told = on_before old key None (drop_part old key part) none ∙ ap (λ r. leaves r old) (sym told)
 
 -- the length of the part that is gone is told
-pub part_dropped : {X : Type 0} (old new : World) (key : List ℕ) (part : List Scored → List Scored) (gone : ℕ) (before : Option Scores) (scores : Scores) (from : Form) (now : Scores) (form : Form) → IsBefore old key before → HasZset old key scores
+pub part_dropped : {X : Type 0} (old new : World) (key : List ℕ) (part : List Scored → List Scored) (gone : ℕ) (before : Option Scores) (scores : Scores) (from : Form) (now : Scores)
+    (form : Form) → IsBefore old key before → HasZset old key scores
     → DropsPart part gone (or_no_scores before) from now form → new ≡ keep_zset old key now → (result : Result (List Part) X) → IfOk result (λ reply. reply ≡ Number (pos gone) ∷ [])
     → IfOk result (λ reply. on_zset old key (drop_part old key part) ≡ leaves reply new)
 part_dropped old new key part gone before scores from now form stands has u world (Err x) told = tt
@@ -155,8 +162,10 @@ told_one : {A : Type 0} (a b : A) → Some a ≡ Some b → a ≡ b
 told_one a b h = cc
 
 -- or the members that are gone are told
-pub popped_told : {X : Type 0} (old new : World) (key : List ℕ) (from : Direction) (n : Option ℕ) (most : ℕ) (told : Option (List Part)) (before : Option Scores) (scores : Scores) (was : Form) (now : Scores) (form : Form) → most ≡ or_one n → IsBefore old key before → HasZset old key scores
-    → PopsMany from most told (or_no_scores before) was now form → new ≡ keep_zset old key now → (result : Result (List Part) X) → IfOk result (λ reply. told ≡ Some reply) → IfOk result (λ reply. zset_outcome old (zsets.ZPop key from n) ≡ leaves reply new)
+pub popped_told : {X : Type 0} (old new : World) (key : List ℕ) (from : Direction) (n : Option ℕ) (most : ℕ) (told : Option (List Part)) (before : Option Scores) (scores : Scores)
+    (was : Form) (now : Scores) (form : Form) → most ≡ or_one n → IsBefore old key before → HasZset old key scores
+    → PopsMany from most told (or_no_scores before) was now form → new ≡ keep_zset old key now → (result : Result (List Part) X) → IfOk result (λ reply. told ≡ Some reply)
+    → IfOk result (λ reply. zset_outcome old (zsets.ZPop key from n) ≡ leaves reply new)
 popped_told old new key from n most told before scores was now form many stands has u world (Err x) is = tt
 popped_told old new key from n most told before scores was now form many stands has u world (Ok reply) is =
     let map = or_no_scores before in
@@ -169,13 +178,15 @@ popped_told old new key from n most told before scores was now form many stands 
     ∙ ap (leaves reply) (sym world)
 
 -- an array is no refusal
-pub popped_calm : {S X : Type 0} (blocks : S → Blocks) (step : S → S → Type 0) (scope : Scope) (old new : Keyspace S) (list : List Scored) (told : Option (List Part)) → told ≡ Some (listed true list) → (result : Result (List Part) X) → IfOk result (λ reply. told ≡ Some reply) → Held blocks step scope old new
+pub popped_calm : {S X : Type 0} (blocks : S → Blocks) (step : S → S → Type 0) (scope : Scope) (old new : Keyspace S) (list : List Scored) (told : Option (List Part))
+    → told ≡ Some (listed true list) → (result : Result (List Part) X) → IfOk result (λ reply. told ≡ Some reply) → Held blocks step scope old new
     → Kept blocks step scope old new result
 popped_calm blocks step scope old new list told was (Err x) is held = calm blocks step scope old new (Err x) tt held
 popped_calm blocks step scope old new list told was (Ok reply) is held = calm blocks step scope old new (Ok reply) (λ refused. subst IsRefusal (told_one _ _ (sym is ∙ was)) refused) held
 
 -- nor is a number
-pub counted_calm : {S X : Type 0} (blocks : S → Blocks) (step : S → S → Type 0) (scope : Scope) (old new : Keyspace S) (n : ℤ) (result : Result (List Part) X) → IfOk result (λ reply. reply ≡ Number n ∷ []) → Held blocks step scope old new → Kept blocks step scope old new result
+pub counted_calm : {S X : Type 0} (blocks : S → Blocks) (step : S → S → Type 0) (scope : Scope) (old new : Keyspace S) (n : ℤ) (result : Result (List Part) X)
+    → IfOk result (λ reply. reply ≡ Number n ∷ []) → Held blocks step scope old new → Kept blocks step scope old new result
 counted_calm blocks step scope old new n (Err x) told held = calm blocks step scope old new (Err x) tt held
 counted_calm blocks step scope old new n (Ok reply) told held = calm blocks step scope old new (Ok reply) (λ refused. subst IsRefusal told refused) held
 
@@ -186,9 +197,11 @@ or_one_is (Some n) = refl
 
 -- ---- forms
 
-module _ {S : Type 0} (own : Made) (blocks : S → Blocks) (step : S → S → Type 0) (old new : Keyspace S) (at : Ctx) (key : List ℕ) (p : ZsetChanged own keep_zset blocks old new at key) (held : Held blocks step (one_key at.db key) old new) where
+module _ {S : Type 0} (own : Made) (blocks : S → Blocks) (step : S → S → Type 0) (old new : Keyspace S) (at : Ctx) (key : List ℕ) (p : ZsetChanged own keep_zset blocks old new at key)
+    (held : Held blocks step (one_key at.db key) old new) where
   -- the sorted set that was written has risen
-  pub formed_risen : (rules : ScoreRules) (pairs : List Scored) → RisesUnder rules old.bases.limits p.from (or_no_scores p.before) pairs p.form → Formed blocks (zset_to at.db (sight blocks old at) key rules pairs) old new
+  pub formed_risen : (rules : ScoreRules) (pairs : List Scored) → RisesUnder rules old.bases.limits p.from (or_no_scores p.before) pairs p.form
+      → Formed blocks (zset_to at.db (sight blocks old at) key rules pairs) old new
   formed_risen rules pairs risen =
       let world = sight blocks old at in
       written_key value_refs (IsZsetRisen (is_some (look world key)) rules (zset_at world key) pairs at.db key old.bases (blocks old.store)) at.db key p.value

@@ -1,5 +1,6 @@
 -- What is told of members one after the other.
-use Rattle.std.proofs.Common.{◌≡◌, ℕ, zero, suc, ◌+◌, ◌-◌, ◌*◌, ◌<◌, ◌≤◌, Bool, true, false, List, [], ◌∷◌, ◌++◌, length, take, drop, map, reverse, get_or, ℤ, pos, Option, Some, None, MatchOption, slice_get, refl, sym, ap, subst, ◌∙◌, arith}
+use Rattle.std.proofs.Common.{◌≡◌, ℕ, zero, suc, ◌+◌, ◌-◌, ◌*◌, ◌<◌, ◌≤◌, Bool, true, false, List, [], ◌∷◌, ◌++◌, length, take, drop, map, reverse, get_or, ℤ, pos, Option, Some, None}
+use Rattle.std.proofs.Common.{MatchOption, slice_get, refl, sym, ap, subst, ◌∙◌, arith}
 use Rattle.std.specs.FinMap.{get}
 use Rattle.std.proofs.lemmas.Grind.{flat_map-append}
 use Rattle.std.proofs.Math.Seq.{take-append_seam, drop-append_seam}
@@ -45,7 +46,8 @@ listed_reply w list =
     subst IsReply (sym (listed_is w list)) (subst (λ n. AreReplies n (told_all w list)) e (told_replies w list))
 
 -- the head of an array, and what is told of members behind it
-pub span_listed : (w : Bool) (list : List Scored) (count size : ℕ) (first mid new : List Part) → count ≡ length list → size ≡ sized w count → first ≡ [] → mid ≡ first ++ Array size ∷ [] → new ≡ mid ++ told_all w list → new ≡ listed w list
+pub span_listed : (w : Bool) (list : List Scored) (count size : ℕ) (first mid new : List Part) → count ≡ length list → size ≡ sized w count → first ≡ [] → mid ≡ first ++ Array size ∷ []
+    → new ≡ mid ++ told_all w list → new ≡ listed w list
 span_listed w list count size first mid new long many none head rest =
     rest ∙ ap (λ l. l ++ told_all w list) (head ∙ ap (λ l. l ++ Array size ∷ []) none) ∙ ap (λ n. Array n ∷ told_all w list) (many ∙ ap (sized w) long) ∙ sym (listed_is w list)
 
@@ -102,7 +104,8 @@ span_long span list inside =
     sym (length-take-le span.count (drop span.start all) (omega (arith, inside, long, length-drop span.start all)))
 
 -- one member more
-pub one_more : (w : Bool) (xs : List Scored) (start k : ℕ) (first parts new : List Part) (x : Scored) → slice_get xs (start + k) ≡ Some x → parts ≡ first ++ told_all w (take k (drop start xs)) → new ≡ parts ++ told w x
+pub one_more : (w : Bool) (xs : List Scored) (start k : ℕ) (first parts new : List Part) (x : Scored) → slice_get xs (start + k) ≡ Some x → parts ≡ first
+    ++ told_all w (take k (drop start xs)) → new ≡ parts ++ told w x
     → new ≡ first ++ told_all w (take (k + 1) (drop start xs))
 one_more w xs start k first parts new x at so_far pushed =
     let d : Scored = (pos 0, []) in
@@ -116,7 +119,8 @@ one_more w xs start k first parts new x at so_far pushed =
 -- ---- walks
 
 -- the place behind a member that was met
-pub met_next : {C : Type 0} (F : C → Type 0) (o : Option C) (rank start index count : ℕ) (at : C → ℕ) → rank ≡ start + index → MatchOption o (rank + 1 ≡ count) (λ to. F to × (at to ≡ rank + 1)) → MatchOption o (count ≤ start + (index + 1)) (λ to. F to × (at to ≡ start + (index + 1)))
+pub met_next : {C : Type 0} (F : C → Type 0) (o : Option C) (rank start index count : ℕ) (at : C → ℕ) → rank ≡ start + index
+    → MatchOption o (rank + 1 ≡ count) (λ to. F to × (at to ≡ rank + 1)) → MatchOption o (count ≤ start + (index + 1)) (λ to. F to × (at to ≡ start + (index + 1)))
 met_next F None rank start index count at is h = omega (arith, is, h)
 met_next F (Some to) rank start index count at is h = (h.0, omega (arith, is, h.1))
 
@@ -130,7 +134,8 @@ more_met xs met start k x at so_far =
     ∙ sym (take_more rest k d (omega (arith, there.0, length-drop start xs)) ∙ ap (λ (y : Scored). take k rest ++ y ∷ []) (get_or-drop start xs k d ∙ there.1))
 
 -- one member more is told from the last one back
-pub one_back : (w : Bool) (first parts new : List Part) (left front : List Scored) (x : Scored) → left ≡ front ++ x ∷ [] → new ≡ parts ++ told w x → parts ++ told_all w (reverse left) ≡ first → new ++ told_all w (reverse front) ≡ first
+pub one_back : (w : Bool) (first parts new : List Part) (left front : List Scored) (x : Scored) → left ≡ front ++ x ∷ [] → new ≡ parts ++ told w x → parts
+    ++ told_all w (reverse left) ≡ first → new ++ told_all w (reverse front) ≡ first
 one_back w first parts new left front x is pushed so_far =
     ap (λ l. l ++ told_all w (reverse front)) pushed
     ∙ append_assoc parts (told w x) (told_all w (reverse front))
@@ -149,7 +154,8 @@ met_back list start count inside =
     let long_c : length (reverse c) ≡ start = omega (arith, length-reverse c, length-drop count rest, long_rest) in
     let long_b : length (reverse b) ≡ count = length-reverse b ∙ length-take-le count rest (omega (arith, long_rest)) in
     let whole : reverse list ≡ reverse c ++ (reverse b ++ reverse a) =
-    ap reverse (sym (ap (λ l. a ++ l) (take-append-drop count rest) ∙ take-append-drop low list)) ∙ reverse-append a (b ++ c) ∙ ap (λ l. l ++ reverse a) (reverse-append b c) ∙ append_assoc (reverse c) (reverse b) (reverse a) in
+    ap reverse (sym (ap (λ l. a ++ l) (take-append-drop count rest) ∙ take-append-drop low list)) ∙ reverse-append a (b ++ c) ∙ ap (λ l. l ++ reverse a) (reverse-append b c)
+    ∙ append_assoc (reverse c) (reverse b) (reverse a) in
     let behind : drop start (reverse list) ≡ reverse b ++ reverse a =
     ap (drop start) whole ∙ ap (λ n. drop n (reverse c ++ (reverse b ++ reverse a))) (sym long_c) ∙ drop-append_seam (reverse c) (reverse b ++ reverse a) in
     ap (take count) behind ∙ ap (λ n. take n (reverse b ++ reverse a)) (sym long_b) ∙ take-append_seam (reverse b) (reverse a)
@@ -165,10 +171,12 @@ scores_are_replies scores [] = tt
 scores_are_replies scores (member ∷ members) = subst (λ n. AreReplies n (scores_told scores members)) (sym (none_follows (get scores member) (length members))) (scores_are_replies scores members)
 
 -- the head of an array and the scores behind it
-pub scores_parts : (scores : Scores) (members : List (List ℕ)) (first mid new : List Part) → first ≡ [] → mid ≡ first ++ Array (length members) ∷ [] → new ≡ mid ++ scores_told scores members → new ≡ Array (length members) ∷ scores_told scores members
+pub scores_parts : (scores : Scores) (members : List (List ℕ)) (first mid new : List Part) → first ≡ [] → mid ≡ first ++ Array (length members) ∷ [] → new ≡ mid
+    ++ scores_told scores members → new ≡ Array (length members) ∷ scores_told scores members
 scores_parts scores members first mid new e f h = h ∙ ap (λ l. l ++ scores_told scores members) (f ∙ ap (λ l. l ++ Array (length members) ∷ []) e)
 
-pub scores_reply : (scores : Scores) (members : List (List ℕ)) (first mid new : List Part) → first ≡ [] → mid ≡ first ++ Array (length members) ∷ [] → new ≡ mid ++ scores_told scores members → IsReply new
+pub scores_reply : (scores : Scores) (members : List (List ℕ)) (first mid new : List Part) → first ≡ [] → mid ≡ first ++ Array (length members) ∷ [] → new ≡ mid
+    ++ scores_told scores members → IsReply new
 scores_reply scores members first mid new e f h =
     let one : length members ≡ 0 + length members = omega arith in
     subst IsReply (sym (scores_parts scores members first mid new e f h)) (subst (λ n. AreReplies n (scores_told scores members)) one (scores_are_replies scores members))

@@ -72,7 +72,8 @@ fn write_one<B: BlockStore>(
     ensures sound { IsScored (B.blocks store.new) zset.new }
     ensures settings { KeepsSettings zset.old zset.new }
     ensures is { OnOk result (scores (B.blocks store.new) zset.new ≡ write_score rules (scores (B.blocks store.old) zset.old) (score, member.now)) }
-    ensures changed { IfOk result (λ changed. changed ≡ (permits rules (get (scores (B.blocks store.old) zset.old) member.now) score && differs (get (scores (B.blocks store.old) zset.old) member.now) score)) }
+    ensures changed { IfOk result
+        (λ changed. changed ≡ (permits rules (get (scores (B.blocks store.old) zset.old) member.now) score && differs (get (scores (B.blocks store.old) zset.old) member.now) score)) }
     ensures risen { OnOk result (RisesScored rules zset.old.limits (form_of zset.old) (scores (B.blocks store.old) zset.old) (score, member.now) (form_of zset.new)) }
     ensures changes { Changes (B.blocks store.old) (B.blocks store.new) (refs zset.old) (refs zset.new) }
     ensures served { Served B.step store.old store.new }

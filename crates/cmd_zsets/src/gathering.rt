@@ -96,7 +96,9 @@ fn add_score(
     member: &[u8],
     score: i64,
 ) -> Result<(), Memory>
-    ensures { OnOk result (gathered now.new ≡ put_if (gathered now.old) member.now (met_with meeting.join meeting.how (get (asked_of meeting.join (gathered before.now) (gathered now.old)) member.now) (Some (meeting.weight *ℤ score)))) }
+    ensures { OnOk result
+        (gathered now.new ≡ put_if (gathered now.old) member.now
+        (met_with meeting.join meeting.how (get (asked_of meeting.join (gathered before.now) (gathered now.old)) member.now) (Some (meeting.weight *ℤ score)))) }
 {
     let old = match meeting.join {
         ScoreJoin::Union => score_in(now, member),
@@ -118,7 +120,9 @@ fn add_element(
     element: Element<'_>,
     score: i64,
 ) -> Result<(), Memory>
-    ensures { OnOk result (gathered now.new ≡ put_if (gathered now.old) (element_text element.entry) (met_with meeting.join meeting.how (get (asked_of meeting.join (gathered before.now) (gathered now.old)) (element_text element.entry)) (Some (meeting.weight *ℤ score)))) }
+    ensures { OnOk result
+        (gathered now.new ≡ put_if (gathered now.old) (element_text element.entry)
+        (met_with meeting.join meeting.how (get (asked_of meeting.join (gathered before.now) (gathered now.old)) (element_text element.entry)) (Some (meeting.weight *ℤ score)))) }
 {
     let member = bytes_of(alloc, element)?;
     add_score(alloc, meeting, before, now, member.as_slice(), score)
@@ -135,7 +139,9 @@ fn add_zset<B: BlockStore>(
 ) -> Result<(), Memory>
     requires sound { IsScored (B.blocks store.now) zset.now }
     requires fresh { IsFresh meeting.join (gathered now.old) }
-    ensures { OnOk result ((member : List ℕ) → get (gathered now.new) member ≡ met_with meeting.join meeting.how (get (asked_of meeting.join (gathered before.now) (gathered now.old)) member) (weighted meeting.weight (get (scores (B.blocks store.now) zset.now) member))) }
+    ensures { OnOk result
+        ((member : List ℕ) → get (gathered now.new) member ≡ met_with meeting.join meeting.how (get (asked_of meeting.join (gathered before.now) (gathered now.old)) member)
+        (weighted meeting.weight (get (scores (B.blocks store.now) zset.now) member))) }
 {
     for item in 0..zset.top() {
         if zset.is_entry(item) {
@@ -157,7 +163,9 @@ fn add_set<B: BlockStore>(
 ) -> Result<(), Memory>
     requires sound { IsMembers (B.blocks store.now) set.now }
     requires fresh { IsFresh meeting.join (gathered now.old) }
-    ensures { OnOk result ((member : List ℕ) → get (gathered now.new) member ≡ met_with meeting.join meeting.how (get (asked_of meeting.join (gathered before.now) (gathered now.old)) member) (weighted meeting.weight (get (one_each (members (B.blocks store.now) set.now)) member))) }
+    ensures { OnOk result
+        ((member : List ℕ) → get (gathered now.new) member ≡ met_with meeting.join meeting.how (get (asked_of meeting.join (gathered before.now) (gathered now.old)) member)
+        (weighted meeting.weight (get (one_each (members (B.blocks store.now) set.now)) member))) }
 {
     for item in 0..set.top() {
         if set.is_entry(item) {
@@ -187,7 +195,9 @@ pub fn add_at<B: BlockStore>(
     all: &mut Sums,
 ) -> Result<(), Memory>
     requires ready { Ready B.blocks keyspace.now at.now }
-    ensures { OnOk result ((member : List ℕ) → get (gathered all.new) member ≡ met_with meeting.join meeting.how (get (gathered all.old) member) (weighted meeting.weight (get (scores_at (sight B.blocks keyspace.now at.now) key.now) member))) }
+    ensures { OnOk result
+        ((member : List ℕ) → get (gathered all.new) member ≡ met_with meeting.join meeting.how (get (gathered all.old) member)
+        (weighted meeting.weight (get (scores_at (sight B.blocks keyspace.now at.now) key.now) member))) }
 {
     let alloc = keyspace.alloc();
     let before = begin(alloc, meeting.join, all);

@@ -57,7 +57,9 @@ fn add_each<B: BlockStore>(
     all: &mut Sums,
 ) -> Result<(), Memory>
     requires ready { Ready B.blocks keyspace.now at.now }
-    ensures { OnOk result ((member : List ℕ) → get (gathered all.new) member ≡ met_each join how (get (gathered all.old) member) (weights_of keys.now) (scores_here (sight B.blocks keyspace.now at.now) keys.now) member) }
+    ensures { OnOk result
+        ((member : List ℕ) → get (gathered all.new) member ≡ met_each join how (get (gathered all.old) member) (weights_of keys.now)
+        (scores_here (sight B.blocks keyspace.now at.now) keys.now) member) }
 {
     for key in keys {
         let meeting = Meeting {

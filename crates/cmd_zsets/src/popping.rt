@@ -55,7 +55,8 @@ fn take_met<B: BlockStore>(
     requires inside { place < len (scores (B.blocks store.old) zset.old) }
     ensures sound { IsScored (B.blocks store.new) zset.new }
     ensures settings { KeepsSettings zset.old zset.new }
-    ensures taken { OnOk result (TakesMet from place (scores (B.blocks store.old) zset.old) (ranked (B.blocks store.old) zset.old) (scores (B.blocks store.new) zset.new) (ranked (B.blocks store.new) zset.new)) }
+    ensures taken { OnOk result
+        (TakesMet from place (scores (B.blocks store.old) zset.old) (ranked (B.blocks store.old) zset.old) (scores (B.blocks store.new) zset.new) (ranked (B.blocks store.new) zset.new)) }
     ensures form { form_of zset.new ≡ form_of zset.old }
     ensures changes { Changes (B.blocks store.old) (B.blocks store.new) (refs zset.old) (refs zset.new) }
     ensures served { Served B.step store.old store.new }

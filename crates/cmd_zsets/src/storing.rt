@@ -143,7 +143,8 @@ pub fn zjoin_store<B: BlockStore>(
     how: Aggregate,
 ) -> Result<Reply, Memory>
     requires ready { Ready B.blocks keyspace.old at.now }
-    ensures gives { IfOk result (λ reply. may_zsets keyspace.old.bases.seed (sight B.blocks keyspace.old at.now) (zsets.ZJoinStore join to.now keys.now how) reply (sight B.blocks keyspace.new at.now)) }
+    ensures gives { IfOk result
+        (λ reply. may_zsets keyspace.old.bases.seed (sight B.blocks keyspace.old at.now) (zsets.ZJoinStore join to.now keys.now how) reply (sight B.blocks keyspace.new at.now)) }
     ensures kept { Kept B.blocks B.step (one_key at.now.db to.now) keyspace.old keyspace.new result }
     ensures forms { IfOk result (λ reply. Formed B.blocks (zset_form at.now.db (sight B.blocks keyspace.old at.now) (zsets.ZJoinStore join to.now keys.now how)) keyspace.old keyspace.new) }
 {

@@ -36,7 +36,8 @@ module _ {V : Type 0} (p : ℕ → Bool) where
   taken_zero n [] = refl
   taken_zero n (x ∷ items) = refl
 
-  taken_next : (n : ℕ) (items : Slots V) (k mark : ℕ) → mark ≡ n + k → count_by p (items_from n (take (suc k) items)) ≡ count_by p (items_from n (take k items)) + count_by p (own_mark mark (at_item items k))
+  taken_next : (n : ℕ) (items : Slots V) (k mark : ℕ) → mark ≡ n + k
+      → count_by p (items_from n (take (suc k) items)) ≡ count_by p (items_from n (take k items)) + count_by p (own_mark mark (at_item items k))
   taken_next n [] zero mark is = refl
   taken_next n [] (suc k) mark is = refl
   taken_next n (None ∷ items) zero mark is = omega (arith, taken_zero (suc n) items)

@@ -64,7 +64,8 @@ module _ {V : Type 0} (own : V → List BlockRef) where
     -- an item number without an element
     pub end_skips : item t n ≡ None → Changes m mid (refs_of own t) (refs_from t (suc n))
     end_skips none = Changes-then m mid mid (refs_of own t) (refs_from t n) (refs_from t (suc n)) p
-        (Changes-beside mid mid [] [] (refs_from t n) (refs_from t (suc n)) (Changes-same mid [] (λ q. omega arith)) left_owned (λ q. times q (refs_from t (suc n))) (λ q. omega (arith, left_next t.items n q, ap (λ o. times q (own_of own o)) none)) (λ q. omega arith))
+        (Changes-beside mid mid [] [] (refs_from t n) (refs_from t (suc n)) (Changes-same mid [] (λ q. omega arith)) left_owned (λ q. times q (refs_from t (suc n)))
+        (λ q. omega (arith, left_next t.items n q, ap (λ o. times q (own_of own o)) none)) (λ q. omega arith))
 
     module _ (key : BlockRef) (value : V) (h : Holds t n key value) where
       named : (q : BlockRef) → times q (refs_from t n) ≡ times q (key ∷ own value) + times q (refs_from t (suc n))
@@ -79,7 +80,8 @@ module _ {V : Type 0} (own : V → List BlockRef) where
 
   pub end_all : (t : Table V) (n : ℕ) (m mid : Blocks) → Changes m mid (refs_of own t) (refs_from t n) → ((i : ℕ) → IsSome (item t i) → i < n) → Changes m mid (refs_of own t) []
   end_all t n m mid p below = Changes-then m mid mid (refs_of own t) (refs_from t n) [] p
-      (Changes-beside mid mid [] [] (refs_from t n) [] (Changes-same mid [] (λ q. omega arith)) (Changes-owned m mid (refs_of own t) (refs_from t n) p) (λ q. 0) (λ q. left_end t.items n q below) (λ q. omega arith))
+      (Changes-beside mid mid [] [] (refs_from t n) [] (Changes-same mid [] (λ q. omega arith)) (Changes-owned m mid (refs_of own t) (refs_from t n) p) (λ q. 0)
+      (λ q. left_end t.items n q below) (λ q. omega arith))
 
 -- ---- elements that own the blocks of their keys alone
 

@@ -16,7 +16,9 @@ self r = cond-true _ _ _ (ref_eq-refl r)
 module _ {V : Type 0} (own : V → List BlockRef) (e : Element V) (r : BlockRef) where
   in_list : (items : Slots V) (at : ℕ) → at_item items at ≡ Some e → times r (e.key ∷ own e.value) ≤ times r (flat_map (own_of own) items)
   in_list [] at found = cc
-  in_list (x ∷ items) zero found = (let here : times r (own_of own x) ≡ times r (e.key ∷ own e.value) = ap (λ o. times r (own_of own o)) found in omega (arith, here, times-append r (own_of own x) (flat_map (own_of own) items)))
+  in_list (x ∷ items) zero found =
+      (let here : times r (own_of own x) ≡ times r (e.key ∷ own e.value) = ap (λ o. times r (own_of own o)) found in
+      omega (arith, here, times-append r (own_of own x) (flat_map (own_of own) items)))
   in_list (x ∷ items) (suc at) found = omega (arith, in_list items at found, times-append r (own_of own x) (flat_map (own_of own) items))
 
 -- an element's key block and those that its value owns

@@ -1,5 +1,6 @@
 -- The marks of a dictionary's key blocks are the item numbers of its elements.
-use Rattle.std.proofs.Common.{◌++◌, ◌≡◌, ◌≢◌, ◌⊎◌, ℕ, zero, suc, ◌+◌, ◌<◌, ◌≤◌, true, false, List, [], ◌∷◌, Option, Some, None, is_some, flat_map, length, slice_get, refl, sym, ap, ◌∙◌, subst, arith, inl, inr}
+use Rattle.std.proofs.Common.{◌++◌, ◌≡◌, ◌≢◌, ◌⊎◌, ℕ, zero, suc, ◌+◌, ◌<◌, ◌≤◌, true, false, List, [], ◌∷◌, Option, Some, None, is_some, flat_map, length, slice_get, refl, sym, ap, ◌∙◌}
+use Rattle.std.proofs.Common.{subst, arith, inl, inr}
 use Rattle.std.proofs.lemmas.Bool.{cases_eq}
 use Rattle.std.proofs.lemmas.Bool.Decides.{nat_tests}
 use Rattle.blocks.specs.declared.BlockRef.{BlockRef}
@@ -88,7 +89,8 @@ module _ {V : Type 0} (heap : Heap) (t u : Table V) (start end : ℕ) (same : (a
   }
 
 -- one more item number is calm
-pub calm_more : {V : Type 0} (before after : Heap) (u v : Table V) (start k : ℕ) → Calmer before after → ((i : ℕ) → i ≢ k → item v i ≡ item u i) → IsCalm before u start k → IsCalm after v k (k + 1) → IsCalm after v start (k + 1)
+pub calm_more : {V : Type 0} (before after : Heap) (u v : Table V) (start k : ℕ) → Calmer before after → ((i : ℕ) → i ≢ k → item v i ≡ item u i) → IsCalm before u start k
+    → IsCalm after v k (k + 1) → IsCalm after v start (k + 1)
 calm_more before after u v start k calmer others calm here i e low high there = elim (cases_eq i k) [
   | inl same ↦ here i e (omega (arith, same)) high there
   | inr other ↦ calmer.calm e.key (calm i e low (omega (arith, high, other)) (sym (others i other) ∙ there))

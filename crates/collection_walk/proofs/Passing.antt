@@ -34,7 +34,8 @@ module _ (from count start end : ℕ) (next : Option ℕ) (start_is : start ≡ 
       moved (inr same) filled = (let here : start ≡ end = grind (arith, nat_tests) in absurd (omega (arith, none here, filled, wide)))
 
   -- what was done to the marks of the part was done to those that are passed
-  pub part_passed : (heap : Heap) (marks : List ℕ) (old new : List BlockRef) → ((index mark : ℕ) → slice_get marks index ≡ Some mark → mark < count) → ArePassed heap (is_within start end) marks old new → ArePassed heap (is_passed from next) marks old new
+  pub part_passed : (heap : Heap) (marks : List ℕ) (old new : List BlockRef) → ((index mark : ℕ) → slice_get marks index ≡ Some mark → mark < count)
+      → ArePassed heap (is_within start end) marks old new → ArePassed heap (is_passed from next) marks old new
   part_passed heap marks old new below p = record {
     calm = λ index mark r marked named is. p.calm index mark r marked named (sym (passed_within mark (below index mark marked)) ∙ is);
     stays = λ index mark marked out. p.stays index mark marked (sym (passed_within mark (below index mark marked)) ∙ out);

@@ -65,7 +65,8 @@ module _ {V : Type 0} where
   first_stands t len None is h = is ∙ sym h ∙ rank_zero t.items
   first_stands t len (Some at) is h = (h.0, h.1 ∙ rank_zero t.items)
 
-  pub next_stands : (t : Table V) (len place index : ℕ) (o : Option ℕ) → len ≡ count_by is_some t.items → IsNext t (place + 1) o → Stands t index place → MatchOption o (index + 1 ≡ len) (λ to. Stands t (index + 1) to)
+  pub next_stands : (t : Table V) (len place index : ℕ) (o : Option ℕ) → len ≡ count_by is_some t.items → IsNext t (place + 1) o → Stands t index place
+      → MatchOption o (index + 1 ≡ len) (λ to. Stands t (index + 1) to)
   next_stands t len place index o is h at = both o h
     where
       next : rank t.items (place + 1) ≡ index + 1

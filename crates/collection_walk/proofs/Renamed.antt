@@ -13,7 +13,8 @@ use Rattle.rehash_dict.specs.MapOf.{key_refs, own_of}
 use Rattle.rehash_dict.proofs.MapOf.{refs_changed, key_refs-owned}
 use Rattle.collection_walk.proofs.Named.{names_key, key_within}
 
-module _ {V : Type 0} (m n : Blocks) (old new : Table V) (at : ℕ) (key ref : BlockRef) (value : V) (k : Keyed m old) (h : Holds old at key value) (same : n ref ≡ m key) (p : Changes m n (key ∷ []) (ref ∷ [])) (r : Renames old new at ref) where
+module _ {V : Type 0} (m n : Blocks) (old new : Table V) (at : ℕ) (key ref : BlockRef) (value : V) (k : Keyed m old) (h : Holds old at key value) (same : n ref ≡ m key)
+    (p : Changes m n (key ∷ []) (ref ∷ [])) (r : Renames old new at ref) where
   abbrev pub element : Element V
   element = record { key = key; hash = h.hash; value = value }
 

@@ -1,5 +1,6 @@
 -- The words of ZADD: options in front, then scores with their members.
-use Rattle.std.proofs.Common.{◌≡◌, ◌≢◌, ◌⊎◌, ℕ, suc, ◌+◌, ◌-◌, ◌*◌, ◌<◌, ◌≤◌, List, [], ◌∷◌, ◌++◌, length, take, drop, Bool, true, false, Result, Ok, Err, Option, Some, None, refl, sym, ap, subst, ◌∙◌, inl, inr, arith, length-drop}
+use Rattle.std.proofs.Common.{◌≡◌, ◌≢◌, ◌⊎◌, ℕ, suc, ◌+◌, ◌-◌, ◌*◌, ◌<◌, ◌≤◌, List, [], ◌∷◌, ◌++◌, length, take, drop, Bool, true, false, Result, Ok, Err, Option, Some, None, refl, sym}
+use Rattle.std.proofs.Common.{ap, subst, ◌∙◌, inl, inr, arith, length-drop}
 use Rattle.std.specs.Prelude.{ℤ, nat_le, is_some, bytes_eq, ◌||◌, if◌then◌else◌}
 use Rattle.std.specs.List.{AllByRecursion}
 use Rattle.std.specs.Result.{IsOkAnd}
@@ -35,28 +36,35 @@ module _ {A : Type 0} where
       let set : Result (A × ℕ) Refusal = Ok (sets tt before, 0) in
       ap (λ b. if b then set else Err Syntax) (le-leb 0 (length words) (omega arith))
 
-  set_by : (before : A) (kinds : List Kind) (sets : AllTold kinds → A → A) → kinds ≡ [] → (words others : Words) (name : List ℕ) → read_option before (Some (named_by name kinds sets)) words ≡ read_option before (Some (named_by name kinds sets)) others
+  set_by : (before : A) (kinds : List Kind) (sets : AllTold kinds → A → A) → kinds ≡ [] → (words others : Words) (name : List ℕ)
+      → read_option before (Some (named_by name kinds sets)) words ≡ read_option before (Some (named_by name kinds sets)) others
   set_by before [] sets e words others name = read_set before sets name words ∙ sym (read_set before sets name others)
   set_by before (kind ∷ kinds) sets e words others name = absurd (cc e)
 
   -- whatever words follow, an option is read alike
-  same_read : (named : List (NamedOption A)) (before : A) (lower : List ℕ) (words others : Words) → AreWordless named → read_option before (option_of named lower) words ≡ read_option before (option_of named lower) others
+  same_read : (named : List (NamedOption A)) (before : A) (lower : List ℕ) (words others : Words) → AreWordless named
+      → read_option before (option_of named lower) words ≡ read_option before (option_of named lower) others
   same_read [] before lower words others h = refl
   same_read (option ∷ named) before lower words others h =
-      elim (bytes_eq lower option.name) as (λ b. read_option before (if b then Some option else option_of named lower) words ≡ read_option before (if b then Some option else option_of named lower) others) [
+      elim (bytes_eq lower option.name) as
+      (λ b. read_option before (if b then Some option else option_of named lower) words ≡ read_option before (if b then Some option else option_of named lower) others) [
         | true ↦ set_by before option.kinds option.sets h.0 words others option.name
         | false ↦ same_read named before lower words others h.1
       ]
 
-  set_always : (before : A) (kinds : List Kind) (sets : AllTold kinds → A → A) (name : List ℕ) (words : Words) (refusal : Refusal) → kinds ≡ [] → read_option before (Some (named_by name kinds sets)) words ≢ Err refusal
-  set_always before [] sets name words refusal e h = let other : ◌≡◌ {A = Result (A × ℕ) Refusal} (Ok (sets tt before, 0)) (Err refusal) = sym (read_set before sets name words) ∙ h in absurd (cc other)
+  set_always : (before : A) (kinds : List Kind) (sets : AllTold kinds → A → A) (name : List ℕ) (words : Words) (refusal : Refusal) → kinds ≡ []
+      → read_option before (Some (named_by name kinds sets)) words ≢ Err refusal
+  set_always before [] sets name words refusal e h = let other : ◌≡◌ {A = Result (A × ℕ) Refusal} (Ok (sets tt before, 0)) (Err refusal) = sym (read_set before sets name words)
+      ∙ h in absurd (cc other)
   set_always before (kind ∷ kinds) sets name words refusal e h = absurd (cc e)
 
   -- an option that is refused has another name
-  refused_is_none : (named : List (NamedOption A)) (before : A) (lower : List ℕ) (words : Words) (refusal : Refusal) → AreWordless named → read_option before (option_of named lower) words ≡ Err refusal → is_some (option_of named lower) ≡ false
+  refused_is_none : (named : List (NamedOption A)) (before : A) (lower : List ℕ) (words : Words) (refusal : Refusal) → AreWordless named
+      → read_option before (option_of named lower) words ≡ Err refusal → is_some (option_of named lower) ≡ false
   refused_is_none [] before lower words refusal h e = refl
   refused_is_none (option ∷ named) before lower words refusal h e =
-      elim (bytes_eq lower option.name) as (λ b. read_option before (if b then Some option else option_of named lower) words ≡ Err refusal → is_some (if b then Some option else option_of named lower) ≡ false) [
+      elim (bytes_eq lower option.name) as
+      (λ b. read_option before (if b then Some option else option_of named lower) words ≡ Err refusal → is_some (if b then Some option else option_of named lower) ≡ false) [
         | true ↦ λ e. absurd (set_always before option.kinds option.sets option.name words refusal h.0 e)
         | false ↦ λ e. refused_is_none named before lower words refusal h.1 e
       ] e
@@ -65,7 +73,8 @@ module _ {A : Type 0} where
   read_is_some before None words read e = absurd (cc e)
   read_is_some before (Some option) words read e = refl
 
-  own_set : (before : A) (kinds : List Kind) (sets : AllTold kinds → A → A) (name : List ℕ) (words : Words) (read : A × ℕ) → kinds ≡ [] → read_option before (Some (named_by name kinds sets)) words ≡ Ok read → read.1 ≡ 0
+  own_set : (before : A) (kinds : List Kind) (sets : AllTold kinds → A → A) (name : List ℕ) (words : Words) (read : A × ℕ) → kinds ≡ []
+      → read_option before (Some (named_by name kinds sets)) words ≡ Ok read → read.1 ≡ 0
   own_set before [] sets name words read e h =
       let same : ◌≡◌ {A = Result (A × ℕ) Refusal} (Ok (sets tt before, 0)) (Ok read) = sym (read_set before sets name words) ∙ h in
       let both : ◌≡◌ {A = A × ℕ} (sets tt before, 0) read = cc in
@@ -88,7 +97,9 @@ abbrev pub front_says : AddOptions → Words → Result AddOptions Refusal
 front_says before words = options_read add_options before 0 (take (options_in_front words) words)
 
 -- an option more
-pub front_step : (before after : AddOptions) (own : ℕ) (words : Words) (i : ℕ) → i < length words → read_option before (option_of add_options (in_lower_case (at words i))) (drop (i + 1) words) ≡ Ok (after, own) → (front_says before (drop i words) ≡ front_says after (drop (i + 1) words)) × (options_in_front (drop i words) ≡ suc (options_in_front (drop (i + 1) words)))
+pub front_step : (before after : AddOptions) (own : ℕ) (words : Words) (i : ℕ) → i < length words
+    → read_option before (option_of add_options (in_lower_case (at words i))) (drop (i + 1) words) ≡ Ok (after, own)
+    → (front_says before (drop i words) ≡ front_says after (drop (i + 1) words)) × (options_in_front (drop i words) ≡ suc (options_in_front (drop (i + 1) words)))
 front_step before after own words i within e =
     let word = at words i in
     let rest = drop (i + 1) words in
@@ -104,7 +115,9 @@ front_step before after own words i within e =
     )
 
 -- no option more
-pub front_end : (before : AddOptions) (words : Words) (i : ℕ) (refusal : Refusal) → i < length words → read_option before (option_of add_options (in_lower_case (at words i))) (drop (i + 1) words) ≡ Err refusal → (front_says before (drop i words) ≡ Ok before) × (options_in_front (drop i words) ≡ 0)
+pub front_end : (before : AddOptions) (words : Words) (i : ℕ) (refusal : Refusal) → i < length words
+    → read_option before (option_of add_options (in_lower_case (at words i))) (drop (i + 1) words) ≡ Err refusal → (front_says before (drop i words) ≡ Ok before)
+    × (options_in_front (drop i words) ≡ 0)
 front_end before words i refusal within e =
     let word = at words i in
     let rest = drop (i + 1) words in
@@ -113,7 +126,9 @@ front_end before words i refusal within e =
     let count : options_in_front (drop i words) ≡ 0 = ap options_in_front here ∙ ap (λ b. if b then suc (options_in_front rest) else 0) other in
     (ap (λ n. options_read add_options before 0 (take n (drop i words))) count, count)
 
-pub front_stops : (before : AddOptions) (words : Words) (i : ℕ) (fault : ReadingFault) → i < length words → Tells (read_option before (option_of add_options (in_lower_case (at words i))) (drop (i + 1) words)) (Err fault) → (front_says before (drop i words) ≡ Ok before) × (options_in_front (drop i words) ≡ 0)
+pub front_stops : (before : AddOptions) (words : Words) (i : ℕ) (fault : ReadingFault) → i < length words
+    → Tells (read_option before (option_of add_options (in_lower_case (at words i))) (drop (i + 1) words)) (Err fault) → (front_says before (drop i words) ≡ Ok before)
+    × (options_in_front (drop i words) ≡ 0)
 front_stops before words i (Refused refusal) within e = front_end before words i refusal within e
 front_stops before words i Memory within e = absurd e
 
@@ -130,7 +145,8 @@ none_behind (Err refusal) = refl
 pub no_pairs_yet : (words : Words) → scores_read words ≡ behind_pairs [] words
 no_pairs_yet words = none_behind (scores_read words)
 
-shift : (pairs : List (ℤ × List ℕ)) (pair : ℤ × List ℕ) (r : Result (List (ℤ × List ℕ)) Refusal) → and_then (and_then r (λ more. Ok (pair ∷ more))) (λ rest. Ok (pairs ++ rest)) ≡ and_then r (λ rest. Ok ((pairs ++ pair ∷ []) ++ rest))
+shift : (pairs : List (ℤ × List ℕ)) (pair : ℤ × List ℕ) (r : Result (List (ℤ × List ℕ)) Refusal)
+    → and_then (and_then r (λ more. Ok (pair ∷ more))) (λ rest. Ok (pairs ++ rest)) ≡ and_then r (λ rest. Ok ((pairs ++ pair ∷ []) ++ rest))
 shift pairs pair (Ok rest) = ap Ok (sym (append_assoc pairs (pair ∷ []) rest))
 shift pairs pair (Err refusal) = refl
 
@@ -140,7 +156,8 @@ two_places words i within =
     from_place words i (omega (arith, within)) ∙ ap (λ l. at words i ∷ l) (from_place words (i + 1) within) ∙ ap (λ n. at words i ∷ at words (i + 1) ∷ drop n words) next
 
 -- a score with its member more
-pub pair_step : (pairs : List (ℤ × List ℕ)) (words : Words) (i : ℕ) (n : ℤ) → i + 1 < length words → told Score (at words i) ≡ Ok n → behind_pairs pairs (drop i words) ≡ behind_pairs (pairs ++ (n, at words (i + 1)) ∷ []) (drop (i + 2) words)
+pub pair_step : (pairs : List (ℤ × List ℕ)) (words : Words) (i : ℕ) (n : ℤ) → i + 1 < length words → told Score (at words i) ≡ Ok n
+    → behind_pairs pairs (drop i words) ≡ behind_pairs (pairs ++ (n, at words (i + 1)) ∷ []) (drop (i + 2) words)
 pair_step pairs words i n within e =
     let rest = drop (i + 2) words in
     let member = at words (i + 1) in
@@ -157,7 +174,8 @@ pub score_refused : (pairs : List (ℤ × List ℕ)) (words : Words) (i : ℕ) (
 score_refused pairs words i refusal within e =
     ap (behind_pairs pairs) (from_place words i within) ∙ ap (λ r. and_then r (λ rest. Ok (pairs ++ rest))) (first_refused (drop (i + 1) words) (at words i) refusal e)
 
-pub score_fails : (pairs : List (ℤ × List ℕ)) (words : Words) (i : ℕ) (fault : ReadingFault) (means : Result (List (ℤ × List ℕ)) Refusal) → means ≡ behind_pairs pairs (drop i words) → i < length words → Tells (told Score (at words i)) (Err fault) → Tells means (Err fault)
+pub score_fails : (pairs : List (ℤ × List ℕ)) (words : Words) (i : ℕ) (fault : ReadingFault) (means : Result (List (ℤ × List ℕ)) Refusal) → means ≡ behind_pairs pairs (drop i words)
+    → i < length words → Tells (told Score (at words i)) (Err fault) → Tells means (Err fault)
 score_fails pairs words i (Refused refusal) means h within e = h ∙ score_refused pairs words i refusal within e
 score_fails pairs words i Memory means h within e = absurd e
 
@@ -197,7 +215,8 @@ pairs_count (word ∷ []) pairs e = absurd (lone (told Score word) e)
     lone (Err refusal) e = cc
 pairs_count (word ∷ member ∷ words) pairs e = more (told Score word) (scores_read words) (pairs_count words) e
   where
-    more : (r : Result ℤ Refusal) (s : Result (List (ℤ × List ℕ)) Refusal) → ((l : List (ℤ × List ℕ)) → s ≡ Ok l → length words ≡ 2 * length l) → and_then r (λ score. and_then s (λ l. Ok ((score, member) ∷ l))) ≡ Ok pairs → length (word ∷ member ∷ words) ≡ 2 * length pairs
+    more : (r : Result ℤ Refusal) (s : Result (List (ℤ × List ℕ)) Refusal) → ((l : List (ℤ × List ℕ)) → s ≡ Ok l → length words ≡ 2 * length l)
+        → and_then r (λ score. and_then s (λ l. Ok ((score, member) ∷ l))) ≡ Ok pairs → length (word ∷ member ∷ words) ≡ 2 * length pairs
     more (Ok score) (Ok l) h e =
         let is : (score, member) ∷ l ≡ pairs = cc in
         subst (λ (p : List (ℤ × List ℕ)). length (word ∷ member ∷ words) ≡ 2 * length p) is (omega (arith, h l refl))
@@ -220,7 +239,8 @@ breaks key options (pair ∷ pairs) (inl forbids) = rw forbids refl
 breaks key options (pair ∷ pairs) (inr none) = cc
 
 -- options that forbid each other, or no pair
-pub scored_breaks : (key : List ℕ) (options : AddOptions) (words : Words) (pairs : List (ℤ × List ℕ)) → scores_read words ≡ Ok pairs → (clash options.rules ≡ true) ⊎ (length words ≡ 0) → scored key options words ≡ Err Syntax
+pub scored_breaks : (key : List ℕ) (options : AddOptions) (words : Words) (pairs : List (ℤ × List ℕ)) → scores_read words ≡ Ok pairs → (clash options.rules ≡ true) ⊎ (length words ≡ 0)
+    → scored key options words ≡ Err Syntax
 scored_breaks key options words pairs e h =
     let count = pairs_count words pairs e in
     let why : (clash options.rules ≡ true) ⊎ (pairs ≡ []) = elim h [ inl forbids ↦ inl forbids | inr none ↦ inr (empty pairs (omega (arith, count, none))) ] in
@@ -240,25 +260,29 @@ more_than_one key options (pair ∷ next ∷ pairs) incr many = rw (incr, lt-ltb
     by_clash false = refl
 
 -- INCR with another number of pairs than one
-pub increment_breaks : (key : List ℕ) (options : AddOptions) (words : Words) (pairs : List (ℤ × List ℕ)) → options.incr ≡ true → scores_read words ≡ Ok pairs → length words ≢ 2 → scored key options words ≡ Err Syntax
+pub increment_breaks : (key : List ℕ) (options : AddOptions) (words : Words) (pairs : List (ℤ × List ℕ)) → options.incr ≡ true → scores_read words ≡ Ok pairs → length words ≢ 2
+    → scored key options words ≡ Err Syntax
 increment_breaks key options words pairs incr e many =
     let count = pairs_count words pairs e in
     ap (λ r. and_then r (add_of key options)) e ∙ more_than_one key options pairs incr (λ one. many (count ∙ ap (λ n. 2 * n) one))
 
 -- INCR with one pair
-pub increment_made : (key : List ℕ) (options : AddOptions) (words : Words) (from : ℕ) (n : ℤ) → options.incr ≡ true → clash options.rules ≡ false → length words - from ≡ 2 → told Score (at words from) ≡ Ok n → scored key options (drop from words) ≡ Ok (zsets.ZIncr key options.rules n (at words (from + 1)))
+pub increment_made : (key : List ℕ) (options : AddOptions) (words : Words) (from : ℕ) (n : ℤ) → options.incr ≡ true → clash options.rules ≡ false → length words - from ≡ 2
+    → told Score (at words from) ≡ Ok n → scored key options (drop from words) ≡ Ok (zsets.ZIncr key options.rules n (at words (from + 1)))
 increment_made key options words from n incr allowed two e =
     let none : drop (from + 2) words ≡ [] = drop_all (from + 2) words (omega (arith, two)) in
     let places = two_places words from (omega (arith, two)) ∙ ap (λ l. at words from ∷ at words (from + 1) ∷ l) none in
     ap (scored key options) places
     ∙ ap (λ r. and_then (and_then r (λ score. Ok ((score, at words (from + 1)) ∷ []))) (add_of key options)) e ∙ rw (allowed, incr) refl
 
-made_of : (key : List ℕ) (options : AddOptions) (pairs : List (ℤ × List ℕ)) → clash options.rules ≡ false → options.incr ≡ false → length pairs ≢ 0 → add_of key options pairs ≡ Ok (zsets.ZAdd key options.rules options.ch pairs)
+made_of : (key : List ℕ) (options : AddOptions) (pairs : List (ℤ × List ℕ)) → clash options.rules ≡ false → options.incr ≡ false → length pairs ≢ 0
+    → add_of key options pairs ≡ Ok (zsets.ZAdd key options.rules options.ch pairs)
 made_of key options [] allowed plain some = absurd (some refl)
 made_of key options (pair ∷ pairs) allowed plain some = rw (allowed, plain) refl
 
 -- pairs without INCR
-pub pairs_made : (key : List ℕ) (options : AddOptions) (words : Words) (pairs : List (ℤ × List ℕ)) → clash options.rules ≡ false → options.incr ≡ false → length words ≢ 0 → scores_read words ≡ Ok pairs → scored key options words ≡ Ok (zsets.ZAdd key options.rules options.ch pairs)
+pub pairs_made : (key : List ℕ) (options : AddOptions) (words : Words) (pairs : List (ℤ × List ℕ)) → clash options.rules ≡ false → options.incr ≡ false → length words ≢ 0
+    → scores_read words ≡ Ok pairs → scored key options words ≡ Ok (zsets.ZAdd key options.rules options.ch pairs)
 pairs_made key options words pairs allowed plain some e =
     let count = pairs_count words pairs e in
     ap (λ r. and_then r (add_of key options)) e ∙ made_of key options pairs allowed plain (λ none. some (count ∙ ap (λ n. 2 * n) none))
@@ -267,12 +291,15 @@ abbrev pub among_all : Result ZsetCommand Refusal → Result Command Refusal
 among_all means = and_then means (λ command. Ok (Zsets command))
 
 -- pairs that can't be gathered
-pub pairs_missing : (key : List ℕ) (options : AddOptions) (words : Words) (fault : ReadingFault) → clash options.rules ≡ false → options.incr ≡ false → length words ≢ 0 → Gathers (scores_read words) (Err fault) → ReadsZset (scored key options words) (Err fault)
+pub pairs_missing : (key : List ℕ) (options : AddOptions) (words : Words) (fault : ReadingFault) → clash options.rules ≡ false → options.incr ≡ false → length words ≢ 0
+    → Gathers (scores_read words) (Err fault) → ReadsZset (scored key options words) (Err fault)
 pairs_missing key options words (Refused refusal) allowed plain some h = ap among_all (scored_refused key options words refusal h)
-pairs_missing key options words Memory allowed plain some h = subst (λ r. IsOkAnd (among_all r) (λ command. keeps_list command ≡ true)) (sym (pairs_made key options words h.0 allowed plain some h.1)) refl
+pairs_missing key options words Memory allowed plain some h = subst (λ r. IsOkAnd (among_all r) (λ command. keeps_list command ≡ true))
+    (sym (pairs_made key options words h.0 allowed plain some h.1)) refl
 
 -- the words behind a name
-pub add_then : (words : Words) (options : AddOptions) (from : ℕ) → 4 ≤ length words → front_options (drop 2 words) ≡ Ok options → from ≡ options_in_front (drop 2 words) + 2 → add_words (drop 1 words) ≡ scored (at words 1) options (drop from words)
+pub add_then : (words : Words) (options : AddOptions) (from : ℕ) → 4 ≤ length words → front_options (drop 2 words) ≡ Ok options → from ≡ options_in_front (drop 2 words) + 2
+    → add_words (drop 1 words) ≡ scored (at words 1) options (drop from words)
 add_then words options from many e count =
     let rest = drop 2 words in
     let front = options_in_front rest in

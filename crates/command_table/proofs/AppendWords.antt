@@ -74,7 +74,8 @@ module _ (name : List ℕ) (words : Words) where
     pub least_is : bytes_eq name (codes "maxlen") ≡ false → bytes_eq name (codes "minid") ≡ true → trim_of name words ≡ and_then (told EntryId (at all at_bound)) (λ id. Ok (MinId id))
     least_is e f = ap (λ b. chosen b (bytes_eq name (codes "minid"))) e ∙ ap (chosen false) f ∙ ap (λ own. chosen_of own false true) first
 
-pub told_fails : {A B : Type 0} (first : Result A Refusal) (make : A → B) (fault : ReadingFault) (means : Result B Refusal) → means ≡ and_then first (λ a. Ok (make a)) → Tells first (Err fault) → Tells means (Err fault)
+pub told_fails : {A B : Type 0} (first : Result A Refusal) (make : A → B) (fault : ReadingFault) (means : Result B Refusal) → means ≡ and_then first (λ a. Ok (make a))
+    → Tells first (Err fault) → Tells means (Err fault)
 told_fails first make (Refused refusal) means e h = e ∙ ap (λ r. and_then r (λ a. Ok (make a))) h
 told_fails first make Memory means e h = absurd h
 
@@ -121,7 +122,8 @@ module _ (words : Words) (i : ℕ) (within : i < length words) where
     first_read is = ap (append_options before 0) (from_place words i within) ∙ ap (λ b. if b then read else Ok before) is
 
     -- an option is read
-    pub options_on : (after : AppendOptions) → is_option here ≡ true → append_option before here rest ≡ Ok after → append_options before 0 (drop i words) ≡ append_options after 0 (drop (i + 1 + own_of here rest) words)
+    pub options_on : (after : AppendOptions) → is_option here ≡ true → append_option before here rest ≡ Ok after
+        → append_options before 0 (drop i words) ≡ append_options after 0 (drop (i + 1 + own_of here rest) words)
     options_on after is e =
         first_read is
         ∙ ap (λ r. and_then r (λ after. append_options after (own_of here rest) rest)) e
@@ -129,7 +131,8 @@ module _ (words : Words) (i : ℕ) (within : i < length words) where
         ∙ ap (append_options after 0) (drop-drop (own_of here rest) (i + 1) words)
 
     -- an option is refused
-    pub options_refused : (fault : ReadingFault) (means : Result AppendOptions Refusal) → means ≡ append_options before 0 (drop i words) → is_option here ≡ true → Tells (append_option before here rest) (Err fault) → Tells means (Err fault)
+    pub options_refused : (fault : ReadingFault) (means : Result AppendOptions Refusal) → means ≡ append_options before 0 (drop i words) → is_option here ≡ true
+        → Tells (append_option before here rest) (Err fault) → Tells means (Err fault)
     options_refused (Refused refusal) means h is e = h ∙ first_read is ∙ ap (λ r. and_then r (λ after. append_options after (own_of here rest) rest)) e
     options_refused Memory means h is e = absurd e
 
@@ -155,7 +158,8 @@ more_break (key ∷ []) many = absurd (omega (arith, many))
 more_break (key ∷ group ∷ []) many = absurd (omega (arith, many))
 more_break (key ∷ group ∷ word ∷ words) many =
     let own : Words = key ∷ group ∷ word ∷ words in
-    ap (λ b. if b then and_then (all_told (Plain ∷ Plain ∷ []) own) (λ first. and_then (options_read no_options tt 0 (drop 2 own)) (pending_of first)) else Err WrongNumberOfArguments) (le-leb 2 (length own) (omega (arith, many)))
+    ap (λ b. if b then and_then (all_told (Plain ∷ Plain ∷ []) own) (λ first. and_then (options_read no_options tt 0 (drop 2 own)) (pending_of first)) else Err WrongNumberOfArguments)
+    (le-leb 2 (length own) (omega (arith, many)))
 
 -- a word more than a key and a group
 pub pending_more : (words : Words) → 4 ≤ length words → with_options (Plain ∷ Plain ∷ []) no_options tt pending_of (drop 1 words) ≡ Err Syntax

@@ -21,7 +21,8 @@ by_name words name some e =
     let twice : in_lower_case (at words 0) ≡ in_lower_case name = sym (lower_twice (at words 0)) ∙ ap in_lower_case e in
     ap meant (from_place words 0 some) ∙ ap (λ l. read_by rows l (drop 1 words)) twice
 
-pub reads_by_name : (words : Words) (name : List ℕ) (answer : Result Command ReadingFault) → 0 < length words → in_lower_case (at words 0) ≡ name → ReadsCommand (name ∷ drop 1 words) answer → ReadsCommand words answer
+pub reads_by_name : (words : Words) (name : List ℕ) (answer : Result Command ReadingFault) → 0 < length words → in_lower_case (at words 0) ≡ name
+    → ReadsCommand (name ∷ drop 1 words) answer → ReadsCommand words answer
 reads_by_name words name answer some e h =
     let P : Result Command Refusal → Type 0 = λ means. ReadsAs (λ command. command) means answer in
     subst P (sym (by_name words name some e)) h

@@ -20,7 +20,9 @@ module _ {A : Type 0} (named : List (NamedOption A)) where
   skips before (suc n) (word ∷ words) = skips before n words
 
   -- an option is read
-  pub options_read_on : (before after : A) (own : ℕ) (words : Words) (i : ℕ) → i < length words → read_option before (option_of named (in_lower_case (at words i))) (drop (i + 1) words) ≡ Ok (after, own) → options_read named before 0 (drop i words) ≡ options_read named after 0 (drop (i + 1 + own) words)
+  pub options_read_on : (before after : A) (own : ℕ) (words : Words) (i : ℕ) → i < length words
+      → read_option before (option_of named (in_lower_case (at words i))) (drop (i + 1) words) ≡ Ok (after, own)
+      → options_read named before 0 (drop i words) ≡ options_read named after 0 (drop (i + 1 + own) words)
   options_read_on before after own words i h e =
       let rest = drop (i + 1) words in
       ap (options_read named before 0) (from_place words i h)
@@ -31,29 +33,37 @@ module _ {A : Type 0} (named : List (NamedOption A)) where
   abbrev set_by : (option : NamedOption A) → A → AllTold option.kinds → Result (A × ℕ) Refusal
   set_by option before own = Ok (option.sets own before, length option.kinds)
 
-  made_within : (option : NamedOption A) (before after : A) (own : ℕ) (words : Words) (r : Result (AllTold option.kinds) Refusal) → length option.kinds ≤ length words → and_then r (set_by option before) ≡ Ok (after, own) → own ≤ length words
-  made_within option before after own words (Ok a) h f = let both : ◌≡◌ {A = A × ℕ} (option.sets a before, length option.kinds) (after, own) = cc in subst (λ n. n ≤ length words) (ap (λ p. p.1) both) h
+  made_within : (option : NamedOption A) (before after : A) (own : ℕ) (words : Words) (r : Result (AllTold option.kinds) Refusal) → length option.kinds ≤ length words
+      → and_then r (set_by option before) ≡ Ok (after, own) → own ≤ length words
+  made_within option before after own words (Ok a) h f = let both : ◌≡◌ {A = A × ℕ} (option.sets a before, length option.kinds) (after, own) = cc in
+      subst (λ n. n ≤ length words) (ap (λ p. p.1) both) h
   made_within option before after own words (Err refusal) h f = cc
 
   -- the words of an option are there
   read_option_within : (before after : A) (own : ℕ) (option : Option (NamedOption A)) (words : Words) → read_option before option words ≡ Ok (after, own) → own ≤ length words
   read_option_within before after own None words e = cc
   read_option_within before after own (Some option) words e =
-      elim (nat_le (length option.kinds) (length words)) as (λ b. nat_le (length option.kinds) (length words) ≡ b → (if b then and_then (all_told option.kinds words) (set_by option before) else Err Syntax) ≡ Ok (after, own) → own ≤ length words) [
+      elim (nat_le (length option.kinds) (length words)) as
+      (λ b. nat_le (length option.kinds) (length words) ≡ b → (if b then and_then (all_told option.kinds words) (set_by option before) else Err Syntax) ≡ Ok (after, own)
+      → own ≤ length words) [
         | true ↦ λ t. made_within option before after own words (all_told option.kinds words) (leb-true (length option.kinds) (length words) t)
         | false ↦ λ t f. cc
       ] refl e
 
-  pub own_within : (before after : A) (own : ℕ) (words : Words) (i : ℕ) → read_option before (option_of named (in_lower_case (at words i))) (drop (i + 1) words) ≡ Ok (after, own) → own ≤ length (drop (i + 1) words)
+  pub own_within : (before after : A) (own : ℕ) (words : Words) (i : ℕ) → read_option before (option_of named (in_lower_case (at words i))) (drop (i + 1) words) ≡ Ok (after, own)
+      → own ≤ length (drop (i + 1) words)
   own_within before after own words i e = read_option_within before after own (option_of named (in_lower_case (at words i))) (drop (i + 1) words) e
 
 -- an option whose one word is refused is refused
 module _ {A : Type 0} (before : A) (kind : Kind) (sets : AllTold (kind ∷ []) → A → A) where
-  fails : (b : Bool) (x : Result (AllTold (kind ∷ [])) Refusal) (refusal : Refusal) → (if b then and_then x (λ own. Ok own.0) else Err Syntax) ≡ Err refusal → (if b then and_then {B = A × ℕ} x (λ own. Ok (sets own before, 1)) else Err Syntax) ≡ Err refusal
+  fails : (b : Bool) (x : Result (AllTold (kind ∷ [])) Refusal) (refusal : Refusal) → (if b then and_then x (λ own. Ok own.0) else Err Syntax) ≡ Err refusal
+      → (if b then and_then {B = A × ℕ} x (λ own. Ok (sets own before, 1)) else Err Syntax) ≡ Err refusal
   fails true (Ok a) refusal e = absurd (cc e)
   fails true (Err q) refusal e = let same : q ≡ refusal = cc in ap Err same
   fails false x refusal e = let same : Syntax ≡ refusal = cc in ap Err same
 
-  pub one_word_refused : (named : List (NamedOption A)) (name lower : List ℕ) (words : Words) (fault : ReadingFault) → option_of named lower ≡ Some (record { name = name; kinds = kind ∷ []; sets = sets }) → Tells (own_word kind words) (Err fault) → Tells (read_option before (option_of named lower) words) (Err fault)
+  pub one_word_refused : (named : List (NamedOption A)) (name lower : List ℕ) (words : Words) (fault : ReadingFault)
+      → option_of named lower ≡ Some (record { name = name; kinds = kind ∷ []; sets = sets }) → Tells (own_word kind words) (Err fault)
+      → Tells (read_option before (option_of named lower) words) (Err fault)
   one_word_refused named name lower words (Refused refusal) e h = ap (λ o. read_option before o words) e ∙ fails (nat_le 1 (length words)) (all_told (kind ∷ []) words) refusal h
   one_word_refused named name lower words Memory e h = absurd h

@@ -25,9 +25,11 @@ module _ {C : Type 0} (family : C → Command) (make : List ℕ → Option ℤ �
   picks_then (key ∷ n ∷ []) = pick_told key (told Picks n)
   picks_then (key ∷ n ∷ more ∷ words) = refl
 
-  pub picks_made : (words : Words) (first : Result (List ℕ × Option ℤ) ReadingFault) (answer : Result C ReadingFault) → Tells (one_and_picks (drop 1 words)) first → MatchResult first (λ a. IsOkAnd answer (λ b. b ≡ make a.0 a.1)) (λ e. answer ≡ Err e) → ReadsAs family (and_then (with_picks make (drop 1 words)) (λ c. Ok (family c))) answer
+  pub picks_made : (words : Words) (first : Result (List ℕ × Option ℤ) ReadingFault) (answer : Result C ReadingFault) → Tells (one_and_picks (drop 1 words)) first
+      → MatchResult first (λ a. IsOkAnd answer (λ b. b ≡ make a.0 a.1)) (λ e. answer ≡ Err e) → ReadsAs family (and_then (with_picks make (drop 1 words)) (λ c. Ok (family c))) answer
   picks_made words first answer h m =
-      subst (λ r. ReadsAs family (and_then r (λ c. Ok (family c))) answer) (sym (picks_then (drop 1 words))) (made family (λ (a : List ℕ × Option ℤ). a) picking (λ a. make a.0 a.1) (λ a. refl) (one_and_picks (drop 1 words)) first answer h m)
+      subst (λ r. ReadsAs family (and_then r (λ c. Ok (family c))) answer) (sym (picks_then (drop 1 words)))
+      (made family (λ (a : List ℕ × Option ℤ). a) picking (λ a. make a.0 a.1) (λ a. refl) (one_and_picks (drop 1 words)) first answer h m)
 
 -- the same with an option behind the number
 module _ {C : Type 0} (family : C → Command) (name : List ℕ) (make : List ℕ → Option ℤ → Bool → C) where
@@ -56,6 +58,9 @@ module _ {C : Type 0} (family : C → Command) (name : List ℕ) (make : List �
       ∙ by_parts both
       ∙ ap (λ r. and_then r picked_of) (sym (options_then (Plain ∷ Picks ∷ []) (flag name) false parts_of (key ∷ n ∷ words)))
 
-  pub picked_made : (words : Words) (first : Result Parts ReadingFault) (answer : Result C ReadingFault) → Tells (one_and_picked (flag name) false (drop 1 words)) first → MatchResult first (λ a. IsOkAnd answer (λ b. b ≡ make a.0 a.1 a.2)) (λ e. answer ≡ Err e) → ReadsAs family (and_then (with_picked name make (drop 1 words)) (λ c. Ok (family c))) answer
+  pub picked_made : (words : Words) (first : Result Parts ReadingFault) (answer : Result C ReadingFault) → Tells (one_and_picked (flag name) false (drop 1 words)) first
+      → MatchResult first (λ a. IsOkAnd answer (λ b. b ≡ make a.0 a.1 a.2)) (λ e. answer ≡ Err e)
+      → ReadsAs family (and_then (with_picked name make (drop 1 words)) (λ c. Ok (family c))) answer
   picked_made words first answer h m =
-      subst (λ r. ReadsAs family (and_then r (λ c. Ok (family c))) answer) (sym (picked_then (drop 1 words))) (made family (λ (a : Parts). a) picked_of (λ a. make a.0 a.1 a.2) (λ a. refl) (one_and_picked (flag name) false (drop 1 words)) first answer h m)
+      subst (λ r. ReadsAs family (and_then r (λ c. Ok (family c))) answer) (sym (picked_then (drop 1 words)))
+      (made family (λ (a : Parts). a) picked_of (λ a. make a.0 a.1 a.2) (λ a. refl) (one_and_picked (flag name) false (drop 1 words)) first answer h m)

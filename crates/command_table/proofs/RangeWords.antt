@@ -36,21 +36,25 @@ limit_at words i many =
     ∙ by_parts (told Whole (at words (i + 1))) (told Whole (at words (i + 1 + 1)))
     ∙ ap (λ n. limit_of (told Whole (at words (i + 1))) (told Whole (at words n))) next
 
-pub limit_made : (words : Words) (i : ℕ) (a b : ℤ) → i + 3 ≤ length words → told Whole (at words (i + 1)) ≡ Ok a → told Whole (at words (i + 2)) ≡ Ok b → own_limit (drop (i + 1) words) ≡ Ok (record { offset = a; count = b })
+pub limit_made : (words : Words) (i : ℕ) (a b : ℤ) → i + 3 ≤ length words → told Whole (at words (i + 1)) ≡ Ok a → told Whole (at words (i + 2)) ≡ Ok b
+    → own_limit (drop (i + 1) words) ≡ Ok (record { offset = a; count = b })
 limit_made words i a b many e f =
     limit_at words i many ∙ ap (λ r. limit_of r (told Whole (at words (i + 2)))) e ∙ ap (limit_of (Ok a)) f
 
-pub limit_count_refused : (words : Words) (i : ℕ) (a : ℤ) (fault : ReadingFault) → i + 3 ≤ length words → told Whole (at words (i + 1)) ≡ Ok a → Tells (told Whole (at words (i + 2))) (Err fault) → Tells (own_limit (drop (i + 1) words)) (Err fault)
+pub limit_count_refused : (words : Words) (i : ℕ) (a : ℤ) (fault : ReadingFault) → i + 3 ≤ length words → told Whole (at words (i + 1)) ≡ Ok a
+    → Tells (told Whole (at words (i + 2))) (Err fault) → Tells (own_limit (drop (i + 1) words)) (Err fault)
 limit_count_refused words i a (Refused refusal) many e h =
     limit_at words i many ∙ ap (λ r. limit_of r (told Whole (at words (i + 2)))) e ∙ ap (limit_of (Ok a)) h
 limit_count_refused words i a Memory many e h = absurd h
 
-fails : (before : RangeOptions) (b : Bool) (x : Result (AllTold (Whole ∷ Whole ∷ [])) Refusal) (refusal : Refusal) → (if b then and_then x made else Err Syntax) ≡ Err refusal → (if b then and_then {B = RangeOptions × ℕ} x (λ own. Ok (limit_option.sets own before, 2)) else Err Syntax) ≡ Err refusal
+fails : (before : RangeOptions) (b : Bool) (x : Result (AllTold (Whole ∷ Whole ∷ [])) Refusal) (refusal : Refusal) → (if b then and_then x made else Err Syntax) ≡ Err refusal
+    → (if b then and_then {B = RangeOptions × ℕ} x (λ own. Ok (limit_option.sets own before, 2)) else Err Syntax) ≡ Err refusal
 fails before true (Ok a) refusal e = absurd (cc e)
 fails before true (Err q) refusal e = let same : q ≡ refusal = cc in ap Err same
 fails before false x refusal e = let same : Syntax ≡ refusal = cc in ap Err same
 
 -- LIMIT whose numbers are refused is refused
-pub limit_refused : (before : RangeOptions) (named : List (NamedOption RangeOptions)) (lower : List ℕ) (words : Words) (fault : ReadingFault) → option_of named lower ≡ Some limit_option → Tells (own_limit words) (Err fault) → Tells (read_option before (option_of named lower) words) (Err fault)
+pub limit_refused : (before : RangeOptions) (named : List (NamedOption RangeOptions)) (lower : List ℕ) (words : Words) (fault : ReadingFault) → option_of named lower ≡ Some limit_option
+    → Tells (own_limit words) (Err fault) → Tells (read_option before (option_of named lower) words) (Err fault)
 limit_refused before named lower words (Refused refusal) e h = ap (λ o. read_option before o words) e ∙ fails before (nat_le 2 (length words)) (all_told (Whole ∷ Whole ∷ []) words) refusal h
 limit_refused before named lower words Memory e h = absurd h

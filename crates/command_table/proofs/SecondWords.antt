@@ -33,10 +33,12 @@ module _ (words : Words) (many : 3 ≤ length words) where
   second_is : by_second 2 debug_rows (drop 1 words) ≡ second (bytes_eq lower (codes "rehash")) (bytes_eq lower (codes "defrag"))
   second_is =
       ap (by_second 2 debug_rows) (from_place words 1 (omega (arith, many)))
-      ∙ ap (λ b. if b then second_read debug_rows (at words 1) (drop 2 words) else Err WrongNumberOfArguments) (le-leb 2 (length (at words 1 ∷ drop 2 words)) (omega (arith, many, length-drop 2 words)))
+      ∙ ap (λ b. if b then second_read debug_rows (at words 1) (drop 2 words) else Err WrongNumberOfArguments)
+      (le-leb 2 (length (at words 1 ∷ drop 2 words)) (omega (arith, many, length-drop 2 words)))
 
   -- the number of steps of DEBUG DEFRAG is refused
-  pub defrag_refused : (fault : ReadingFault) → bytes_eq lower (codes "rehash") ≡ false → bytes_eq lower (codes "defrag") ≡ true → TellsAs (λ (a : ℕ). (a, tt)) (fixed (Steps ∷ []) (λ a. Ok a) (drop 2 words)) (Err fault) → Tells (by_second 2 debug_rows (drop 1 words)) (Err fault)
+  pub defrag_refused : (fault : ReadingFault) → bytes_eq lower (codes "rehash") ≡ false → bytes_eq lower (codes "defrag") ≡ true
+      → TellsAs (λ (a : ℕ). (a, tt)) (fixed (Steps ∷ []) (λ a. Ok a) (drop 2 words)) (Err fault) → Tells (by_second 2 debug_rows (drop 1 words)) (Err fault)
   defrag_refused (Refused refusal) e f h =
       second_is ∙ ap (λ b. second b (bytes_eq lower (codes "defrag"))) e ∙ ap (second false) f ∙ fixed_then (Steps ∷ []) defrag (drop 2 words) ∙ ap (λ r. and_then r defrag) h
   defrag_refused Memory e f h = absurd h

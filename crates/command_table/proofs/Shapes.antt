@@ -42,7 +42,9 @@ module _ {A : Type 0} (kinds : List Kind) (words : Words) (i : ℕ) where
       ∙ ap (λ r. and_then r make) (all_told_at kinds words i (omega arith))
 
   -- these words, and then options
-  pub with_options_at : {C : Type 0} (named : List (NamedOption C)) (none : C) (make : AllTold kinds → C → Result A Refusal) → nat_le (length kinds) (length (drop i words)) ≡ true → with_options kinds named none make (drop i words) ≡ and_then (told_at kinds words i) (λ first. and_then (options_read named none 0 (drop (length kinds) (drop i words))) (make first))
+  pub with_options_at : {C : Type 0} (named : List (NamedOption C)) (none : C) (make : AllTold kinds → C → Result A Refusal) → nat_le (length kinds) (length (drop i words)) ≡ true
+      → with_options kinds named none make (drop i words) ≡ and_then (told_at kinds words i)
+      (λ first. and_then (options_read named none 0 (drop (length kinds) (drop i words))) (make first))
   with_options_at named none make e =
       let many : length kinds ≤ length (drop i words) = leb-true _ _ e in
       ap (λ b. if b then and_then (all_told kinds (drop i words)) (λ first. and_then (options_read named none 0 (drop (length kinds) (drop i words))) (make first)) else Err WrongNumberOfArguments) e

@@ -55,13 +55,16 @@ module _ (sign : List ℕ) (limit : Option ℕ) (words : Words) (i : ℕ) where
     streams_found e = read_at true (bytes_eq word (codes "count")) e refl ∙ ap (λ w. limited (keys_and_ids sign w)) behind
 
     -- COUNT
-    pub count_found : (n : ℤ) → bytes_eq word (codes "streams") ≡ false → bytes_eq word (codes "count") ≡ true → told Whole next ≡ Ok n → streams_read sign limit (drop i words) ≡ streams_read sign (at_most_or_all n) rest
+    pub count_found : (n : ℤ) → bytes_eq word (codes "streams") ≡ false → bytes_eq word (codes "count") ≡ true → told Whole next ≡ Ok n
+        → streams_read sign limit (drop i words) ≡ streams_read sign (at_most_or_all n) rest
     count_found n e f is = read_at false true e f ∙ ap (λ r. and_then r (λ n. streams_read sign (at_most_or_all n) rest)) is
 
-    count_refused : (refusal : Refusal) → bytes_eq word (codes "streams") ≡ false → bytes_eq word (codes "count") ≡ true → told Whole next ≡ Err refusal → streams_read sign limit (drop i words) ≡ Err refusal
+    count_refused : (refusal : Refusal) → bytes_eq word (codes "streams") ≡ false → bytes_eq word (codes "count") ≡ true → told Whole next ≡ Err refusal
+        → streams_read sign limit (drop i words) ≡ Err refusal
     count_refused refusal e f is = read_at false true e f ∙ ap (λ r. and_then r (λ n. streams_read sign (at_most_or_all n) rest)) is
 
-    pub count_fails : (fault : ReadingFault) (means : Result Streams Refusal) → means ≡ streams_read sign limit (drop i words) → bytes_eq word (codes "streams") ≡ false → bytes_eq word (codes "count") ≡ true → Tells (told Whole next) (Err fault) → Gathers means (Err fault)
+    pub count_fails : (fault : ReadingFault) (means : Result Streams Refusal) → means ≡ streams_read sign limit (drop i words) → bytes_eq word (codes "streams") ≡ false
+        → bytes_eq word (codes "count") ≡ true → Tells (told Whole next) (Err fault) → Gathers means (Err fault)
     count_fails (Refused refusal) means h e f is = h ∙ count_refused refusal e f is
     count_fails Memory means h e f is = absurd is
 
@@ -79,16 +82,19 @@ abbrev pub limited_by : Option ℕ → Result (List (List ℕ × Option (ℕ × 
 limited_by limit list = and_then list (λ l. Ok (limit, l))
 
 -- a list that is gathered, beside a limit
-pub limited_list : (limit : Option ℕ) (list : List (List ℕ × Option (ℕ × ℕ))) (means : Result (List (List ℕ × Option (ℕ × ℕ))) Refusal) → Gathers means (Ok list) → limited_by limit means ≡ Ok (limit, list)
+pub limited_list : (limit : Option ℕ) (list : List (List ℕ × Option (ℕ × ℕ))) (means : Result (List (List ℕ × Option (ℕ × ℕ))) Refusal) → Gathers means (Ok list)
+    → limited_by limit means ≡ Ok (limit, list)
 limited_list limit list means h = ap (limited_by limit) h
 
-pub limited_fails : (limit : Option ℕ) (fault : ReadingFault) (means : Result (List (List ℕ × Option (ℕ × ℕ))) Refusal) (all : Result Streams Refusal) → all ≡ limited_by limit means → Gathers means (Err fault) → Gathers all (Err fault)
+pub limited_fails : (limit : Option ℕ) (fault : ReadingFault) (means : Result (List (List ℕ × Option (ℕ × ℕ))) Refusal) (all : Result Streams Refusal) → all ≡ limited_by limit means
+    → Gathers means (Err fault) → Gathers all (Err fault)
 limited_fails limit (Refused refusal) means all e h = e ∙ ap (limited_by limit) h
 limited_fails limit Memory means all e h = ((limit, h.0), e ∙ ap (limited_by limit) h.1)
 
 -- ---- keys and ids
 
-pub halves : (sign : List ℕ) (words : Words) (from left count : ℕ) → left ≡ length words - from → from ≤ length words → left % 2 ≡ 0 → count ≡ left / 2 → keys_and_ids sign (drop from words) ≡ keyed sign (drop from words) (drop (from + count) words)
+pub halves : (sign : List ℕ) (words : Words) (from left count : ℕ) → left ≡ length words - from → from ≤ length words → left % 2 ≡ 0 → count ≡ left / 2
+    → keys_and_ids sign (drop from words) ≡ keyed sign (drop from words) (drop (from + count) words)
 halves sign words from left count is within even half =
     let own = drop from words in
     let len : length own ≡ left = length-drop from words ∙ sym is in

@@ -72,7 +72,8 @@ finds_in (row ∷ rows) word h =
       | false ↦ λ e. one_more row rows lower (found_in rows word) e (finds_in rows word h.1)
     ] refl
 
-finds_all : (rows : List Row) (word : List ℕ) (answer : Option Name) → covered (length (in_lower_case word)) names (map (λ row. in_lower_case row.0.now) rows) ≡ true → FindsIn rows (in_lower_case word) answer → Finds word answer
+finds_all : (rows : List Row) (word : List ℕ) (answer : Option Name) → covered (length (in_lower_case word)) names (map (λ row. in_lower_case row.0.now) rows) ≡ true
+    → FindsIn rows (in_lower_case word) answer → Finds word answer
 finds_all rows word None covers h = λ words. unknown all_rows (in_lower_case word) words (none_of_length (in_lower_case word) names _ h covers)
 finds_all rows word (Some found) covers h = h
 
@@ -108,10 +109,25 @@ none_covered len h (n ∷ ns) e =
 
 no_length : (n : ℕ) → n ≢ 3 → n ≢ 4 → n ≢ 5 → n ≢ 6 → n ≢ 7 → n ≢ 8 → n ≢ 9 → n ≢ 10 → n ≢ 11 → n ≢ 13 → n ≢ 15 → n ≢ 16 → is_length n ≡ false
 no_length n n3 n4 n5 n6 n7 n8 n9 n10 n11 n13 n15 n16 =
-    rw (ne_eqb n 3 n3, ne_eqb n 4 n4, ne_eqb n 5 n5, ne_eqb n 6 n6, ne_eqb n 7 n7, ne_eqb n 8 n8, ne_eqb n 9 n9, ne_eqb n 10 n10, ne_eqb n 11 n11, ne_eqb n 13 n13, ne_eqb n 15 n15, ne_eqb n 16 n16) refl
+    rw (
+      ne_eqb n 3 n3,
+      ne_eqb n 4 n4,
+      ne_eqb n 5 n5,
+      ne_eqb n 6 n6,
+      ne_eqb n 7 n7,
+      ne_eqb n 8 n8,
+      ne_eqb n 9 n9,
+      ne_eqb n 10 n10,
+      ne_eqb n 11 n11,
+      ne_eqb n 13 n13,
+      ne_eqb n 15 n15,
+      ne_eqb
+          n 16 n16,
+    ) refl
 
 -- a word with a length that no command's name has names none
-pub no_name : (word : List ℕ) → length word ≢ 3 → length word ≢ 4 → length word ≢ 5 → length word ≢ 6 → length word ≢ 7 → length word ≢ 8 → length word ≢ 9 → length word ≢ 10 → length word ≢ 11 → length word ≢ 13 → length word ≢ 15 → length word ≢ 16 → (words : Words) → meant (word ∷ words) ≡ Err UnknownCommand
+pub no_name : (word : List ℕ) → length word ≢ 3 → length word ≢ 4 → length word ≢ 5 → length word ≢ 6 → length word ≢ 7 → length word ≢ 8 → length word ≢ 9 → length word ≢ 10
+    → length word ≢ 11 → length word ≢ 13 → length word ≢ 15 → length word ≢ 16 → (words : Words) → meant (word ∷ words) ≡ Err UnknownCommand
 no_name word n3 n4 n5 n6 n7 n8 n9 n10 n11 n13 n15 n16 words =
     let lower = in_lower_case word in
     let lengths : length lower ≡ length word = length-map word to_ascii_lowercase in

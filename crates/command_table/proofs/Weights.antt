@@ -1,5 +1,6 @@
 -- WEIGHTS and AGGREGATE: so many scores, and what the options of a join say.
-use Rattle.std.proofs.Common.{◌≡◌, ◌≢◌, ℕ, zero, suc, ◌+◌, ◌<◌, ◌≤◌, List, [], ◌∷◌, ◌++◌, length, take, drop, Bool, true, false, Result, Ok, Err, Option, Some, None, refl, sym, ap, subst, ◌∙◌, arith, add-one, length-drop}
+use Rattle.std.proofs.Common.{◌≡◌, ◌≢◌, ℕ, zero, suc, ◌+◌, ◌<◌, ◌≤◌, List, [], ◌∷◌, ◌++◌, length, take, drop, Bool, true, false, Result, Ok, Err, Option, Some, None, refl, sym, ap, subst}
+use Rattle.std.proofs.Common.{◌∙◌, arith, add-one, length-drop}
 use Rattle.std.specs.Prelude.{ℤ, pos, nat_le, codes, if◌then◌else◌}
 use Rattle.std.proofs.lemmas.Bool.{le-leb}
 use Rattle.std.proofs.lemmas.List.{append_assoc, drop_all, get_or-drop, get_or-take, length-take-le}
@@ -18,7 +19,9 @@ use Rattle.command_table.proofs.Shapes.{from_place}
 
 -- ---- so many scores
 
-by_parts : (n : ℕ) (r : Result ℤ Refusal) (s : Result (AllTold (score_kinds n)) Refusal) → and_then {A = AllTold (score_kinds (suc n))} (and_then r (λ a. and_then s (λ rest. Ok (a, rest)))) (λ own. Ok (scores_told (suc n) own)) ≡ and_then r (λ a. and_then (and_then s (λ own. Ok (scores_told n own))) (λ rest. Ok (a ∷ rest)))
+by_parts : (n : ℕ) (r : Result ℤ Refusal) (s : Result (AllTold (score_kinds n)) Refusal)
+    → and_then {A = AllTold (score_kinds (suc n))} (and_then r (λ a. and_then s (λ rest. Ok (a, rest)))) (λ own. Ok (scores_told (suc n) own)) ≡ and_then r
+    (λ a. and_then (and_then s (λ own. Ok (scores_told n own))) (λ rest. Ok (a ∷ rest)))
 by_parts n (Ok a) (Ok own) = refl
 by_parts n (Ok a) (Err refusal) = refl
 by_parts n (Err refusal) s = refl
@@ -57,7 +60,8 @@ scores_more (suc n) (word ∷ words) own a h e f =
     ∙ ap (λ (l : List ℤ). Ok (l ++ a ∷ [])) (sym p.4)
 
 -- a word among them that is no score
-pub scores_stop : (n m : ℕ) (words : Words) (own : List ℤ) (refusal : Refusal) → n < length words → n < m → scores_at n words ≡ Ok own → told Score (at words n) ≡ Err refusal → scores_at m words ≡ Err refusal
+pub scores_stop : (n m : ℕ) (words : Words) (own : List ℤ) (refusal : Refusal) → n < length words → n < m → scores_at n words ≡ Ok own → told Score (at words n) ≡ Err refusal
+    → scores_at m words ≡ Err refusal
 scores_stop n m [] own refusal h l e f = absurd (omega (arith, h))
 scores_stop n zero (word ∷ words) own refusal h l e f = absurd (omega (arith, l))
 scores_stop zero (suc m) (word ∷ words) own refusal h l e f = first_then m word words ∙ ap (λ r. and_then r (λ a. and_then (scores_at m words) (λ rest. Ok (a ∷ rest)))) f
@@ -72,16 +76,19 @@ at_behind : (words : Words) (place i : ℕ) → at (drop place words) i ≡ at w
 at_behind words place i = get_or-drop place words i []
 
 -- the same of words behind a place
-pub scores_step : (words : Words) (from i : ℕ) (own : List ℤ) (a : ℤ) → from + i < length words → scores_at i (drop from words) ≡ Ok own → told Score (at words (from + i)) ≡ Ok a → scores_at (i + 1) (drop from words) ≡ Ok (own ++ a ∷ [])
+pub scores_step : (words : Words) (from i : ℕ) (own : List ℤ) (a : ℤ) → from + i < length words → scores_at i (drop from words) ≡ Ok own → told Score (at words (from + i)) ≡ Ok a
+    → scores_at (i + 1) (drop from words) ≡ Ok (own ++ a ∷ [])
 scores_step words from i own a within e f =
     ap (λ n. scores_at n (drop from words)) (add-one i) ∙ scores_more i (drop from words) own a (omega (arith, within, length-drop from words)) e (ap (told Score) (at_behind words from i) ∙ f)
 
 weights_by_test : (words : Words) (n : ℕ) → n ≤ length words → own_weights n words ≡ scores_at n words
 weights_by_test words n many = ap (λ b. if b then scores_at n words else Err Syntax) (le-leb n (length words) many)
 
-pub scores_fail : (words : Words) (from i n : ℕ) (own : List ℤ) (fault : ReadingFault) → from + n ≤ length words → i < n → scores_at i (drop from words) ≡ Ok own → Tells (told Score (at words (from + i))) (Err fault) → Passes (own_weights n (drop from words)) (Err fault)
+pub scores_fail : (words : Words) (from i n : ℕ) (own : List ℤ) (fault : ReadingFault) → from + n ≤ length words → i < n → scores_at i (drop from words) ≡ Ok own
+    → Tells (told Score (at words (from + i))) (Err fault) → Passes (own_weights n (drop from words)) (Err fault)
 scores_fail words from i n own (Refused refusal) within l e f =
-    weights_by_test (drop from words) n (omega (arith, within, length-drop from words)) ∙ scores_stop i n (drop from words) own refusal (omega (arith, within, l, length-drop from words)) l e (ap (told Score) (at_behind words from i) ∙ f)
+    weights_by_test (drop from words) n (omega (arith, within, length-drop from words))
+    ∙ scores_stop i n (drop from words) own refusal (omega (arith, within, l, length-drop from words)) l e (ap (told Score) (at_behind words from i) ∙ f)
 scores_fail words from i n own Memory within l e f = absurd f
 
 -- as many words stand there
@@ -136,7 +143,9 @@ key_in words n i l many =
     from_place (keys_of words n) i (omega (arith, count, l)) ∙ ap (λ k. k ∷ drop (i + 1) (keys_of words n)) key ∙ ap (λ m. at words (3 + i) ∷ drop m (keys_of words n)) (add-one i)
 
 -- a key with its weight more
-pub weigh_step : (words : Words) (n : ℕ) (weights : Option ℕ) (own : List ℤ) (list : List (ℤ × List ℕ)) (i : ℕ) (a : ℤ) → i < n → 3 + n ≤ length words → weights_at words n weights ≡ Ok own → weight_of words weights i ≡ Ok a → list ++ weighed (drop i own) (drop i (keys_of words n)) ≡ (list ++ (a, at words (3 + i)) ∷ []) ++ weighed (drop (i + 1) own) (drop (i + 1) (keys_of words n))
+pub weigh_step : (words : Words) (n : ℕ) (weights : Option ℕ) (own : List ℤ) (list : List (ℤ × List ℕ)) (i : ℕ) (a : ℤ) → i < n → 3 + n ≤ length words → weights_at words n weights ≡ Ok own
+    → weight_of words weights i ≡ Ok a → list ++ weighed (drop i own) (drop i (keys_of words n)) ≡ (list ++ (a, at words (3 + i)) ∷ [])
+    ++ weighed (drop (i + 1) own) (drop (i + 1) (keys_of words n))
 weigh_step words n weights own list i a l many e f =
     let stands = weight_in words n weights own i l e in
     let both : ◌≡◌ {A = Result ℤ Refusal} (Ok stands.0) (Ok a) = sym stands.1 ∙ f in
@@ -156,7 +165,8 @@ append_none [] = refl
 append_none (a ∷ l) = ap (λ m. a ∷ m) (append_none l)
 
 -- each key has its weight
-pub all_weighed : (words : Words) (n : ℕ) (weights : Option ℕ) (own : List ℤ) (list : List (ℤ × List ℕ)) → 3 + n ≤ length words → weights_at words n weights ≡ Ok own → list ++ weighed (drop n own) (drop n (keys_of words n)) ≡ weighed own (keys_of words n) → weighed_keys words n weights ≡ Ok list
+pub all_weighed : (words : Words) (n : ℕ) (weights : Option ℕ) (own : List ℤ) (list : List (ℤ × List ℕ)) → 3 + n ≤ length words → weights_at words n weights ≡ Ok own → list
+    ++ weighed (drop n own) (drop n (keys_of words n)) ≡ weighed own (keys_of words n) → weighed_keys words n weights ≡ Ok list
 all_weighed words n weights own list many e h =
     let count : length (keys_of words n) ≡ n = length-take-le n (drop 3 words) (omega (arith, many, length-drop 3 words)) in
     let none : drop n (keys_of words n) ≡ [] = drop_all n (keys_of words n) (omega (arith, count)) in
@@ -167,7 +177,8 @@ pub weighed_told : (words : Words) (n : ℕ) (weights : Option ℕ) (own : List 
 weighed_told words n weights own e = ap (λ r. and_then r (λ own. Ok (weighed own (keys_of words n)))) e
 
 -- weights that are told aren't refused
-pub weight_stands : (words : Words) (n : ℕ) (weights : Option ℕ) (own : List ℤ) (i : ℕ) (fault : ReadingFault) → i < n → weights_at words n weights ≡ Ok own → Tells (weight_of words weights i) (Err fault) → ⊥
+pub weight_stands : (words : Words) (n : ℕ) (weights : Option ℕ) (own : List ℤ) (i : ℕ) (fault : ReadingFault) → i < n → weights_at words n weights ≡ Ok own
+    → Tells (weight_of words weights i) (Err fault) → ⊥
 weight_stands words n weights own i (Refused refusal) l e h =
     let stands = weight_in words n weights own i l e in
     let both : ◌≡◌ {A = Result ℤ Refusal} (Ok stands.0) (Err refusal) = sym stands.1 ∙ h in
@@ -186,7 +197,8 @@ weights_option n = record { name = codes "weights"; kinds = score_kinds n; sets 
 abbrev weights_set : (n : ℕ) → Said → AllTold (score_kinds n) → Result (Said × ℕ) Refusal
 weights_set n before own = Ok ((scores_told n own, before.1), length (score_kinds n))
 
-weights_by : (n : ℕ) (before : Said) (r : Result (AllTold (score_kinds n)) Refusal) → and_then r (weights_set n before) ≡ and_then (and_then r (λ own. Ok (scores_told n own))) (λ own. Ok ((own, before.1), n))
+weights_by : (n : ℕ) (before : Said) (r : Result (AllTold (score_kinds n)) Refusal)
+    → and_then r (weights_set n before) ≡ and_then (and_then r (λ own. Ok (scores_told n own))) (λ own. Ok ((own, before.1), n))
 weights_by n before (Ok own) = ap (λ m. Ok ((scores_told n own, before.1), m)) (kinds_count n)
 weights_by n before (Err refusal) = refl
 
@@ -238,7 +250,8 @@ module _ (words : Words) (n : ℕ) (options : JoinOptions) (i : ℕ) (are : AreW
 
   -- ---- one option more
 
-  pub option_step : (next : JoinOptions) (took : ℕ) (says : OptionSays words n means (Ok (next, took))) → i < length words → options_read (join_options n) before 0 (drop i words) ≡ options_read (join_options n) (says.0, next.aggregate) 0 (drop (i + 1 + took) words)
+  pub option_step : (next : JoinOptions) (took : ℕ) (says : OptionSays words n means (Ok (next, took))) → i < length words
+      → options_read (join_options n) before 0 (drop i words) ≡ options_read (join_options n) (says.0, next.aggregate) 0 (drop (i + 1 + took) words)
   option_step next took says h = options_read_on (join_options n) before (says.0, next.aggregate) took words i h (sym option_here ∙ says.2)
 
   pub option_fails : (fault : ReadingFault) → i < length words → OptionSays words n means (Err fault) → JoinSays words n (options_read (join_options n) before 0 (drop i words)) (Err fault)

@@ -3,7 +3,8 @@ use Rattle.std.specs.Prelude.{◌≡◌, ℕ, List, [], ◌∷◌, ◌++◌, len
 use Rattle.std.specs.Prelude.{Some, None, Result, Ok, Err, if◌then◌else◌}
 use Rattle.std.specs.Result.{IsOkAnd}
 use Rattle.plain_world.specs.Words.{Words, in_lower_case}
-use Rattle.plain_model.specs.Shapes.{Kind, Plain, Whole, Span, Amount, Picks, Told, told, score, AllTold, all_told, and_then, fixed, repeated, with_options, with_picks, NamedOption, option_of, options_read}
+use Rattle.plain_model.specs.Shapes.{Kind, Plain, Whole, Span, Amount, Picks, Told, told, score, AllTold, all_told, and_then, fixed, repeated, with_options, with_picks, NamedOption}
+use Rattle.plain_model.specs.Shapes.{option_of, options_read}
 use Rattle.plain_model.specs.Meant.{meant}
 use Rattle.plain_model.specs.StringWords.{pairs_of, time_options, set_options, getex_options}
 use Rattle.plain_model.specs.declared.command.Command.{Command}

@@ -3,7 +3,8 @@
 ghost use Rattle.std.specs.Prelude.{◌≡◌, ◌↔◌, ◌<◌, ◌≤◌, ◌+◌, ◌%◌, [], Ok, IfSome, IfNone, false, length, drop};
 ghost use Rattle.plain_world.specs.Words.{in_lower_case};
 ghost use Rattle.plain_model.specs.StringWords.{pairs_of};
-ghost use Rattle.plain_model.specs.StreamWords.{append_option, append_options, append_words, behind_options, entry_words, is_mark, is_option, is_trim, no_append_options, own_of, own_words, pairs_len, trim_of, trim_words, unmarked};
+ghost use Rattle.plain_model.specs.StreamWords.{append_option, append_options, append_words, behind_options, entry_words, is_mark, is_option, is_trim, no_append_options, own_of};
+ghost use Rattle.plain_model.specs.StreamWords.{own_words, pairs_len, trim_of, trim_words, unmarked};
 ghost use Rattle.command_table.specs.Readings.{Gathers, ReadsStream, Tells, at};
 
 use crate::ReadingFault;

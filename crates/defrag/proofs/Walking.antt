@@ -1,5 +1,6 @@
 -- What a walk has passed where it goes on.
-use Rattle.std.proofs.Common.{Bool, cond, ◌&&◌, ◌≢◌, ◌≡◌, ◌⊎◌, inl, inr, ℕ, suc, ◌+◌, ◌-◌, ◌/◌, ◌<◌, ◌≤◌, true, false, List, [], ◌∷◌, length, get_or, flat_map, Option, Some, None, is_some, IsSome, refl, sym, ap, ◌∙◌, subst, arith}
+use Rattle.std.proofs.Common.{Bool, cond, ◌&&◌, ◌≢◌, ◌≡◌, ◌⊎◌, inl, inr, ℕ, suc, ◌+◌, ◌-◌, ◌/◌, ◌<◌, ◌≤◌, true, false, List, [], ◌∷◌, length, get_or, flat_map, Option, Some, None, is_some}
+use Rattle.std.proofs.Common.{IsSome, refl, sym, ap, ◌∙◌, subst, arith}
 use Rattle.object_codec.specs.declared.limits.Limits.{Limits}
 use Rattle.std.specs.Prelude.{IfSome, count_by, unwrap_or, nat_le}
 use Rattle.std.specs.List.{slice_get}
@@ -64,19 +65,23 @@ needed_same a b class same = ap (λ u. (u + (per_slab class - 1)) / per_slab cla
 
 module _ {V : Type 0} (refs_of : V → List BlockRef) (marks : V → Marks) where
   -- the walk goes past an item number that is vacant
-  pub swept_vacant : (bases : Bases V) (heap : Heap) (walk : Walk) → item (table_at bases walk.database) walk.item ≡ None → IsSwept refs_of marks bases heap walk → IsSwept refs_of marks bases heap (behind walk None)
+  pub swept_vacant : (bases : Bases V) (heap : Heap) (walk : Walk) → item (table_at bases walk.database) walk.item ≡ None → IsSwept refs_of marks bases heap walk
+      → IsSwept refs_of marks bases heap (behind walk None)
   swept_vacant bases heap walk none s = record { passing = s.passing; kept = s.kept; calm = λ r p. s.calm r (back r p) }
     where
       back : (r : BlockRef) → HasPassed refs_of marks bases (behind walk None) r → HasPassed refs_of marks bases walk r
       back r (of_database number at e lt found isin) = of_database number at e lt found isin
       back r (of_item at e lt found isin) = elim (cases_lt at walk.item) [
         | inl less ↦ of_item at e less found isin
-        | inr over ↦ (let same : at ≡ walk.item = omega (arith, lt, over) in some_none (item (table_at bases walk.database) walk.item) e (ap (item (table_at bases walk.database)) (sym same) ∙ found) none)
+        | inr over ↦
+            (let same : at ≡ walk.item = omega (arith, lt, over) in some_none (item (table_at bases walk.database) walk.item) e
+            (ap (item (table_at bases walk.database)) (sym same) ∙ found) none)
       ]
       back r (of_mark e found before) = absurd before
 
   -- the walk goes past the end of a database
-  pub swept_ended : (bases : Bases V) (heap : Heap) (walk : Walk) → ((at : ℕ) → walk.item ≤ at → item (table_at bases walk.database) at ≡ None) → IsSwept refs_of marks bases heap walk → IsSwept refs_of marks bases heap (next_database walk)
+  pub swept_ended : (bases : Bases V) (heap : Heap) (walk : Walk) → ((at : ℕ) → walk.item ≤ at → item (table_at bases walk.database) at ≡ None) → IsSwept refs_of marks bases heap walk
+      → IsSwept refs_of marks bases heap (next_database walk)
   swept_ended bases heap walk none s = record { passing = s.passing; kept = s.kept; calm = λ r p. s.calm r (back r p) }
     where
       back : (r : BlockRef) → HasPassed refs_of marks bases (next_database walk) r → HasPassed refs_of marks bases walk r
@@ -101,9 +106,12 @@ not_passed mark from next less = ap (λ b. b && is_before next mark) (by_test (n
     by_test true is = (let over : from ≤ mark = grind (arith, common_steps, is) in absurd (omega (arith, over, less)))
     by_test false is = refl
 
-module _ {V E : Type 0} (refs_of : Blocks → V → List BlockRef) (marks : Blocks → V → Marks) (tables : Blocks → V → Tables (List ℕ)) (encoding : V → E) (refs_own : (m after : Blocks) (value : V) → ((r : BlockRef) → 0 < times r (refs_of m value) → after r ≡ m r) → refs_of after value ≡ refs_of m value) (marked : (m : Blocks) (value : V) → length (marks m value).named ≡ length (refs_of m value)) (m after : Blocks) where
+module _ {V E : Type 0} (refs_of : Blocks → V → List BlockRef) (marks : Blocks → V → Marks) (tables : Blocks → V → Tables (List ℕ)) (encoding : V → E)
+    (refs_own : (m after : Blocks) (value : V) → ((r : BlockRef) → 0 < times r (refs_of m value) → after r ≡ m r) → refs_of after value ≡ refs_of m value)
+    (marked : (m : Blocks) (value : V) → length (marks m value).named ≡ length (refs_of m value)) (m after : Blocks) where
   -- the walk passes a part of a key's blocks
-  module _ (old new : Bases V) (heap later : Heap) (walk : Walk) (room : ℕ) (answer : Moved) (p : PassesElement refs_of marks tables encoding m after later old new walk.database walk.item walk.mark room answer) where
+  module _ (old new : Bases V) (heap later : Heap) (walk : Walk) (room : ℕ) (answer : Moved)
+      (p : PassesElement refs_of marks tables encoding m after later old new walk.database walk.item walk.mark room answer) where
     -- passing a part of a key's blocks is one leg of the walk, with the units that the call used
     pub leg_inside : Leg (shapes (marks m) old) walk answer.used (behind walk answer.next)
     leg_inside = inside (marks m p.was.value) answer.next (ap (shape_of (marks m)) p.replaces.found) (first answer.next p.bounded.on)
@@ -114,12 +122,15 @@ module _ {V E : Type 0} (refs_of : Blocks → V → List BlockRef) (marks : Bloc
         first (Some next) h = h.0
 
     -- what is told of all values stays where it stays of the one that was passed and of the others
-    pub told_same : {A : Type 0} (told : Blocks → V → A) → told after p.now.value ≡ told m p.was.value → ((number at : ℕ) (e : Element V) → (number ≢ walk.database) ⊎ (at ≢ walk.item) → item (table_at old number) at ≡ Some e → told after e.value ≡ told m e.value) → SameShapes (told m) (told after) old new
+    pub told_same : {A : Type 0} (told : Blocks → V → A) → told after p.now.value ≡ told m p.was.value
+        → ((number at : ℕ) (e : Element V) → (number ≢ walk.database) ⊎ (at ≢ walk.item) → item (table_at old number) at ≡ Some e → told after e.value ≡ told m e.value)
+        → SameShapes (told m) (told after) old new
     told_same {A} told passed other number at = elim (cases_eq number walk.database) [
       | inl one ↦ elim (cases_eq at walk.item) [
         | inl two ↦
             subst (λ n. shape (told after) new n at ≡ shape (told m) old n at) (sym one)
-            (subst (λ i. shape (told after) new walk.database i ≡ shape (told m) old walk.database i) (sym two) (ap (shape_of (told after)) p.replaces.stands ∙ ap Some passed ∙ sym (ap (shape_of (told m)) p.replaces.found)))
+            (subst (λ i. shape (told after) new walk.database i ≡ shape (told m) old walk.database i) (sym two)
+            (ap (shape_of (told after)) p.replaces.stands ∙ ap Some passed ∙ sym (ap (shape_of (told m)) p.replaces.found)))
         | inr off ↦ apart (inr off)
       ]
       | inr off ↦ apart (inl off)
@@ -150,7 +161,8 @@ module _ {V E : Type 0} (refs_of : Blocks → V → List BlockRef) (marks : Bloc
           by_mark (Some b) e = before_calm r b e (inl (is ∙ p.name_stays (ap is_some e)))
 
       -- a block of the value whose mark is below the next one to go on from wants no move
-      value_calm : (index mark : ℕ) (r : BlockRef) → slice_get (marks after p.now.value).named index ≡ Some mark → slice_get (refs_of after p.now.value) index ≡ Some r → is_before answer.next mark ≡ true → wants later r ≡ false
+      value_calm : (index mark : ℕ) (r : BlockRef) → slice_get (marks after p.now.value).named index ≡ Some mark → slice_get (refs_of after p.now.value) index ≡ Some r
+          → is_before answer.next mark ≡ true → wants later r ≡ false
       value_calm index mark r has named before = elim (cases_lt mark (unwrap_or walk.mark 0)) [
         | inl less ↦ by_mark walk.mark refl less
         | inr over ↦ p.passed.calm index mark r has named (and_from _ _ (le-leb (unwrap_or walk.mark 0) mark over) before)
@@ -169,11 +181,13 @@ module _ {V E : Type 0} (refs_of : Blocks → V → List BlockRef) (marks : Bloc
               }))
 
       -- every other element owns what it owned
-      same_refs : (number at : ℕ) (e : Element V) → (number ≢ walk.database) ⊎ (at ≢ walk.item) → item (table_at old number) at ≡ Some e → (r : BlockRef) → IsIn r (e.key ∷ refs_of after e.value) → IsIn r (e.key ∷ refs_of m e.value)
+      same_refs : (number at : ℕ) (e : Element V) → (number ≢ walk.database) ⊎ (at ≢ walk.item) → item (table_at old number) at ≡ Some e → (r : BlockRef)
+          → IsIn r (e.key ∷ refs_of after e.value) → IsIn r (e.key ∷ refs_of m e.value)
       same_refs number at e off stood r isin = subst (λ list. IsIn r (e.key ∷ list)) (refs_own m after e.value (p.apart number at e off stood)) isin
 
       -- a key of a lower item number, or of a lower database
-      low_calm : (r : BlockRef) (number at : ℕ) (e : Element V) → (number < walk.database) ⊎ ((number ≡ walk.database) × (at < walk.item)) → item (table_at new number) at ≡ Some e → IsIn r (e.key ∷ refs_of after e.value) → wants later r ≡ false
+      low_calm : (r : BlockRef) (number at : ℕ) (e : Element V) → (number < walk.database) ⊎ ((number ≡ walk.database) × (at < walk.item)) → item (table_at new number) at ≡ Some e
+          → IsIn r (e.key ∷ refs_of after e.value) → wants later r ≡ false
       low_calm r number at e (inl lt) found isin =
           (let off : (number ≢ walk.database) ⊎ (at ≢ walk.item) = inl (λ same. omega (arith, lt, same)) in
           let stood = sym (p.replaces.others number at off) ∙ found in
@@ -201,7 +215,8 @@ module _ {V E : Type 0} (refs_of : Blocks → V → List BlockRef) (marks : Bloc
           calm r (of_mark e found (inl name)) = name_calm r (name ∙ ap (λ (x : Element V). x.key) (some_same (item (table_at new walk.database) walk.item) _ _ found p.replaces.stands))
           calm r (of_mark e found (inr b)) =
               let same : e ≡ p.now = some_same (item (table_at new walk.database) walk.item) _ _ found p.replaces.stands in
-              value_calm b.index b.mark r (subst (λ (x : Element V). slice_get (marks after x.value).named b.index ≡ Some b.mark) same b.marked) (subst (λ (x : Element V). slice_get (refs_of after x.value) b.index ≡ Some r) same b.named)
+              value_calm b.index b.mark r (subst (λ (x : Element V). slice_get (marks after x.value).named b.index ≡ Some b.mark) same b.marked)
+              (subst (λ (x : Element V). slice_get (refs_of after x.value) b.index ≡ Some r) same b.named)
               (subst (λ o. is_before o b.mark ≡ true) (sym is) (lt-ltb b.mark next b.below))
 
       -- where no mark is left to go on from, no block of the element wants a move
@@ -211,7 +226,8 @@ module _ {V E : Type 0} (refs_of : Blocks → V → List BlockRef) (marks : Bloc
         | inl out ↦
             (let at = in_list r (refs_of after p.now.value) (omega (arith, isin, out)) in
             let within : at.0 < length (marks after p.now.value).named = omega (arith, slice_get_within (refs_of after p.now.value) at.0 r at.1, marked after p.now.value) in
-            value_calm at.0 (get_or (marks after p.now.value).named at.0 0) r (slice_get-get_or (marks after p.now.value).named at.0 0 within) at.1 (subst (λ o. is_before o (get_or (marks after p.now.value).named at.0 0) ≡ true) (sym none) refl))
+            value_calm at.0 (get_or (marks after p.now.value).named at.0 0) r (slice_get-get_or (marks after p.now.value).named at.0 0 within) at.1
+            (subst (λ o. is_before o (get_or (marks after p.now.value).named at.0 0) ≡ true) (sym none) refl))
       ]
 
       -- the whole key is passed
@@ -240,10 +256,13 @@ count_all test all (x ∷ xs) =
     let one : cond {A = ℕ} (test x) 1 0 ≡ 1 = ap (λ b. cond b 1 0) (all x) in
     omega (arith, count_cons test x xs, one, count_all test all xs)
 
-module _ {V E : Type 0} (refs_of : Blocks → V → List BlockRef) (marks : Blocks → V → Marks) (tables : Blocks → V → Tables (List ℕ)) (encoding : V → E) (refs_own : (m after : Blocks) (value : V) → ((r : BlockRef) → 0 < times r (refs_of m value) → after r ≡ m r) → refs_of after value ≡ refs_of m value) (marked : (m : Blocks) (value : V) → length (marks m value).named ≡ length (refs_of m value)) (m : Blocks) where
+module _ {V E : Type 0} (refs_of : Blocks → V → List BlockRef) (marks : Blocks → V → Marks) (tables : Blocks → V → Tables (List ℕ)) (encoding : V → E)
+    (refs_own : (m after : Blocks) (value : V) → ((r : BlockRef) → 0 < times r (refs_of m value) → after r ≡ m r) → refs_of after value ≡ refs_of m value)
+    (marked : (m : Blocks) (value : V) → length (marks m value).named ≡ length (refs_of m value)) (m : Blocks) where
   -- no block wants to move, and the walk goes past a key from its start
   module _ (bases : Bases V) (heap : Heap) (walk : Walk) (room units : ℕ) (start : walk.mark ≡ None)
-      (e : Element V) (found : item (table_at bases walk.database) walk.item ≡ Some e) (calm : (r : BlockRef) → wants heap r ≡ false) (counted : units ≡ length (marks m e.value).named + length (marks m e.value).vacant) (fits : units < room) where
+      (e : Element V) (found : item (table_at bases walk.database) walk.item ≡ Some e) (calm : (r : BlockRef) → wants heap r ≡ false)
+      (counted : units ≡ length (marks m e.value).named + length (marks m e.value).vacant) (fits : units < room) where
     -- the walk at the next item number
     abbrev next : Walk
     next = record { database = walk.database; item = walk.item + 1; mark = walk.mark }
@@ -285,7 +304,8 @@ module _ {V E : Type 0} (refs_of : Blocks → V → List BlockRef) (marks : Bloc
 
     -- where no block wants to move, a pass that is swept up to a key is swept up to the next item number
     pub calm_swept : IsSwept (refs_of m) (marks m) bases heap walk → IsSwept (refs_of m) (marks m) bases heap next
-    calm_swept s = subst (IsSwept (refs_of m) (marks m) bases heap) is_behind (swept_over refs_of marks tables encoding refs_own marked m m bases bases heap heap walk room passed here_passes (Calmer-same heap) s refl)
+    calm_swept s = subst (IsSwept (refs_of m) (marks m) bases heap) is_behind
+        (swept_over refs_of marks tables encoding refs_own marked m m bases bases heap heap walk room passed here_passes (Calmer-same heap) s refl)
 
     -- where no block wants to move, going past a key is one leg of the walk, with a unit for the key's own block
     pub calm_leg : Leg (shapes (marks m) bases) walk (units + 1) next
@@ -295,7 +315,8 @@ module _ {V : Type 0} (refs_of : V → List BlockRef) (marks : V → Marks) wher
   -- ---- where all databases are passed, all blocks are
 
   -- a reference that is owned by a list of items is among those of one of its elements
-  table_in : (r : BlockRef) (items : List (Option (Element V))) → 0 < times r (flat_map (own_of refs_of) items) → (at : ℕ) × (e : Element V) × (at_item items at ≡ Some e) × IsIn r (e.key ∷ refs_of e.value)
+  table_in : (r : BlockRef) (items : List (Option (Element V))) → 0 < times r (flat_map (own_of refs_of) items) → (at : ℕ) × (e : Element V) × (at_item items at ≡ Some e)
+      × IsIn r (e.key ∷ refs_of e.value)
   table_in r [] h = absurd (omega (arith, h))
   table_in r (None ∷ items) h = let rest = table_in r items h in (suc rest.0, rest.1, rest.2, rest.3)
   table_in r (Some e ∷ items) h = elim (cases_in r (e.key ∷ refs_of e.value)) [
@@ -318,7 +339,8 @@ module _ {V : Type 0} (refs_of : V → List BlockRef) (marks : V → Marks) wher
   ]
 
   -- a walk that stands behind the last database has passed each live block
-  pub all_passed : (bases : Bases V) (blocks : Blocks) (walk : Walk) → ((r : BlockRef) → times r (owned refs_of bases) ≡ live blocks r) → length bases.bases ≡ 16 → walk.database ≡ 16 → (r : BlockRef) → IsSome (blocks r) → HasPassed refs_of marks bases walk r
+  pub all_passed : (bases : Bases V) (blocks : Blocks) (walk : Walk) → ((r : BlockRef) → times r (owned refs_of bases) ≡ live blocks r) → length bases.bases ≡ 16 → walk.database ≡ 16
+      → (r : BlockRef) → IsSome (blocks r) → HasPassed refs_of marks bases walk r
   all_passed bases blocks walk owns sixteen ends r is =
       let own : 0 < times r (owned refs_of bases) = omega (arith, owns r, live-Some blocks r is) in
       let base = bases_in r bases.bases own in
@@ -328,7 +350,8 @@ module _ {V : Type 0} (refs_of : V → List BlockRef) (marks : V → Marks) wher
 -- ---- ways
 
 -- the same leg where the item numbers and the marks are as they were
-pub leg_same : {V : Type 0} (was now : V → Marks) (old mid : Bases V) (from to : Walk) (units : ℕ) → SameShapes was now old mid → SameTops old mid → Leg (shapes now mid) from units to → Leg (shapes was old) from units to
+pub leg_same : {V : Type 0} (was now : V → Marks) (old mid : Bases V) (from to : Walk) (units : ℕ) → SameShapes was now old mid → SameTops old mid → Leg (shapes now mid) from units to
+    → Leg (shapes was old) from units to
 leg_same was now old mid from to units same tops (vacant none low one' is) = vacant (sym (same from.database from.item) ∙ none) (omega (arith, low, tops from.database)) one' is
 leg_same was now old mid from to units same tops (ended over one' is) = ended (omega (arith, over, tops from.database)) one' is
 leg_same was now old mid from to units same tops (inside all next has lt few is) = inside all next (sym (same from.database from.item) ∙ has) lt few is
@@ -367,9 +390,11 @@ way_then shapes first mid last some _ way (further sum units at last' rest leg) 
     subst (λ n. Way shapes first n last) (omega arith) (further (some + sum) units at last (way_then shapes first mid at some sum way rest) leg)
 
 -- a way is the same where the item numbers and the marks of the values are as they were
-pub way_same : {V : Type 0} (was now : V → Marks) (old mid : Bases V) (first last : Walk) (units : ℕ) → SameShapes was now old mid → SameTops old mid → Way (shapes now mid) first units last → Way (shapes was old) first units last
+pub way_same : {V : Type 0} (was now : V → Marks) (old mid : Bases V) (first last : Walk) (units : ℕ) → SameShapes was now old mid → SameTops old mid
+    → Way (shapes now mid) first units last → Way (shapes was old) first units last
 way_same was now old mid first _ _ same tops here = here
-way_same was now old mid first _ _ same tops (further sum units at last way leg) = further sum units at last (way_same was now old mid first at sum same tops way) (leg_same was now old mid at last units same tops leg)
+way_same was now old mid first _ _ same tops (further sum units at last way leg) =
+    further sum units at last (way_same was now old mid first at sum same tops way) (leg_same was now old mid at last units same tops leg)
 
 -- one leg alone
 pub way_of : (shapes : Shapes) (first last : Walk) (units : ℕ) → Leg shapes first units last → Way shapes first units last

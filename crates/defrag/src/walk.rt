@@ -73,7 +73,8 @@ impl Walk {
         requires database { self.old.database < 16 }
         requires start { self.old.mark ≡ None }
         requires intact { IsIntact V.refs_of V.IsSound keyspace.now.bases (B.blocks keyspace.now.store) [] }
-        ensures swept { IsSwept (V.refs_of (B.blocks keyspace.now.store)) (V.marks (B.blocks keyspace.now.store)) keyspace.now.bases (B.heap keyspace.now.store) self.old → IsSwept (V.refs_of (B.blocks keyspace.now.store)) (V.marks (B.blocks keyspace.now.store)) keyspace.now.bases (B.heap keyspace.now.store) self.new }
+        ensures swept { IsSwept (V.refs_of (B.blocks keyspace.now.store)) (V.marks (B.blocks keyspace.now.store)) keyspace.now.bases (B.heap keyspace.now.store) self.old
+            → IsSwept (V.refs_of (B.blocks keyspace.now.store)) (V.marks (B.blocks keyspace.now.store)) keyspace.now.bases (B.heap keyspace.now.store) self.new }
         ensures way { Way (shapes (V.marks (B.blocks keyspace.now.store)) keyspace.now.bases) self.old result self.new }
         ensures few { result ≤ room }
         ensures database { self.new.database ≡ self.old.database }
@@ -114,7 +115,8 @@ impl Walk {
         requires room { 33 ≤ left }
         requires intact { IsIntact V.refs_of V.IsSound keyspace.old.bases (B.blocks keyspace.old.store) [] }
         ensures relocates { Relocates V.refs_of V.value_of V.IsSound keyspace.old.bases keyspace.new.bases (B.blocks keyspace.old.store) (B.blocks keyspace.new.store) }
-        ensures swept { IsSwept (V.refs_of (B.blocks keyspace.old.store)) (V.marks (B.blocks keyspace.old.store)) keyspace.old.bases (B.heap keyspace.old.store) self.old → IsSwept (V.refs_of (B.blocks keyspace.new.store)) (V.marks (B.blocks keyspace.new.store)) keyspace.new.bases (B.heap keyspace.new.store) self.new }
+        ensures swept { IsSwept (V.refs_of (B.blocks keyspace.old.store)) (V.marks (B.blocks keyspace.old.store)) keyspace.old.bases (B.heap keyspace.old.store) self.old
+            → IsSwept (V.refs_of (B.blocks keyspace.new.store)) (V.marks (B.blocks keyspace.new.store)) keyspace.new.bases (B.heap keyspace.new.store) self.new }
         ensures leg { Leg (shapes (V.marks (B.blocks keyspace.old.store)) keyspace.old.bases) self.old result self.new }
         ensures shapes { SameShapes (V.marks (B.blocks keyspace.old.store)) (V.marks (B.blocks keyspace.new.store)) keyspace.old.bases keyspace.new.bases }
         ensures tops { SameTops keyspace.old.bases keyspace.new.bases }
@@ -144,7 +146,8 @@ impl Walk {
         requires may { MayGo keyspace.old.bases self.old left }
         requires intact { IsIntact V.refs_of V.IsSound keyspace.old.bases (B.blocks keyspace.old.store) [] }
         ensures relocates { Relocates V.refs_of V.value_of V.IsSound keyspace.old.bases keyspace.new.bases (B.blocks keyspace.old.store) (B.blocks keyspace.new.store) }
-        ensures swept { IsSwept (V.refs_of (B.blocks keyspace.old.store)) (V.marks (B.blocks keyspace.old.store)) keyspace.old.bases (B.heap keyspace.old.store) self.old → IsSwept (V.refs_of (B.blocks keyspace.new.store)) (V.marks (B.blocks keyspace.new.store)) keyspace.new.bases (B.heap keyspace.new.store) self.new }
+        ensures swept { IsSwept (V.refs_of (B.blocks keyspace.old.store)) (V.marks (B.blocks keyspace.old.store)) keyspace.old.bases (B.heap keyspace.old.store) self.old
+            → IsSwept (V.refs_of (B.blocks keyspace.new.store)) (V.marks (B.blocks keyspace.new.store)) keyspace.new.bases (B.heap keyspace.new.store) self.new }
         ensures way { Way (shapes (V.marks (B.blocks keyspace.old.store)) keyspace.old.bases) self.old result self.new }
         ensures shapes { SameShapes (V.marks (B.blocks keyspace.old.store)) (V.marks (B.blocks keyspace.new.store)) keyspace.old.bases keyspace.new.bases }
         ensures tops { SameTops keyspace.old.bases keyspace.new.bases }
@@ -185,15 +188,19 @@ impl Walk {
         requires place { self.old.database < 16 }
         requires intact { IsIntact V.refs_of V.IsSound keyspace.old.bases (B.blocks keyspace.old.store) [] }
         ensures relocates { Relocates V.refs_of V.value_of V.IsSound keyspace.old.bases keyspace.new.bases (B.blocks keyspace.old.store) (B.blocks keyspace.new.store) }
-        ensures sound { (out : List BlockRef) → SoundBeside V.refs_of V.IsSound keyspace.old.bases (B.blocks keyspace.old.store) out → SoundBeside V.refs_of V.IsSound keyspace.new.bases (B.blocks keyspace.new.store) out }
+        ensures sound { (out : List BlockRef) → SoundBeside V.refs_of V.IsSound keyspace.old.bases (B.blocks keyspace.old.store) out
+            → SoundBeside V.refs_of V.IsSound keyspace.new.bases (B.blocks keyspace.new.store) out }
         ensures more { result ≡ Visit.More ↔ (self.new.database < 16) }
         ensures done { result ≡ Visit.Done ↔ (self.new.database ≡ 16) }
         ensures forward { IsForward self.old self.new }
         ensures encodings { SameShapes V.encoding V.encoding keyspace.old.bases keyspace.new.bases }
         ensures tables { SameShapes (V.tables (B.blocks keyspace.old.store)) (V.tables (B.blocks keyspace.new.store)) keyspace.old.bases keyspace.new.bases }
         ensures goes { Goes (shapes (V.marks (B.blocks keyspace.old.store)) keyspace.old.bases) self.old self.new result }
-        ensures swept { result ≡ Visit.More → IsSwept (V.refs_of (B.blocks keyspace.old.store)) (V.marks (B.blocks keyspace.old.store)) keyspace.old.bases (B.heap keyspace.old.store) self.old → IsSwept (V.refs_of (B.blocks keyspace.new.store)) (V.marks (B.blocks keyspace.new.store)) keyspace.new.bases (B.heap keyspace.new.store) self.new }
-        ensures least { result ≡ Visit.Done → Sound V.refs_of V.IsSound keyspace.old.bases (B.blocks keyspace.old.store) → IsSwept (V.refs_of (B.blocks keyspace.old.store)) (V.marks (B.blocks keyspace.old.store)) keyspace.old.bases (B.heap keyspace.old.store) self.old → (class : ℕ) → class < 36 → slabs_of (B.heap keyspace.new.store) class ≡ needed (B.heap keyspace.new.store) class }
+        ensures swept { result ≡ Visit.More → IsSwept (V.refs_of (B.blocks keyspace.old.store)) (V.marks (B.blocks keyspace.old.store)) keyspace.old.bases (B.heap keyspace.old.store) self.old
+            → IsSwept (V.refs_of (B.blocks keyspace.new.store)) (V.marks (B.blocks keyspace.new.store)) keyspace.new.bases (B.heap keyspace.new.store) self.new }
+        ensures least { result ≡ Visit.Done → Sound V.refs_of V.IsSound keyspace.old.bases (B.blocks keyspace.old.store)
+            → IsSwept (V.refs_of (B.blocks keyspace.old.store)) (V.marks (B.blocks keyspace.old.store)) keyspace.old.bases (B.heap keyspace.old.store) self.old → (class : ℕ) → class < 36
+            → slabs_of (B.heap keyspace.new.store) class ≡ needed (B.heap keyspace.new.store) class }
     {
         let mut left = UNITS;
         'legs: while self.goes_on(keyspace, left) {

@@ -39,7 +39,8 @@ word-in bytes n h =
     ∙ ap (λ (xs : List ℕ). little_number 8 xs) (sym (drop-padded bytes n start)))
 
 -- the last word
-pub word-last : (bytes last : List ℕ) → last ≡ drop (8 * (length bytes / 8)) bytes ++ replicate (7 - length (drop (8 * (length bytes / 8)) bytes)) 0 ++ (length bytes % 256) ∷ [] → little_number 8 last ≡ word_at (padded bytes) (length bytes / 8)
+pub word-last : (bytes last : List ℕ) → last ≡ drop (8 * (length bytes / 8)) bytes ++ replicate (7 - length (drop (8 * (length bytes / 8)) bytes)) 0 ++ (length bytes % 256) ∷ []
+    → little_number 8 last ≡ word_at (padded bytes) (length bytes / 8)
 word-last bytes last is =
     let start : 8 * (length bytes / 8) ≤ length bytes = omega arith in
     let left : length (drop (8 * (length bytes / 8)) bytes) ≡ length bytes % 8 = omega (arith, length-drop (8 * (length bytes / 8)) bytes) in

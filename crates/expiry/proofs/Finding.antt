@@ -1,5 +1,6 @@
 -- What a list of found keys holds.
-use Rattle.std.proofs.Common.{◌≡◌, inl, inr, ℕ, zero, suc, ◌+◌, ◌<◌, ◌≤◌, Bool, true, false, cond, nat_lt, List, [], ◌∷◌, ◌++◌, length, take, slice_get, Option, Some, None, refl, sym, ap, ◌∙◌, subst, arith}
+use Rattle.std.proofs.Common.{◌≡◌, inl, inr, ℕ, zero, suc, ◌+◌, ◌<◌, ◌≤◌, Bool, true, false, cond, nat_lt, List, [], ◌∷◌, ◌++◌, length, take, slice_get, Option, Some, None, refl, sym, ap}
+use Rattle.std.proofs.Common.{◌∙◌, subst, arith}
 use Rattle.std.proofs.lemmas.Bool.{ltb-true, lt-ltb, cond-true, cases_eq}
 use Rattle.std.proofs.lemmas.Bool.Decides.{nat_tests}
 use Rattle.blocks.specs.declared.BlockRef.{BlockRef}
@@ -28,12 +29,14 @@ one_in false h = cc
 
 module _ (t : Table ℕ) (moment : ℕ) where
   -- either the element of an item is the one at the index, or the index is one further on
-  at_test : (x : ℕ) (e : Element ℕ) (rest : List BlockRef) (r : BlockRef) → item t x ≡ Some e → ((index : ℕ) → slice_get rest index ≡ Some r → IsGone t moment r) → (b : Bool) → nat_lt e.value moment ≡ b → (index : ℕ) → slice_get (cond b (e.key ∷ []) [] ++ rest) index ≡ Some r → IsGone t moment r
+  at_test : (x : ℕ) (e : Element ℕ) (rest : List BlockRef) (r : BlockRef) → item t x ≡ Some e → ((index : ℕ) → slice_get rest index ≡ Some r → IsGone t moment r) → (b : Bool)
+      → nat_lt e.value moment ≡ b → (index : ℕ) → slice_get (cond b (e.key ∷ []) [] ++ rest) index ≡ Some r → IsGone t moment r
   at_test x e rest r is next false test index h = next index h
   at_test x e rest r is next true test zero h = record { at = x; element = e; found = is; names = cc; past = ltb-true e.value moment test }
   at_test x e rest r is next true test (suc index) h = next index h
 
-  at_item : (x : ℕ) (o : Option (Element ℕ)) (rest : List BlockRef) (r : BlockRef) → item t x ≡ o → ((index : ℕ) → slice_get rest index ≡ Some r → IsGone t moment r) → (index : ℕ) → slice_get (gone_at moment o ++ rest) index ≡ Some r → IsGone t moment r
+  at_item : (x : ℕ) (o : Option (Element ℕ)) (rest : List BlockRef) (r : BlockRef) → item t x ≡ o → ((index : ℕ) → slice_get rest index ≡ Some r → IsGone t moment r) → (index : ℕ)
+      → slice_get (gone_at moment o ++ rest) index ≡ Some r → IsGone t moment r
   at_item x None rest r is next index h = next index h
   at_item x (Some e) rest r is next index h = at_test x e rest r is next (nat_lt e.value moment) refl index h
 

@@ -58,7 +58,8 @@ todo_next xs met at next once is h = todo_rest xs met at (after_in at xs) next o
 
 pub gone_of-append : (t : Table ℕ) (moment : ℕ) (xs ys : List ℕ) → gone_of t moment (xs ++ ys) ≡ gone_of t moment xs ++ gone_of t moment ys
 gone_of-append t moment [] ys = refl
-gone_of-append t moment (x ∷ xs) ys = ap (λ l. gone_at moment (item t x) ++ l) (gone_of-append t moment xs ys) ∙ sym (append_assoc (gone_at moment (item t x)) (gone_of t moment xs) (gone_of t moment ys))
+gone_of-append t moment (x ∷ xs) ys = ap (λ l. gone_at moment (item t x) ++ l) (gone_of-append t moment xs ys)
+    ∙ sym (append_assoc (gone_at moment (item t x)) (gone_of t moment xs) (gone_of t moment ys))
 
 there : (o : Option (Element ℕ)) (n : ℕ) → (place_in o ≡ None → n ≡ 0) → 0 < n → IsSome o
 there None n none some = absurd (omega (arith, none refl))
@@ -88,7 +89,8 @@ module _ (t : Table ℕ) (moment : ℕ) (xs : List ℕ) where
   pub item_there : (v next at : ℕ) (found : List BlockRef) → Span (λ i. place_in (item t i)) v next xs → Gathers t moment xs (Some at) found → IsSome (item t at)
   item_there v next at found s g = there (item t at) (times at xs) (s.real at) (met_there at found g)
 
-  pub left_less : (at : ℕ) (next : Option ℕ) (found : List BlockRef) → ((i : ℕ) → times i xs ≤ 1) → Gathers t moment xs (Some at) found → next ≡ first_of (after_in at xs) → length (todo next xs) < length (todo (Some at) xs)
+  pub left_less : (at : ℕ) (next : Option ℕ) (found : List BlockRef) → ((i : ℕ) → times i xs ≤ 1) → Gathers t moment xs (Some at) found → next ≡ first_of (after_in at xs)
+      → length (todo next xs) < length (todo (Some at) xs)
   left_less at next found once g h = omega (arith, ap length (todo_next xs g.met at next once g.parts h))
 
   pub begun : (next : Option ℕ) (found : List BlockRef) → next ≡ first_of xs → found ≡ [] → Gathers t moment xs next found
@@ -99,11 +101,13 @@ module _ (t : Table ℕ) (moment : ℕ) (xs : List ℕ) where
     few = omega (arith, ap length empty);
   }
 
-  pub more : (at : ℕ) (next : Option ℕ) (found after : List BlockRef) → ((i : ℕ) → times i xs ≤ 1) → Gathers t moment xs (Some at) found → next ≡ first_of (after_in at xs) → after ≡ found ++ gone_at moment (item t at) → length after ≤ 16 → Gathers t moment xs next after
+  pub more : (at : ℕ) (next : Option ℕ) (found after : List BlockRef) → ((i : ℕ) → times i xs ≤ 1) → Gathers t moment xs (Some at) found → next ≡ first_of (after_in at xs) → after ≡ found
+      ++ gone_at moment (item t at) → length after ≤ 16 → Gathers t moment xs next after
   more at next found after once g h is few = record {
     met = g.met ++ at ∷ [];
     parts = g.parts ∙ sym (append_assoc g.met (at ∷ []) (after_in at xs)) ∙ ap (λ l. (g.met ++ at ∷ []) ++ l) (sym (todo_next xs g.met at next once g.parts h));
-    gone = is ∙ ap (λ l. l ++ gone_at moment (item t at)) g.gone ∙ ap (λ l. gone_of t moment g.met ++ l) (sym (append-nil (gone_at moment (item t at)))) ∙ sym (gone_of-append t moment g.met (at ∷ []));
+    gone = is ∙ ap (λ l. l ++ gone_at moment (item t at)) g.gone ∙ ap (λ l. gone_of t moment g.met ++ l) (sym (append-nil (gone_at moment (item t at))))
+        ∙ sym (gone_of-append t moment g.met (at ∷ []));
     few = few;
   }
 
@@ -114,18 +118,21 @@ module _ (t : Table ℕ) (moment : ℕ) (xs : List ℕ) where
   whole_found next found g none = sym (take_few found 16 g.few) ∙ ap (take 16) (sym (all_met next found g none))
 
   -- one more is gone than the list has room for
-  over : (at : ℕ) (found : List BlockRef) (key : BlockRef) (value : ℕ) → Gathers t moment xs (Some at) found → Holds t at key value → value < moment → gone_of t moment xs ≡ found ++ key ∷ gone_of t moment (after_in at xs)
+  over : (at : ℕ) (found : List BlockRef) (key : BlockRef) (value : ℕ) → Gathers t moment xs (Some at) found → Holds t at key value → value < moment → gone_of t moment xs ≡ found ++ key
+      ∷ gone_of t moment (after_in at xs)
   over at found key value g h lt =
       ap (gone_of t moment) g.parts
       ∙ gone_of-append t moment g.met (at ∷ after_in at xs)
       ∙ ap (λ l. l ++ (gone_at moment (item t at) ++ gone_of t moment (after_in at xs))) (sym g.gone)
       ∙ ap (λ l. found ++ (l ++ gone_of t moment (after_in at xs))) (gone_yes t moment at key value h lt)
 
-  pub over_found : (at : ℕ) (found : List BlockRef) (key : BlockRef) (value : ℕ) → Gathers t moment xs (Some at) found → Holds t at key value → value < moment → 16 ≤ length found → found ≡ take 16 (gone_of t moment xs)
+  pub over_found : (at : ℕ) (found : List BlockRef) (key : BlockRef) (value : ℕ) → Gathers t moment xs (Some at) found → Holds t at key value → value < moment → 16 ≤ length found
+      → found ≡ take 16 (gone_of t moment xs)
   over_found at found key value g h lt full =
       sym (take_few found 16 g.few)
       ∙ sym (take-append-le 16 found (key ∷ gone_of t moment (after_in at xs)) full)
       ∙ ap (take 16) (sym (over at found key value g h lt))
 
-  pub over_many : (at : ℕ) (found : List BlockRef) (key : BlockRef) (value : ℕ) → Gathers t moment xs (Some at) found → Holds t at key value → value < moment → 16 ≤ length found → 16 < length (gone_of t moment xs)
+  pub over_many : (at : ℕ) (found : List BlockRef) (key : BlockRef) (value : ℕ) → Gathers t moment xs (Some at) found → Holds t at key value → value < moment → 16 ≤ length found
+      → 16 < length (gone_of t moment xs)
   over_many at found key value g h lt full = omega (arith, ap length (over at found key value g h lt), length-append found (key ∷ gone_of t moment (after_in at xs)))

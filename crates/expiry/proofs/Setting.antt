@@ -18,7 +18,8 @@ read m key bytes h = ap (λ o. unwrap_or o []) h
 
 module _ (m : Blocks) (t new : Table ℕ) (key : BlockRef) (deadline : ℕ) where
   -- the key has none
-  module _ (hash at : ℕ) (keyed : Keyed m t) (live : IsSome (m key)) (is : hash ≡ hash_of t.seed (bytes_at m key)) (lacks : Lacks m t (bytes_at m key)) (adds : Adds t new at (record { key = key; hash = hash; value = deadline })) where
+  module _ (hash at : ℕ) (keyed : Keyed m t) (live : IsSome (m key)) (is : hash ≡ hash_of t.seed (bytes_at m key)) (lacks : Lacks m t (bytes_at m key))
+      (adds : Adds t new at (record { key = key; hash = hash; value = deadline })) where
     added : Adds t new at (record { key = key; hash = hash_of t.seed (bytes_at m key); value = deadline })
     added = subst (λ h. Adds t new at (record { key = key; hash = h; value = deadline })) is adds
 

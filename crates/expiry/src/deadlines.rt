@@ -1,4 +1,5 @@
-ghost use Rattle.std.specs.Prelude.{false, ◌≡◌, ℕ, ◌+◌, ◌<◌, ◌≤◌, ◌++◌, ◌↔◌, List, [], length, take, nat_lt, nat_le, Option, Some, None, is_some, IfOk, OnOk, OnErr, IfSome, IfNone, IsSome, IsTrue, MatchBool, if◌then◌else◌};
+ghost use Rattle.std.specs.Prelude.{false, ◌≡◌, ℕ, ◌+◌, ◌<◌, ◌≤◌, ◌++◌, ◌↔◌, List, [], length, take, nat_lt, nat_le, Option, Some, None, is_some, IfOk, OnOk, OnErr, IfSome, IfNone};
+ghost use Rattle.std.specs.Prelude.{IsSome, IsTrue, MatchBool, if◌then◌else◌};
 ghost use Rattle.blocks.specs.Blocks.{Blocks, bytes_at};
 ghost use Rattle.rev_cursor.specs.Span.{Span};
 ghost use Rattle.rehash_dict.specs.Tables.{is_rehashing, rehashed, shrunk, wants_shrink, IsSettled};

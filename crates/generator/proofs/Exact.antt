@@ -131,7 +131,8 @@ same_turn x y call seen reply =
     let R : List Part → Turn = λ r. record { call = y.call; seen = y.seen; reply = r } in
     ap C call ∙ ap S seen ∙ ap R reply
 
-runs_same : (calls : List Call) (seed : ℕ) (old : World) (turns others : List Turn) (new other : World) → AllByRecursion HasOne calls → calls_of turns ≡ calls → calls_of others ≡ calls → run seed old turns new → run seed old others other → (turns ≡ others) × (new ≡ other)
+runs_same : (calls : List Call) (seed : ℕ) (old : World) (turns others : List Turn) (new other : World) → AllByRecursion HasOne calls → calls_of turns ≡ calls → calls_of others ≡ calls
+    → run seed old turns new → run seed old others other → (turns ≡ others) × (new ≡ other)
 runs_same [] seed old [] [] new other h p q a b = (refl, a ∙ sym b)
 runs_same [] seed old [] (y ∷ s) new other h p q a b = absurd (cc q)
 runs_same [] seed old (x ∷ r) others new other h p q a b = absurd (cc p)

@@ -25,7 +25,8 @@ given_is words lent rest r g =
     cc
 
 -- the request that is lent, where the bytes that were fed are those of one
-pub lent_is : (words lent : Words) (bytes : List ℕ) (old fed new : Feeding) (b : Bool) → old.kept ≡ [] → fed ≡ record { gone = old.gone; kept = old.kept ++ bytes; current = None } → b ≡ true → NextIs fed (Ok b) new → new.current ≡ Some lent → IsRequest words → bytes ≡ request_bytes words → lent ≡ words
+pub lent_is : (words lent : Words) (bytes : List ℕ) (old fed new : Feeding) (b : Bool) → old.kept ≡ [] → fed ≡ record { gone = old.gone; kept = old.kept ++ bytes; current = None }
+    → b ≡ true → NextIs fed (Ok b) new → new.current ≡ Some lent → IsRequest words → bytes ≡ request_bytes words → lent ≡ words
 lent_is words lent bytes old fed new b none is t n current r same =
     let g = gives_lent fed new lent (true_is b fed new t n) current in
     let kept : fed.kept ≡ request_bytes words = ap (λ f. f.kept) is ∙ ap (λ l. l ++ bytes) none ∙ same in

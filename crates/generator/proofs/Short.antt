@@ -46,9 +46,19 @@ module _ (k x : ℕ) (key : k < 2 ^ 64) (word : x < 2 ^ 64) where
   few_words kinds.LRange = record { each = (omega arith, (named (codes "l:") (omega arith), (digit 0 (omega arith), (digit 9 (omega arith), tt)))); some = omega arith; few = omega arith }
   few_words kinds.SAdd = record { each = (omega arith, (named (codes "t:") (omega arith), (number (x % 64) (omega arith), tt))); some = omega arith; few = omega arith }
   few_words kinds.SIsMember = record { each = (omega arith, (named (codes "t:") (omega arith), (number (x % 64) (omega arith), tt))); some = omega arith; few = omega arith }
-  few_words kinds.HSet = record { each = (omega arith, (named (codes "h:") (omega arith), (behind (codes "f") (x % 32) (omega arith) (omega arith), (number x (omega arith), tt)))); some = omega arith; few = omega arith }
+  few_words kinds.HSet = record {
+    each = (omega arith, (named (codes "h:") (omega arith), (behind (codes "f") (x % 32) (omega arith) (omega arith), (number x (omega arith), tt))));
+    some = omega arith;
+    few =
+        omega arith;
+  }
   few_words kinds.HGet = record { each = (omega arith, (named (codes "h:") (omega arith), (behind (codes "f") (x % 32) (omega arith) (omega arith), tt))); some = omega arith; few = omega arith }
-  few_words kinds.ZAdd = record { each = (omega arith, (named (codes "z:") (omega arith), (number (x % 1000) (omega arith), (behind (codes "m") (x % 64) (omega arith) (omega arith), tt)))); some = omega arith; few = omega arith }
+  few_words kinds.ZAdd = record {
+    each = (omega arith, (named (codes "z:") (omega arith), (number (x % 1000) (omega arith), (behind (codes "m") (x % 64) (omega arith) (omega arith), tt))));
+    some =
+        omega arith;
+    few = omega arith;
+  }
   few_words kinds.ZRange = record { each = (omega arith, (named (codes "z:") (omega arith), (digit 0 (omega arith), (digit 9 (omega arith), tt)))); some = omega arith; few = omega arith }
   few_words kinds.XAdd = record { each = (omega arith, (named (codes "x:") (omega arith), (omega arith, (omega arith, (number x (omega arith), tt))))); some = omega arith; few = omega arith }
   few_words kinds.Del = record { each = (omega arith, (named (slice_index_or (codes "snlthz") (x % 6) 0 ∷ 58 ∷ []) (omega arith), tt)); some = omega arith; few = omega arith }

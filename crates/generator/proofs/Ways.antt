@@ -108,7 +108,8 @@ drawn_none seed = refl
 
 module _ {E : Type 0} (executes : ℕ → E → Words → List Part → E → Type 0) (works : ℕ → Plan → E → E → Type 0) where
   pub one_more : (seed before moment : ℕ) (dice : Lcg) (first mid last : Paced E) (replies : List (List Part)) (reply : List Part) → dice ≡ drawn seed (2 * before) → moment ≡ before + 1
-      → way executes works 0 first (commands seed before) replies mid → Answers executes works moment (drawn_words dice) mid last reply → way executes works 0 first (commands seed (before + 1)) (replies ++ reply ∷ []) last
+      → way executes works 0 first (commands seed before) replies mid → Answers executes works moment (drawn_words dice) mid last reply
+      → way executes works 0 first (commands seed (before + 1)) (replies ++ reply ∷ []) last
   one_more seed before moment dice first mid last replies reply is at w a =
       let none : before ≡ 0 + before = omega arith in
       let next : moment ≡ suc before = omega (arith, at) in

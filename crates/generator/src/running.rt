@@ -41,7 +41,8 @@ struct Running {
 // Does the work that is planned next, at this moment.
 fn rest<E: Server>(engine: &mut E, conductor: &mut Conductor, moment: u64)
     requires alive { E.spent engine.old ≡ false }
-    ensures { Works E.works moment engine.old engine.new (following (λ b. (⟦<dyn Pacer as Pacer>⟧ b.vtable).pacing b.value) conductor.old) (following (λ b. (⟦<dyn Pacer as Pacer>⟧ b.vtable).pacing b.value) conductor.new) }
+    ensures { Works E.works moment engine.old engine.new (following (λ b. (⟦<dyn Pacer as Pacer>⟧ b.vtable).pacing b.value) conductor.old)
+        (following (λ b. (⟦<dyn Pacer as Pacer>⟧ b.vtable).pacing b.value) conductor.new) }
 {
     engine.background(conductor.next(), moment);
 }
@@ -54,7 +55,11 @@ fn run_one<E: Server>(
     conductor: &mut Conductor,
     moment: u64,
 ) -> Result<(), Memory>
-    ensures answers { OnOk result ((reply : List Part) × Answers E.executes E.works moment (drawn_words running.old.dice) (record { engine = engine.old; pacers = following (λ b. (⟦<dyn Pacer as Pacer>⟧ b.vtable).pacing b.value) conductor.old }) (record { engine = engine.new; pacers = following (λ b. (⟦<dyn Pacer as Pacer>⟧ b.vtable).pacing b.value) conductor.new }) reply × (running.new.crc ≡ crc_of running.old.crc (spelling reply))) }
+    ensures answers { OnOk result
+        ((reply : List Part) × Answers E.executes E.works moment (drawn_words running.old.dice)
+        (record { engine = engine.old; pacers = following (λ b. (⟦<dyn Pacer as Pacer>⟧ b.vtable).pacing b.value) conductor.old })
+        (record { engine = engine.new; pacers = following (λ b. (⟦<dyn Pacer as Pacer>⟧ b.vtable).pacing b.value) conductor.new }) reply
+        × (running.new.crc ≡ crc_of running.old.crc (spelling reply))) }
     ensures dice { OnOk result (running.new.dice ≡ advance 64 multiplier_64 2 running.old.dice) }
 {
     draw_request(&mut running.dice, &mut running.request)?;
@@ -81,7 +86,9 @@ pub fn run_commands<E: Server>(
     seed: u64,
     count: u64,
 ) -> Result<Sums, Memory>
-    ensures { IfOk result (λ sums. Generates E.executes E.works seed count (record { engine = engine.old; pacers = following (λ b. (⟦<dyn Pacer as Pacer>⟧ b.vtable).pacing b.value) conductor.old }) engine.new sums.size sums.crc) }
+    ensures { IfOk result
+        (λ sums. Generates E.executes E.works seed count (record { engine = engine.old; pacers = following (λ b. (⟦<dyn Pacer as Pacer>⟧ b.vtable).pacing b.value) conductor.old })
+        engine.new sums.size sums.crc) }
 {
     let mut running = Running {
         dice: Pcg32::seed_from_u64(seed),

@@ -37,7 +37,8 @@ escaped_piece y rest byte =
     (λ same. subst (λ b. TakesByte (92 ∷ y ∷ rest) b 2) (eqb-true y byte same) (escaped_takes y rest))
     (λ other left m. eqb-false y byte other (sym (escaped_inv y rest (byte ∷ left) m).1))
 
-pub class_piece : (body : List ℕ) (byte : ℕ) (takes : Bool) (width : ℕ) → takes ≡ class_takes body byte → width ≤ length body → drop width body ≡ behind_class body → IsPiece (91 ∷ body) byte (cond takes (Takes (width + 1)) Refuses)
+pub class_piece : (body : List ℕ) (byte : ℕ) (takes : Bool) (width : ℕ) → takes ≡ class_takes body byte → width ≤ length body → drop width body ≡ behind_class body
+    → IsPiece (91 ∷ body) byte (cond takes (Takes (width + 1)) Refuses)
 class_piece body byte takes width says room behind =
     let rest : drop (width + 1) (91 ∷ body) ≡ behind_class body = simp add-one behind in
     piece_of (91 ∷ body) byte (width + 1) takes

@@ -91,7 +91,8 @@ pub refuses_none : (P T : List ℕ) (p t : ℕ) → Walked P T p t None → t < 
 refuses_none P T p t w lt none m = none (drop (t + 1) T) (subst (Matches (drop p P)) (drop_more T t 0 lt) (w.0 m))
 
 -- nothing is taken, and the last star takes one byte more
-pub refuses_some : (P T : List ℕ) (p t : ℕ) (s : Place) → Since P T p t s → t < length T → ((left : List ℕ) → ¬ (Matches (drop p P) (get_or T t 0 ∷ left))) → Since P T s.pattern (s.text + 1) (place s.pattern (s.text + 1))
+pub refuses_some : (P T : List ℕ) (p t : ℕ) (s : Place) → Since P T p t s → t < length T → ((left : List ℕ) → ¬ (Matches (drop p P) (get_or T t 0 ∷ left)))
+    → Since P T s.pattern (s.text + 1) (place s.pattern (s.text + 1))
 refuses_some P T p t s w lt none =
     let before = w.text_before in
     let same : drop (t - s.text) (drop s.text T) ≡ drop t T = drop-drop (t - s.text) s.text T ∙ ap (λ n. drop n T) (omega arith) in

@@ -54,7 +54,8 @@ module _ (m mid : Blocks) (seed : ℕ) (t u : FieldTable) (at : ℕ) (k : Keyed 
 
     pub next_absent : (x v : List ℕ) → entry_at mid (item t at) ≡ Some (x, v) → Lacks mid u x
     next_absent x v is = lacks_field mid u p.keyed x
-        (ap (λ map. get map x) p.fields_are ∙ get_pairs (pairs_before m t at) x ∙ ap (λ (q : Pair). second_of q.0 (pairs_before m t at)) (entry_is x v is) ∙ once_before (entries_in m t) (rank t.items at) (table_once m t k) inside)
+        (ap (λ map. get map x) p.fields_are ∙ get_pairs (pairs_before m t at) x ∙ ap (λ (q : Pair). second_of q.0 (pairs_before m t at)) (entry_is x v is)
+        ∙ once_before (entries_in m t) (rank t.items at) (table_once m t k) inside)
 
     pub next_put : (x v : List ℕ) → entry_at mid (item t at) ≡ Some (x, v) → insert (fields_in mid u) x v ≡ map_of_pairs (pairs_before m t (suc at))
     next_put x v is =
@@ -71,7 +72,8 @@ all_copied m t at below =
     ap map_of_pairs (take_all (rank t.items at) (entries_in m t) (omega (arith, rank_all t.items at below, slots_len m t.items))) ∙ sym (table_listed m t)
 
 -- the bytes of a packed form were placed once more
-pub pack_copied : (m n : Blocks) (f : Fields) (p : Packed) (at : BlockRef) → IsFields m f → n ≡ with_block m at (Some (bytes_at m p.at)) → Changes m n [] (at ∷ []) → f.body ≡ Pack p → IsPlacedBody m n f (Pack (record { at = at; len = p.len })) (fields m f)
+pub pack_copied : (m n : Blocks) (f : Fields) (p : Packed) (at : BlockRef) → IsFields m f → n ≡ with_block m at (Some (bytes_at m p.at)) → Changes m n [] (at ∷ []) → f.body ≡ Pack p
+    → IsPlacedBody m n f (Pack (record { at = at; len = p.len })) (fields m f)
 pack_copied m n f p at sound placed changes is =
     pack_is_placed m n f at p.len (bytes_at m p.at) placed changes (fields m f) (subst (IsBody m f.limits f.seed) is sound.body) (sym (ap (fields_of m) is))
 
@@ -92,7 +94,8 @@ pub none_before : (m : Blocks) (t : FieldTable) → map_of_pairs (pairs_before m
 none_before m t = ap (λ n. map_of_pairs (take n (entries_in m t))) (rank_zero t.items)
 
 -- the bytes of a field and value that were read are those of the item number
-pub read_entry : (m : Blocks) (o : Option (Element BlockRef)) (e : Element BlockRef) (field value k v : List ℕ) → o ≡ Some e → m e.key ≡ Some field → m e.value ≡ Some value → entry_at m o ≡ Some (k, v) → (field ≡ k) × (value ≡ v)
+pub read_entry : (m : Blocks) (o : Option (Element BlockRef)) (e : Element BlockRef) (field value k v : List ℕ) → o ≡ Some e → m e.key ≡ Some field → m e.value ≡ Some value
+    → entry_at m o ≡ Some (k, v) → (field ≡ k) × (value ≡ v)
 read_entry m o e field value k v there by_field by_value is =
     let one : Some (pair_of_element m e) ≡ Some (k, v) = sym (ap (entry_at m) there) ∙ is in
     (sym (ap (λ p. unwrap_or p []) by_field) ∙ ap (λ (p : Option Pair). (unwrap_or p (k, v)).0) one, sym (ap (λ p. unwrap_or p []) by_value) ∙ ap (λ (p : Option Pair). (unwrap_or p (k, v)).1) one)

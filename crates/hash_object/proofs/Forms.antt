@@ -97,7 +97,8 @@ module _ (limits : Limits) (count l long : ℕ) (shorter : l ≤ limits.hash_val
   pack_rises Stream h = absurd h.fitting
 
 -- a packed hash with one more or another value
-pub risen_put : (limits : Limits) (map : FieldMap) (k v : List ℕ) (count : ℕ) (f : Form) → count ≡ len (insert map k v) → longest (entries map) ≤ limits.hash_value → IsLeast (FitsHash limits count (max (length k) (length v))) f
+pub risen_put : (limits : Limits) (map : FieldMap) (k v : List ℕ) (count : ℕ) (f : Form) → count ≡ len (insert map k v) → longest (entries map) ≤ limits.hash_value
+    → IsLeast (FitsHash limits count (max (length k) (length v))) f
     → IsRisen limits Listpack (insert map k v) f
 risen_put limits map k v count f counted short h =
     let made = entries-insert nat_list_cmp_total map k v in

@@ -1,5 +1,6 @@
 -- The marks of a dictionary's blocks, and how many blocks and vacant item numbers have marks within bounds.
-use Rattle.std.proofs.Common.{◌≡◌, ◌≢◌, ◌⊎◌, ℕ, zero, suc, ◌+◌, ◌*◌, ◌<◌, ◌≤◌, Bool, true, false, cond, List, [], ◌∷◌, ◌++◌, Option, Some, None, IsSome, is_some, flat_map, slice_get, count_by, length, refl, sym, ap, ◌∙◌, subst, arith, inl, inr}
+use Rattle.std.proofs.Common.{◌≡◌, ◌≢◌, ◌⊎◌, ℕ, zero, suc, ◌+◌, ◌*◌, ◌<◌, ◌≤◌, Bool, true, false, cond, List, [], ◌∷◌, ◌++◌, Option, Some, None, IsSome, is_some, flat_map, slice_get}
+use Rattle.std.proofs.Common.{count_by, length, refl, sym, ap, ◌∙◌, subst, arith, inl, inr}
 use mir.Val.{bool_byte}
 use Rattle.std.specs.Prelude.{◌/◌, ◌%◌}
 use Rattle.std.proofs.lemmas.Bool.{cases_Bool, cases_eq, cond-true, cond-false}
@@ -249,7 +250,8 @@ module _ (t : FieldTable) where
   slot_other (Some e) n mark rest apart = refl
 
   -- an item number adds 1 to the vacant ones counted at twice it where it is vacant, and else nothing
-  slot_here : (o : Option (Element BlockRef)) (n mark : ℕ) (rest : List ℕ) → mark ≡ 2 * n → count_by (is_within mark (suc mark)) (vacant_mark n o ++ rest) ≡ cond {A = ℕ} (is_some o) 0 1 + count_by (is_within mark (suc mark)) rest
+  slot_here : (o : Option (Element BlockRef)) (n mark : ℕ) (rest : List ℕ) → mark ≡ 2 * n
+      → count_by (is_within mark (suc mark)) (vacant_mark n o ++ rest) ≡ cond {A = ℕ} (is_some o) 0 1 + count_by (is_within mark (suc mark)) rest
   slot_here None n mark rest is = omega (arith, count_cons (is_within mark (suc mark)) (2 * n) rest, ap (at_one mark) (sym is), one_here mark)
   slot_here (Some e) n mark rest is = omega arith
 
@@ -267,7 +269,8 @@ module _ (t : FieldTable) where
   vacant_even : (n k mark : ℕ) → mark ≡ 2 * k → k < n → count_by (is_within mark (suc mark)) (vacant_below t n) ≡ cond {A = ℕ} (is_some (item t k)) 0 1
   vacant_even zero k mark is low = absurd (omega (arith, low))
   vacant_even (suc n) k mark is low = elim (last k n low) [
-    | inl here ↦ slot_here (item t n) n mark (vacant_below t n) (omega (arith, is, here)) ∙ (let none = vacant_above n mark (omega (arith, is, here)) in omega (arith, none, ap (λ i. cond {A = ℕ} (is_some (item t i)) 0 1) here))
+    | inl here ↦ slot_here (item t n) n mark (vacant_below t n) (omega (arith, is, here))
+        ∙ (let none = vacant_above n mark (omega (arith, is, here)) in omega (arith, none, ap (λ i. cond {A = ℕ} (is_some (item t i)) 0 1) here))
     | inr below ↦ slot_other (item t n) n mark (vacant_below t n) (λ same. omega (arith, same, is, below)) ∙ vacant_even n k mark is below
   ]
     where
@@ -282,7 +285,14 @@ module _ (t : FieldTable) where
   -- an even mark is that of a field's block or of a vacant item number
   pub unit_even : (mark : ℕ) → mark % 2 ≡ 0 → mark < 2 * t.top → units_in (Table t) mark (suc mark) ≡ 1
   unit_even mark even low = elim p.1 [
-    | inl is ↦ omega (arith, marks_at 0 t.items mark mark (omega arith), vacant_even t.top p.0 mark is (omega (arith, is, low)), ap (λ o. cond {A = ℕ} (is_some o) 1 0) (ap (block_in t.items) is ∙ even_is t.items p.0), one_each (item t p.0))
+    | inl is ↦ omega (
+      arith,
+      marks_at 0 t.items mark mark (omega arith),
+      vacant_even t.top p.0 mark is (omega (arith, is, low)),
+      ap (λ o. cond {A = ℕ} (is_some o) 1 0)
+          (ap (block_in t.items) is ∙ even_is t.items p.0),
+      one_each (item t p.0),
+    )
     | inr is ↦ absurd (omega (arith, is, even))
   ]
     where
@@ -323,7 +333,8 @@ module _ (t : FieldTable) where
   vacant_low zero i mark h = cc
   vacant_low (suc n) i mark h = by_slot (item t n) i (λ j is. vacant_low n j mark is) h
     where
-      by_slot : (o : Option (Element BlockRef)) (i : ℕ) → ((j : ℕ) → slice_get (vacant_below t n) j ≡ Some mark → mark < 2 * n) → slice_get (vacant_mark n o ++ vacant_below t n) i ≡ Some mark → mark < 2 * suc n
+      by_slot : (o : Option (Element BlockRef)) (i : ℕ) → ((j : ℕ) → slice_get (vacant_below t n) j ≡ Some mark → mark < 2 * n)
+          → slice_get (vacant_mark n o ++ vacant_below t n) i ≡ Some mark → mark < 2 * suc n
       by_slot (Some e) i rest h = omega (arith, rest i h)
       by_slot None zero rest h = (let same : 2 * n ≡ mark = cc in omega (arith, same))
       by_slot None (suc i) rest h = omega (arith, rest i h)

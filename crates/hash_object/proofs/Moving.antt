@@ -22,7 +22,8 @@ module _ (heap : Heap) (t u : FieldTable) (start end : ℕ) (same : (at : ℕ) �
   pub same_marks : marks_from 0 u.items ≡ marks_from 0 t.items
   same_marks = marks_alike 0 t.items u.items same
 
-  pub marks_passed : ((mark : ℕ) → (mark < start) ⊎ (end ≤ mark) → block_in u.items mark ≡ block_in t.items mark) → IsCalm heap u start end → ArePassed heap (is_within start end) (marks_from 0 u.items) (blocks_of t) (blocks_of u)
+  pub marks_passed : ((mark : ℕ) → (mark < start) ⊎ (end ≤ mark) → block_in u.items mark ≡ block_in t.items mark) → IsCalm heap u start end
+      → ArePassed heap (is_within start end) (marks_from 0 u.items) (blocks_of t) (blocks_of u)
   marks_passed others calm = record {
     calm = λ index mark r marked named within. (let parts = within_parts start end mark within in calm mark r parts.0 parts.1 (sym (mark_block u.items index mark marked).0 ∙ named));
     stays = λ index mark marked out.
@@ -58,13 +59,15 @@ none_within : (body : Body) (start : ℕ) → units_in body start start ≡ 0
 none_within body start = omega (arith, count_none start (marks_in body), count_none start (vacant_in body))
 
 -- a part of the marks was passed
-pub passes_part : (before : Blocks) (heap : Heap) (old new : Fields) (from room count start end : ℕ) (answer : Moved) → IsFields before old → count ≡ marks_end old → start ≡ min from count → start ≤ end → 32 ≤ room
+pub passes_part : (before : Blocks) (heap : Heap) (old new : Fields) (from room count start end : ℕ) (answer : Moved) → IsFields before old → count ≡ marks_end old → start ≡ min from count
+    → start ≤ end → 32 ≤ room
     → answer.next ≡ (if nat_lt end count then Some end else None) → answer.used ≡ units old start end → answer.used ≤ room → (end < count → answer.used ≡ room)
     → marks new ≡ marks old → vacant_marks new ≡ vacant_marks old → ArePassed heap (is_within start end) (marks new) (refs old) (refs new) → PassesPart heap old new from room answer
 passes_part before heap old new from room count start end answer sound count_is start_is order wide next_is used_is fits full same vacant p = record {
   same_marks = same;
   same_vacant = vacant;
-  passed = part_passed from count start end answer.next start_is next_is heap (marks new) (refs old) (refs new) (λ index mark marked. below index mark (ap (λ ms. slice_get ms index) (sym same) ∙ marked)) p;
+  passed = part_passed from count start end answer.next start_is next_is heap (marks new) (refs old) (refs new)
+      (λ index mark marked. below index mark (ap (λ ms. slice_get ms index) (sym same) ∙ marked)) p;
   counted = record {
     used = omega (
       arith,

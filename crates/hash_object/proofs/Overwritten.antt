@@ -50,7 +50,8 @@ abbrev of_items : List (Option (Element BlockRef)) → FieldTable
 of_items items = record (no_fields 0) { items = items }
 
 -- two elements of a dictionary name no block of each other
-both_within : (items : List (Option (Element BlockRef))) (i j : ℕ) (e f : Element BlockRef) → i ≢ j → at_item items i ≡ Some e → at_item items j ≡ Some f → (r : BlockRef) → times r (names (Some e)) + times r (names (Some f)) ≤ times r (flat_map names items)
+both_within : (items : List (Option (Element BlockRef))) (i j : ℕ) (e f : Element BlockRef) → i ≢ j → at_item items i ≡ Some e → at_item items j ≡ Some f → (r : BlockRef)
+    → times r (names (Some e)) + times r (names (Some f)) ≤ times r (flat_map names items)
 both_within [] i j e f apart at_i at_j r = cc
 both_within (x ∷ items) zero zero e f apart at_i at_j r = absurd (apart refl)
 both_within (x ∷ items) zero (suc j) e f apart at_i at_j r =
@@ -64,7 +65,8 @@ both_within (x ∷ items) (suc i) (suc j) e f apart at_i at_j r =
 
 -- ---- the block of the element's value was written over
 
-module _ (m n : Blocks) (t : FieldTable) (i : ℕ) (e : Element BlockRef) (value : List ℕ) (k : Keyed m t) (owned : Owned (blocks_of t) m) (found : item t i ≡ Some e) (put : n ≡ with_block m e.value (Some value)) where
+module _ (m n : Blocks) (t : FieldTable) (i : ℕ) (e : Element BlockRef) (value : List ℕ) (k : Keyed m t) (owned : Owned (blocks_of t) m) (found : item t i ≡ Some e)
+    (put : n ≡ with_block m e.value (Some value)) where
   -- every other block stays
   other_same : (r : BlockRef) → ref_eq r e.value ≡ false → n r ≡ m r
   other_same r apart = (λ j. put j r) ∙ with_block-other m e.value r (Some value) apart
@@ -105,7 +107,9 @@ module _ (m n : Blocks) (t : FieldTable) (i : ℕ) (e : Element BlockRef) (value
       by_other : (p : List ℕ) → p ≢ field → get (fields_in n t) p ≡ get (fields_in m t) p
       by_other p apart = elim (cases_key m t p k) [
         | inl s ↦
-            (let other : s.at ≢ i = (λ here. apart (some_same (m e.key) p field (ap (λ (x : Element BlockRef). m x.key) (some_same (item t i) e s.element found (ap (item t) (sym here) ∙ s.found)) ∙ s.bytes) field_is)) in
+            (let other : s.at ≢ i =
+            (λ here. apart
+            (some_same (m e.key) p field (ap (λ (x : Element BlockRef). m x.key) (some_same (item t i) e s.element found (ap (item t) (sym here) ∙ s.found)) ∙ s.bytes) field_is)) in
             map_of-stands n (λ v. bytes_at n v) t s.at s.element p frame.0 s.found (still s.at s.element s.found ∙ s.bytes)
             ∙ ap (λ o. Some (unwrap_or o [])) (other_same s.element.value (value_apart s.at s.element other s.found))
             ∙ sym (map_of-stands m (λ v. bytes_at m v) t s.at s.element p k s.found s.bytes))

@@ -1,5 +1,6 @@
 -- Bodies that are placed for a hash with a field more, with another value, or with a field less.
-use Rattle.std.proofs.Common.{◌≡◌, ◌≢◌, ℕ, ◌+◌, ◌<◌, ◌≤◌, max, Bool, true, false, not, cond, List, [], ◌∷◌, length, Option, Some, None, is_some, unwrap_or, Result, Ok, Err, refl, sym, ap, ◌∙◌, subst, arith}
+use Rattle.std.proofs.Common.{◌≡◌, ◌≢◌, ℕ, ◌+◌, ◌<◌, ◌≤◌, max, Bool, true, false, not, cond, List, [], ◌∷◌, length, Option, Some, None, is_some, unwrap_or, Result, Ok, Err, refl, sym, ap}
+use Rattle.std.proofs.Common.{◌∙◌, subst, arith}
 use Rattle.std.specs.List.{remove as removed}
 use Rattle.std.specs.Ordering.{nat_cmp}
 use Rattle.std.specs.Cmp.Lexicographic.{slice_cmp, nat_list_cmp_total}
@@ -17,7 +18,8 @@ use Rattle.object_codec.specs.Forms.{FitsHash, IsLeast}
 use Rattle.pack_pairs.specs.Pairs.{Pair, IsPairPack, FitsPair, IsOnce, IsFirst, pairs, map_of_pairs, longest}
 use Rattle.pack_pairs.proofs.Lists.{length_removed}
 use Rattle.pack_pairs.proofs.Packs.{pair_fits}
-use Rattle.pack_pairs.proofs.Maps.{get_pairs, first_inside, first_second, map_last, map_seconded, map_removed, once_last, once_seconded, once_removed, map_len, longest_last, longest_seconded, longest_removed}
+use Rattle.pack_pairs.proofs.Maps.{get_pairs, first_inside, first_second, map_last, map_seconded, map_removed, once_last, once_seconded, once_removed, map_len, longest_last}
+use Rattle.pack_pairs.proofs.Maps.{longest_seconded, longest_removed}
 use Rattle.rehash_dict.specs.Keyed.{hash_of}
 use Rattle.rehash_dict.specs.Tables.{IsSettled}
 use Rattle.rehash_dict.proofs.Fresh.{placed_bytes}
@@ -69,7 +71,8 @@ index_new list k index is_none is some = twice is_none ∙ ap not (sym (index_th
 
 -- the number of fields after one was given a value
 pub put_len : (map : FieldMap) (list : List Pair) (index : Option ℕ) (k v : List ℕ) → map ≡ map_of_pairs list → IsIndex list k index → len (insert map k v) ≡ len map + cond (is_some index) 0 1
-put_len map list index k v is at = len-insert nat_list_cmp_total map k v ∙ ap (λ b. cond b (len map) (len map + 1)) (ap (λ m. contains_key m k) is ∙ index_there list k index at) ∙ by_test (is_some index) (len map)
+put_len map list index k v is at = len-insert nat_list_cmp_total map k v ∙ ap (λ b. cond b (len map) (len map + 1)) (ap (λ m. contains_key m k) is ∙ index_there list k index at)
+    ∙ by_test (is_some index) (len map)
   where
     by_test : (b : Bool) (n : ℕ) → cond b n (n + 1) ≡ n + cond b 0 1
     by_test true n = omega arith
@@ -127,10 +130,12 @@ module _ (m : Blocks) (self : Fields) (k v : List ℕ) (index : Option ℕ) (sou
       at_most false = omega arith
 
   -- the least form for the new number of fields and the new texts is that to which the packed hash rises
-  pub place_rises : (count : ℕ) (f : Form) → count ≡ len (insert (fields m self) k v) → IsLeast (FitsHash self.limits count (max (length k) (length v))) f → IsRisen self.limits (form_of self) (insert (fields m self) k v) f
+  pub place_rises : (count : ℕ) (f : Form) → count ≡ len (insert (fields m self) k v) → IsLeast (FitsHash self.limits count (max (length k) (length v))) f
+      → IsRisen self.limits (form_of self) (insert (fields m self) k v) f
   place_rises count f counted least =
       subst (λ old. IsRisen self.limits old (insert (fields m self) k v) f) (sym (listpack_of self.body packed))
-      (risen_put self.limits (fields m self) k v count f counted (omega (arith, ap (λ map. longest (entries map)) place_listed.fields_are, map_short self.limits.hash_value (listed_of m self.body) place_listed.short)) least)
+      (risen_put self.limits (fields m self) k v count f counted
+      (omega (arith, ap (λ map. longest (entries map)) place_listed.fields_are, map_short self.limits.hash_value (listed_of m self.body) place_listed.short)) least)
     where
       listpack_of : (body : Body) → form_of_body body ≢ Hashtable → form_of_body body ≡ Listpack
       listpack_of Empty packed = refl
@@ -153,7 +158,8 @@ form_after (Err e) f form P fits is = tt
 -- ---- a listpack took the place of the bytes of a packed hash
 
 -- a listpack of the hash's pairs with a field given a value, within the limits, has the map of that
-pub put_whole : (m : Blocks) (self : Fields) (k v : List ℕ) (index : Option ℕ) (count : ℕ) (bytes : List ℕ) → IsFields m self → form_of self ≢ Hashtable → IsIndex (listed_of m self.body) k index → count ≡ len (insert (fields m self) k v)
+pub put_whole : (m : Blocks) (self : Fields) (k v : List ℕ) (index : Option ℕ) (count : ℕ) (bytes : List ℕ) → IsFields m self → form_of self ≢ Hashtable
+    → IsIndex (listed_of m self.body) k index → count ≡ len (insert (fields m self) k v)
     → count ≤ self.limits.hash_entries → max (length k) (length v) ≤ self.limits.hash_value → IsPairPack bytes → pairs bytes ≡ put_in (listed_of m self.body) index k v
     → IsFieldPack self.limits count bytes × (map_of_pairs (pairs bytes) ≡ insert (fields m self) k v)
 put_whole m self k v index count bytes sound packed here counted few short pack is =
@@ -172,7 +178,8 @@ put_whole m self k v index count bytes sound packed here counted few short pack 
     )
 
 -- the hash that has such a listpack in the place of its old bytes is changed to that map
-pub pack_changed : (m n : Blocks) (self : Fields) (at : BlockRef) (count : ℕ) (bytes : List ℕ) (map : FieldMap) → IsFields m self → form_of self ≢ Hashtable → n at ≡ Some bytes → Changes m n (refs self) (at ∷ [])
+pub pack_changed : (m n : Blocks) (self : Fields) (at : BlockRef) (count : ℕ) (bytes : List ℕ) (map : FieldMap) → IsFields m self → form_of self ≢ Hashtable → n at ≡ Some bytes
+    → Changes m n (refs self) (at ∷ [])
     → IsFieldPack self.limits count bytes × (map_of_pairs (pairs bytes) ≡ map) → IsChanged m n self (record self { body = Pack (record { at = at; len = count }) }) map
 pack_changed m n self at count bytes map sound packed read changes whole =
     let same : bytes_at n at ≡ bytes = ap (λ o. unwrap_or o []) read in
@@ -235,7 +242,8 @@ none_left m self map none = record {
 }
 
 -- where the only field of a packed hash is taken out, the empty body is placed for what is left
-pub last_placed : (m : Blocks) (self : Fields) (k : List ℕ) (p : Packed) (i : ℕ) → IsFields m self → self.body ≡ Pack p → IsFirst k (listed_of m self.body) i → p.len ≡ 1 → IsPlacedBody m m self Empty (remove (fields m self) k)
+pub last_placed : (m : Blocks) (self : Fields) (k : List ℕ) (p : Packed) (i : ℕ) → IsFields m self → self.body ≡ Pack p → IsFirst k (listed_of m self.body) i → p.len ≡ 1
+    → IsPlacedBody m m self Empty (remove (fields m self) k)
 last_placed m self k p i sound body_is first single =
     let old : IsFieldPack self.limits p.len (bytes_at m p.at) = subst (IsBody m self.limits self.seed) body_is sound.body in
     let list = pairs (bytes_at m p.at) in

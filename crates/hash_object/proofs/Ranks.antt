@@ -47,8 +47,10 @@ module _ (m : Blocks) (b : Body) (t : FieldTable) (is : b ≡ Table t) where
 
   pub behind_in : (place i : ℕ) (o : Option ℕ) → IsNext t (place + 1) o → IsPlace m b i place → MatchOption o (i + 1 ≡ length (listed_of m b)) (λ to. IsPlace m b (i + 1) to)
   behind_in place i o h at =
-      subst (λ c. MatchOption o (i + 1 ≡ length (listed_of m c)) (λ to. IsPlace m c (i + 1) to)) (sym is) (next_stands t (length (listed_of m (Table t))) place i o (slots_len m t.items) h (subst (λ c. IsPlace m c i place) is at))
+      subst (λ c. MatchOption o (i + 1 ≡ length (listed_of m c)) (λ to. IsPlace m c (i + 1) to)) (sym is)
+      (next_stands t (length (listed_of m (Table t))) place i o (slots_len m t.items) h (subst (λ c. IsPlace m c i place) is at))
 
   pub table_pair : (i place : ℕ) (e : Element BlockRef) → item t place ≡ Some e → IsPlace m b i place → pair_of_element m e ≡ slice_index_or (listed_of m b) i ([], [])
   table_pair i place e there at =
-      sym (pair_there m t.items place e there) ∙ ap (λ n. slice_index_or (entries_in m t) n ([], [])) (subst (λ c. IsPlace m c i place) is at).1 ∙ ap (λ c. slice_index_or (listed_of m c) i ([], [])) (sym is)
+      sym (pair_there m t.items place e there) ∙ ap (λ n. slice_index_or (entries_in m t) n ([], [])) (subst (λ c. IsPlace m c i place) is at).1
+      ∙ ap (λ c. slice_index_or (listed_of m c) i ([], [])) (sym is)

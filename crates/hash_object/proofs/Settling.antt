@@ -47,7 +47,8 @@ two_within (x ∷ items) zero (suc j) e f r apart he hf =
   where
     one_within : (items : Slots) (j : ℕ) (f : Element BlockRef) (r : BlockRef) → at_item items j ≡ Some f → times r (f.key ∷ f.value ∷ []) ≤ times r (flat_map names items)
     one_within [] j f r h = cc
-    one_within (y ∷ items) zero f r h = (let here : times r (names y) ≡ times r (f.key ∷ f.value ∷ []) = ap (λ o. times r (names o)) h in omega (arith, here, times-append r (names y) (flat_map names items)))
+    one_within (y ∷ items) zero f r h =
+        (let here : times r (names y) ≡ times r (f.key ∷ f.value ∷ []) = ap (λ o. times r (names o)) h in omega (arith, here, times-append r (names y) (flat_map names items)))
     one_within (y ∷ items) (suc j) f r h = omega (arith, one_within items j f r h, times-append r (names y) (flat_map names items))
 two_within (x ∷ items) (suc i) zero e f r apart he hf =
     let here : times r (names x) ≡ times r (f.key ∷ f.value ∷ []) = ap (λ o. times r (names o)) hf in
@@ -55,7 +56,8 @@ two_within (x ∷ items) (suc i) zero e f r apart he hf =
   where
     one_within : (items : Slots) (j : ℕ) (f : Element BlockRef) (r : BlockRef) → at_item items j ≡ Some f → times r (f.key ∷ f.value ∷ []) ≤ times r (flat_map names items)
     one_within [] j f r h = cc
-    one_within (y ∷ items) zero f r h = (let here : times r (names y) ≡ times r (f.key ∷ f.value ∷ []) = ap (λ o. times r (names o)) h in omega (arith, here, times-append r (names y) (flat_map names items)))
+    one_within (y ∷ items) zero f r h =
+        (let here : times r (names y) ≡ times r (f.key ∷ f.value ∷ []) = ap (λ o. times r (names o)) h in omega (arith, here, times-append r (names y) (flat_map names items)))
     one_within (y ∷ items) (suc j) f r h = omega (arith, one_within items j f r h, times-append r (names y) (flat_map names items))
 two_within (x ∷ items) (suc i) (suc j) e f r apart he hf = omega (arith, two_within items i j e f r (λ same. apart (ap suc same)) he hf, times-append r (names x) (flat_map names items))
 
@@ -68,7 +70,8 @@ apart_from r was none = elim (cases_ref was r) [
   | inr other ↦ omega (arith, ap one_if other)
 ]
 
-module _ (m n : Blocks) (old new : FieldTable) (at : ℕ) (e g : Element BlockRef) (was ref : BlockRef) (k : Keyed m old) (owned : Owned (blocks_of old) m) (found : item old at ≡ Some e) (mine : 0 < times was (e.key ∷ e.value ∷ [])) (p : Changes m n (was ∷ []) (ref ∷ [])) where
+module _ (m n : Blocks) (old new : FieldTable) (at : ℕ) (e g : Element BlockRef) (was ref : BlockRef) (k : Keyed m old) (owned : Owned (blocks_of old) m) (found : item old at ≡ Some e)
+    (mine : 0 < times was (e.key ∷ e.value ∷ [])) (p : Changes m n (was ∷ []) (ref ∷ [])) where
   -- the block that moved stands at most once among the dictionary's blocks
   was_once : times was (blocks_of old) ≤ 1
   was_once = omega (arith, owned was, live-once m was)
@@ -76,7 +79,16 @@ module _ (m n : Blocks) (old new : FieldTable) (at : ℕ) (e g : Element BlockRe
   -- the block that moved is one of the dictionary's
   was_within : (q : BlockRef) → times q (was ∷ []) ≤ times q (blocks_of old)
   was_within q = elim (cases_ref was q) [
-    | inl same ↦ omega (arith, ap (λ r. times r (was ∷ [])) same, ap (λ r. times r (e.key ∷ e.value ∷ [])) same, ap (λ r. times r (blocks_of old)) same, self was, mine, entry_within value_block old at e found was)
+    | inl same ↦ omega (
+      arith,
+      ap (λ r. times r (was ∷ [])) same,
+      ap (λ r. times r (e.key ∷ e.value ∷ [])) same,
+      ap (λ r. times r (blocks_of old)) same,
+      self was,
+      mine,
+      entry_within value_block old at e
+          found was,
+    )
     | inr other ↦ omega (arith, ap one_if other)
   ]
 
@@ -90,7 +102,8 @@ module _ (m n : Blocks) (old new : FieldTable) (at : ℕ) (e g : Element BlockRe
       let both = two_within old.items i at f e was apart there found in
       (kept f.key (has_key old i f there) (omega (arith, both, mine, was_once)), kept f.value (has_value old i f there) (omega (arith, both, mine, was_once)))
 
-  module _ (u : Updates old.items new.items at (Some g)) (l : Keyed n new) (tables : key_tables n new ≡ key_tables m old) (seed : new.seed ≡ old.seed) (top : new.top ≡ old.top) (key_is : n g.key ≡ m e.key) (value_is : n g.value ≡ m e.value)
+  module _ (u : Updates old.items new.items at (Some g)) (l : Keyed n new) (tables : key_tables n new ≡ key_tables m old) (seed : new.seed ≡ old.seed) (top : new.top ≡ old.top)
+      (key_is : n g.key ≡ m e.key) (value_is : n g.value ≡ m e.value)
       (balance : (q : BlockRef) → times q (g.key ∷ g.value ∷ []) + times q (was ∷ []) ≡ times q (e.key ∷ e.value ∷ []) + times q (ref ∷ [])) where
     -- two answers of one option are the same
     is_one : (o : Option (Element BlockRef)) (a b : Element BlockRef) → o ≡ Some a → o ≡ Some b → a ≡ b
@@ -151,7 +164,8 @@ module _ (old new : FieldTable) (at : ℕ) (e g : Element BlockRef) (found : ite
   -- where one element changes and keeps its value's block, only the mark of its field can have another block
   pub stays_field : g.value ≡ e.value → (mark : ℕ) → mark ≢ 2 * at → block_in new.items mark ≡ block_in old.items mark
   stays_field same mark other = (let p = halves mark in elim p.1 [
-    | inl even ↦ ap (block_in new.items) even ∙ even_is new.items p.0 ∙ ap key_slot (u.others p.0 (λ here. other (omega (arith, even, here)))) ∙ sym (ap (block_in old.items) even ∙ even_is old.items p.0)
+    | inl even ↦ ap (block_in new.items) even ∙ even_is new.items p.0 ∙ ap key_slot (u.others p.0 (λ here. other (omega (arith, even, here))))
+        ∙ sym (ap (block_in old.items) even ∙ even_is old.items p.0)
     | inr odd ↦ ap (block_in new.items) odd ∙ odd_is new.items p.0 ∙ slots p.0 ∙ sym (ap (block_in old.items) odd ∙ odd_is old.items p.0)
   ])
     where
@@ -182,7 +196,8 @@ twins_apart m t at e owned found = (
 )
 
 -- the block of a field moved
-pub field_settled : (m n : Blocks) (old new : FieldTable) (at : ℕ) (key ref value : BlockRef) → Keyed m old → Owned (blocks_of old) m → Holds old at key value → n ref ≡ m key → Changes m n (key ∷ []) (ref ∷ []) → Renames old new at ref
+pub field_settled : (m n : Blocks) (old new : FieldTable) (at : ℕ) (key ref value : BlockRef) → Keyed m old → Owned (blocks_of old) m → Holds old at key value → n ref ≡ m key
+    → Changes m n (key ∷ []) (ref ∷ []) → Renames old new at ref
     → IsRelocatedTable m n old new (λ mark. mark ≢ 2 * at)
 field_settled m n old new at key ref value k owned h same p r =
     let e : Element BlockRef = record { key = key; hash = h.hash; value = value } in
@@ -199,14 +214,16 @@ field_settled m n old new at key ref value k owned h same p r =
     is_one o a b h q = cc
 
 -- an element has one value
-pub same_value : (o : Option (Element BlockRef)) (key other : BlockRef) (hash code : ℕ) (v w : BlockRef) → o ≡ Some (record { key = key; hash = hash; value = v }) → o ≡ Some (record { key = other; hash = code; value = w }) → v ≡ w
+pub same_value : (o : Option (Element BlockRef)) (key other : BlockRef) (hash code : ℕ) (v w : BlockRef) → o ≡ Some (record { key = key; hash = hash; value = v })
+    → o ≡ Some (record { key = other; hash = code; value = w }) → v ≡ w
 same_value o key other hash code v w h q = value_of (record { key = key; hash = hash; value = v }) (record { key = other; hash = code; value = w }) h q
   where
     value_of : (a b : Element BlockRef) → o ≡ Some a → o ≡ Some b → a.value ≡ b.value
     value_of a b h q = (let same : a ≡ b = cc in ap (λ (x : Element BlockRef). x.value) same)
 
 -- the block of a value moved
-pub value_settled : (m n : Blocks) (old new : FieldTable) (at : ℕ) (was ref : BlockRef) → Keyed m old → Owned (blocks_of old) m → n ref ≡ m was → Changes m n (was ∷ []) (ref ∷ []) → (s : Swaps old new at was ref)
+pub value_settled : (m n : Blocks) (old new : FieldTable) (at : ℕ) (was ref : BlockRef) → Keyed m old → Owned (blocks_of old) m → n ref ≡ m was → Changes m n (was ∷ []) (ref ∷ [])
+    → (s : Swaps old new at was ref)
     → ((blocks : Blocks) → Keyed blocks old → Keyed blocks new) → ((blocks : Blocks) → key_tables blocks new ≡ key_tables blocks old) → IsRelocatedTable m n old new (λ mark. mark ≢ 2 * at + 1)
 value_settled m n old new at was ref k owned same p s keyed tables =
     let e : Element BlockRef = record { key = s.key; hash = s.hash; value = was } in
@@ -214,7 +231,9 @@ value_settled m n old new at was ref k owned same p s keyed tables =
     let mine : 0 < times was (s.key ∷ was ∷ []) = omega (arith, self was) in
     let key_same : n s.key ≡ m s.key = Owned-others m n (was ∷ []) (ref ∷ []) (blocks_of old) owned p s.key (has_key old at e s.found) (twins_apart m old at e owned s.found).0 in
     let frame = Keyed-frame m n old k (λ i f there. elim (cases_eq i at) [
-      | inl here ↦ (let one' : e ≡ f = is_one (item old at) e f s.found (ap (item old) (sym here) ∙ there) in ap (λ (x : Element BlockRef). n x.key) (sym one') ∙ key_same ∙ ap (λ (x : Element BlockRef). m x.key) one')
+      | inl here ↦
+          (let one' : e ≡ f = is_one (item old at) e f s.found (ap (item old) (sym here) ∙ there) in ap (λ (x : Element BlockRef). n x.key) (sym one') ∙ key_same
+          ∙ ap (λ (x : Element BlockRef). m x.key) one')
       | inr other ↦ (others_kept m n old new at e g was ref k owned s.found mine p i f other there).0
     ]) in
     entry_settled m n old new at e g was ref k owned s.found mine p s.updates (keyed n frame.0) (tables n ∙ frame.1) s.seed s.top key_same same
@@ -249,7 +268,8 @@ calm_none heap t mark none other r low high there = (let same : mark ≡ other =
 -- ---- one after the other
 
 -- moves at marks from a start to below k and then at k are moves at marks from the start to below k + 1
-pub settled_more : (a b c : Blocks) (t u v : FieldTable) (start k : ℕ) → start ≤ k → IsRelocatedTable a b t u (λ i. (i < start) ⊎ (k ≤ i)) → IsRelocatedTable b c u v (λ i. i ≢ k) → IsRelocatedTable a c t v (λ i. (i < start) ⊎ (k + 1 ≤ i))
+pub settled_more : (a b c : Blocks) (t u v : FieldTable) (start k : ℕ) → start ≤ k → IsRelocatedTable a b t u (λ i. (i < start) ⊎ (k ≤ i)) → IsRelocatedTable b c u v (λ i. i ≢ k)
+    → IsRelocatedTable a c t v (λ i. (i < start) ⊎ (k + 1 ≤ i))
 settled_more a b c t u v start k low p q = record {
   keyed = q.keyed;
   fields_are = q.fields_are ∙ p.fields_are;
@@ -265,7 +285,8 @@ settled_more a b c t u v start k low p q = record {
 }
 
 -- marks from a start to k want no move where those below k wanted none and k wants none after a move at k alone
-pub calm_more : (before after : Heap) (u v : FieldTable) (start k : ℕ) → Calmer before after → ((i : ℕ) → i ≢ k → block_in v.items i ≡ block_in u.items i) → IsCalm before u start k → IsCalm after v k (k + 1) → IsCalm after v start (k + 1)
+pub calm_more : (before after : Heap) (u v : FieldTable) (start k : ℕ) → Calmer before after → ((i : ℕ) → i ≢ k → block_in v.items i ≡ block_in u.items i) → IsCalm before u start k
+    → IsCalm after v k (k + 1) → IsCalm after v start (k + 1)
 calm_more before after u v start k calmer others calm here i r low high there = elim (cases_eq i k) [
   | inl same ↦ here i r (omega (arith, same)) high there
   | inr other ↦ calmer.calm r (calm i r low (omega (arith, high, other)) (sym (others i other) ∙ there))

@@ -85,7 +85,8 @@ some_is o x h = subst (λ p. IsSome p) (sym h) refl
 
 -- ---- the blocks of a field and its value were placed
 
-module _ (m n : Blocks) (old : FieldTable) (key at : BlockRef) (field value : List ℕ) (k : Keyed m old) (owned : Owned (blocks_of old) m) (p : Changes m n [] (key ∷ at ∷ [])) (key_is : n key ≡ Some field) (at_is : n at ≡ Some value) where
+module _ (m n : Blocks) (old : FieldTable) (key at : BlockRef) (field value : List ℕ) (k : Keyed m old) (owned : Owned (blocks_of old) m) (p : Changes m n [] (key ∷ at ∷ []))
+    (key_is : n key ≡ Some field) (at_is : n at ≡ Some value) where
   -- where the blocks of a field and its value are placed, the dictionary's own keep their bytes
   put_same : (r : BlockRef) → IsIn r (blocks_of old) → n r ≡ m r
   put_same r isin = Owned-others m n [] (key ∷ at ∷ []) (blocks_of old) owned p r isin refl
@@ -121,7 +122,8 @@ module _ (m n : Blocks) (old : FieldTable) (key at : BlockRef) (field value : Li
 
 -- ---- a value's block was placed, and the old one given back
 
-module _ (m a n : Blocks) (old new : FieldTable) (i : ℕ) (was at : BlockRef) (value : List ℕ) (k : Keyed m old) (owned : Owned (blocks_of old) m) (p : Changes m a [] (at ∷ [])) (placed : a ≡ with_block m at (Some value)) (s : Swaps old new i was at) where
+module _ (m a n : Blocks) (old new : FieldTable) (i : ℕ) (was at : BlockRef) (value : List ℕ) (k : Keyed m old) (owned : Owned (blocks_of old) m) (p : Changes m a [] (at ∷ []))
+    (placed : a ≡ with_block m at (Some value)) (s : Swaps old new i was at) where
   -- where the new block of a value is placed, the dictionary's own keep their bytes
   swap_same : (r : BlockRef) → IsIn r (blocks_of old) → a r ≡ m r
   swap_same r isin = Owned-others m a [] (at ∷ []) (blocks_of old) owned p r isin refl
@@ -204,7 +206,8 @@ module _ (m : Blocks) (old mid : FieldTable) (field : List ℕ) (key value : Blo
     taken_keyed = (table_kept m n mid l others_same).0
 
     -- the dictionary, shrunk or not since, has its old fields and values without the field that was taken out
-    pub taken_hashed : Grown (hash_of old.seed) (key_tables m old) (key_tables m mid) → Keyed n new → new.items ≡ mid.items → new.seed ≡ mid.seed → Grown (hash_of mid.seed) (key_tables n mid) (key_tables n new)
+    pub taken_hashed : Grown (hash_of old.seed) (key_tables m old) (key_tables m mid) → Keyed n new → new.items ≡ mid.items → new.seed ≡ mid.seed
+        → Grown (hash_of mid.seed) (key_tables n mid) (key_tables n new)
         → IsHashed m n old new (remove (fields_in m old) field)
     taken_hashed grown keyed items seed shrunk = record {
       keyed = keyed;

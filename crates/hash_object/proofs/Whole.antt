@@ -69,7 +69,8 @@ none_yet limits bytes pack none = record {
 }
 
 -- with a pair more that may follow
-pub put_more : (limits : Limits) (count : ℕ) (old new k v : List ℕ) → IsFieldPack limits count old → count < limits.hash_entries → max (length k) (length v) ≤ limits.hash_value → second_of k (pairs old) ≡ None
+pub put_more : (limits : Limits) (count : ℕ) (old new k v : List ℕ) → IsFieldPack limits count old → count < limits.hash_entries → max (length k) (length v) ≤ limits.hash_value
+    → second_of k (pairs old) ≡ None
     → IsPairPack new → pairs new ≡ inserted (pairs old) count (k, v) → IsFieldPack limits (count + 1) new × (pairs new ≡ pairs old ++ (k, v) ∷ [])
 put_more limits count old new k v p few short out pack is =
     let list : pairs new ≡ pairs old ++ (k, v) ∷ [] = is ∙ inserted_last (pairs old) count (k, v) p.counted in (
@@ -148,7 +149,8 @@ listed_kept a b Empty packed same = refl
 listed_kept a b (Pack p) packed same = ap (λ (o : Option (List ℕ)). pairs (unwrap_or o [])) (same p.at (omega (arith, self p.at)))
 listed_kept a b (Table t) packed same = absurd cc
 
-module _ (a b c : Blocks) (f : Fields) (xs : List (List ℕ)) (body : Body) (sound : IsFields a f) (packed : form_of f ≡ Listpack) (placed : IsPlacedWhole a b f xs body) (released : Changes b c (refs f) []) where
+module _ (a b c : Blocks) (f : Fields) (xs : List (List ℕ)) (body : Body) (sound : IsFields a f) (packed : form_of f ≡ Listpack) (placed : IsPlacedWhole a b f xs body)
+    (released : Changes b c (refs f) []) where
   -- a packed hash took the texts, and its old block was given back
   pub whole_changed : IsChanged a c f (record f { body = body }) (map_of_pairs (paired xs))
   whole_changed =

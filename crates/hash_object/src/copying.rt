@@ -32,7 +32,9 @@ fn copy_field<B: BlockStore>(
     requires keyed { Keyed (B.blocks store.old) table.old }
     requires owned { Owned (blocks_of table.old) (B.blocks store.old) }
     requires absent { (k v : List ℕ) → entry_at (B.blocks store.old) (item source.now at) ≡ Some (k, v) → Lacks (B.blocks store.old) table.old k }
-    ensures hashed { OnOk result ((k v : List ℕ) → entry_at (B.blocks store.old) (item source.now at) ≡ Some (k, v) → IsHashed (B.blocks store.old) (B.blocks store.new) table.old table.new (insert (fields_in (B.blocks store.old) table.old) k v)) }
+    ensures hashed { OnOk result
+        ((k v : List ℕ) → entry_at (B.blocks store.old) (item source.now at) ≡ Some (k, v)
+        → IsHashed (B.blocks store.old) (B.blocks store.new) table.old table.new (insert (fields_in (B.blocks store.old) table.old) k v)) }
     ensures served { Served B.step store.old store.new }
     ensures err_table { OnErr result (table.new ≡ table.old) }
     ensures err_blocks { OnErr result (B.blocks store.new ≡ B.blocks store.old) }

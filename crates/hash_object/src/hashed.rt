@@ -69,7 +69,9 @@ fn swap_value<B: BlockStore>(
     requires keyed { Keyed (B.blocks store.old) table.old }
     requires owned { Owned (blocks_of table.old) (B.blocks store.old) }
     requires entry { IsSome (item table.old at) }
-    ensures hashed { OnOk result (IsHashed (B.blocks store.old) (B.blocks store.new) table.old table.new (insert (fields_in (B.blocks store.old) table.old) (key_of (B.blocks store.old) (item table.old at)) value.now)) }
+    ensures hashed { OnOk result
+        (IsHashed (B.blocks store.old) (B.blocks store.new) table.old table.new
+        (insert (fields_in (B.blocks store.old) table.old) (key_of (B.blocks store.old) (item table.old at)) value.now)) }
     ensures served { Served B.step store.old store.new }
     ensures err_table { OnErr result (table.new ≡ table.old) }
     ensures err_blocks { OnErr result (B.blocks store.new ≡ B.blocks store.old) }
@@ -92,7 +94,8 @@ fn overwrite_value<B: BlockStore>(
     requires owned { Owned (blocks_of table.now) (B.blocks store.old) }
     requires entry { (key : BlockRef) × Holds table.now at key old }
     requires same { length (bytes_at (B.blocks store.old) old) ≡ length value.now }
-    ensures hashed { IsHashed (B.blocks store.old) (B.blocks store.new) table.now table.now (insert (fields_in (B.blocks store.old) table.now) (key_of (B.blocks store.old) (item table.now at)) value.now) }
+    ensures hashed { IsHashed (B.blocks store.old) (B.blocks store.new) table.now table.now
+        (insert (fields_in (B.blocks store.old) table.now) (key_of (B.blocks store.old) (item table.now at)) value.now) }
     ensures served { Served B.step store.old store.new }
 {
     store.write(old, 0, value);
@@ -109,7 +112,9 @@ fn put_value<B: BlockStore>(
     requires keyed { Keyed (B.blocks store.old) table.old }
     requires owned { Owned (blocks_of table.old) (B.blocks store.old) }
     requires entry { IsSome (item table.old at) }
-    ensures hashed { OnOk result (IsHashed (B.blocks store.old) (B.blocks store.new) table.old table.new (insert (fields_in (B.blocks store.old) table.old) (key_of (B.blocks store.old) (item table.old at)) value.now)) }
+    ensures hashed { OnOk result
+        (IsHashed (B.blocks store.old) (B.blocks store.new) table.old table.new
+        (insert (fields_in (B.blocks store.old) table.old) (key_of (B.blocks store.old) (item table.old at)) value.now)) }
     ensures served { Served B.step store.old store.new }
     ensures err_table { OnErr result (table.new ≡ table.old) }
     ensures err_blocks { OnErr result (B.blocks store.new ≡ B.blocks store.old) }
@@ -160,7 +165,8 @@ fn hash_elements<B: BlockStore>(
     requires keyed { Keyed (B.blocks store.old) table.old }
     requires owned { Owned (blocks_of table.old) (B.blocks store.old) }
     requires absent { Lacks (B.blocks store.old) table.old (element_text field) }
-    ensures hashed { OnOk result (IsHashed (B.blocks store.old) (B.blocks store.new) table.old table.new (insert (fields_in (B.blocks store.old) table.old) (element_text field.entry) (element_text value.entry))) }
+    ensures hashed { OnOk result
+        (IsHashed (B.blocks store.old) (B.blocks store.new) table.old table.new (insert (fields_in (B.blocks store.old) table.old) (element_text field.entry) (element_text value.entry))) }
     ensures served { Served B.step store.old store.new }
     ensures err_table { OnErr result (table.new ≡ table.old) }
     ensures err_blocks { OnErr result (B.blocks store.new ≡ B.blocks store.old) }

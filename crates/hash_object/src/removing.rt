@@ -88,7 +88,8 @@ impl Fields {
 
         ensures err_fields { OnErr result (form_of self.old ≢ Form.Hashtable → self.new ≡ self.old) }
         ensures err_blocks { OnErr result (form_of self.old ≢ Form.Hashtable → B.blocks store.new ≡ B.blocks store.old) }
-        ensures err_removed { OnErr result (form_of self.old ≡ Form.Hashtable → IsChanged (B.blocks store.old) (B.blocks store.new) self.old self.new (remove (fields (B.blocks store.old) self.old) field.now)) }
+        ensures err_removed { OnErr result
+            (form_of self.old ≡ Form.Hashtable → IsChanged (B.blocks store.old) (B.blocks store.new) self.old self.new (remove (fields (B.blocks store.old) self.old) field.now)) }
     {
         if let Body::Table(table) = &mut self.body {
             return unhash_field(store, table, field);

@@ -61,7 +61,9 @@ fn put_elements(
     requires few { count < limits.now.hash_entries }
     ensures pack { IfOk result (λ made. IfSome made (λ new. IsFieldPack limits.now (count + 1) new.items)) }
     ensures list { IfOk result (λ made. IfSome made (λ new. pairs new.items ≡ pairs pack.items ++ (element_text field.entry, element_text value.entry) ∷ [])) }
-    ensures none { IfOk result (λ made. IfNone made (second_of (element_text field.entry) (pairs pack.items) ≡ None → max (length (element_text field.entry)) (length (element_text value.entry)) ≤ limits.now.hash_value → ⊥)) }
+    ensures none { IfOk result
+        (λ made. IfNone made
+        (second_of (element_text field.entry) (pairs pack.items) ≡ None → max (length (element_text field.entry)) (length (element_text value.entry)) ≤ limits.now.hash_value → ⊥)) }
 {
     let (mut field_room, mut value_room) = (Buffer::new(), Buffer::new());
     let first = text(field, &mut field_room);

@@ -35,7 +35,8 @@ pub record InOrder {V : Type 0} (IsSound : Limits → ℕ → Blocks → V → T
 module _ {V : Type 0} {IsSound : Limits → ℕ → Blocks → V → Type 0} (m : Blocks) (old new : Bases V) (db : ℕ) (a : IsArranged IsSound old m) where
   module _ (c : ChangesTable old new db) (keyed : Keyed m (table_at new db)) where
     -- the deadlines are those that were there
-    stay_timed : IsTimed m (table_at new db) (deadlines_at old db) → (table_at new db).seed ≡ (table_at old db).seed → ((at : ℕ) (e : Element V) → item (table_at new db) at ≡ Some e → IsSound old.limits old.seed m e.value) → InOrder IsSound m old new db
+    stay_timed : IsTimed m (table_at new db) (deadlines_at old db) → (table_at new db).seed ≡ (table_at old db).seed
+        → ((at : ℕ) (e : Element V) → item (table_at new db) at ≡ Some e → IsSound old.limits old.seed m e.value) → InOrder IsSound m old new db
     stay_timed t seed values = record {
       keyed = keyed;
       values = values;
@@ -56,7 +57,8 @@ module _ {V : Type 0} {IsSound : Limits → ℕ → Blocks → V → Type 0} (m 
         ]
 
     -- a database stays in order where a key without a deadline leaves its key table
-    pub order_removes : (key : List ℕ) (ref : BlockRef) (value : V) → Removes m (table_at old db) (table_at new db) key ref value → Lacks m (deadlines_at old db).table key → InOrder IsSound m old new db
+    pub order_removes : (key : List ℕ) (ref : BlockRef) (value : V) → Removes m (table_at old db) (table_at new db) key ref value → Lacks m (deadlines_at old db).table key
+        → InOrder IsSound m old new db
     order_removes key ref value l lacks = stay_timed (timed_removes m (table_at old db) (table_at new db) (deadlines_at old db) key ref value l lacks (a.timed db)) l.seed each
       where
         each : (i : ℕ) (e : Element V) → item (table_at new db) i ≡ Some e → IsSound old.limits old.seed m e.value
@@ -110,7 +112,8 @@ module _ {V : Type 0} (f g : V → List BlockRef) where
   pub owned_same : (bases : Bases V) → ((db at : ℕ) (e : Element V) → item (table_at bases db) at ≡ Some e → g e.value ≡ f e.value) → owned g bases ≡ owned f bases
   owned_same bases all = in_list bases.bases all
     where
-      in_list : (list : List (Base V)) → ((db at : ℕ) (e : Element V) → item (get_or list db (no_base 0)).keys at ≡ Some e → g e.value ≡ f e.value) → flat_map (λ (b : Base V). refs g b.keys) list ≡ flat_map (λ (b : Base V). refs f b.keys) list
+      in_list : (list : List (Base V)) → ((db at : ℕ) (e : Element V) → item (get_or list db (no_base 0)).keys at ≡ Some e → g e.value ≡ f e.value)
+          → flat_map (λ (b : Base V). refs g b.keys) list ≡ flat_map (λ (b : Base V). refs f b.keys) list
       in_list [] all = refl
       in_list (b ∷ list) all = λ i. refs_same b.keys (λ at e is. all 0 at e is) i ++ in_list list (λ db at e is. all (suc db) at e is) i
 
@@ -131,7 +134,8 @@ module _ {V : Type 0} (refs_of : V → List BlockRef) where
       in_list (b ∷ list) (suc db) = omega (arith, times-append r (base_refs b) (flat_map base_refs list), in_list list db)
 
   -- one database changes
-  pub owned_changed : (old new : Bases V) (db : ℕ) → ChangesBase old new db → (r : BlockRef) → times r (owned refs_of new) + times r (refs refs_of (table_at old db)) ≡ times r (owned refs_of old) + times r (refs refs_of (table_at new db))
+  pub owned_changed : (old new : Bases V) (db : ℕ) → ChangesBase old new db → (r : BlockRef)
+      → times r (owned refs_of new) + times r (refs refs_of (table_at old db)) ≡ times r (owned refs_of old) + times r (refs refs_of (table_at new db))
   owned_changed old new db c r = times_changed base_refs (no_base 0) refl r old.bases new.bases db c.others
 
   -- the deadlines own nothing
@@ -146,13 +150,15 @@ module _ {V : Type 0} (refs_of : V → List BlockRef) where
         omega (arith, none, refs_changed refs_of (table_at old db) (table_at new db) at (Some e) a.updates r, owned_changed old new db c r)
 
     -- where a key leaves, the databases owned its key block and its value's blocks besides what they own
-    pub owned_leaves : (m : Blocks) (key : List ℕ) (ref : BlockRef) (value : V) → Removes m (table_at old db) (table_at new db) key ref value → times r (owned refs_of old) ≡ times r (owned refs_of new) + times r (ref ∷ refs_of value)
+    pub owned_leaves : (m : Blocks) (key : List ℕ) (ref : BlockRef) (value : V) → Removes m (table_at old db) (table_at new db) key ref value
+        → times r (owned refs_of old) ≡ times r (owned refs_of new) + times r (ref ∷ refs_of value)
     owned_leaves m key ref value l =
         let there : times r (own_of refs_of (item (table_at old db) l.at)) ≡ times r (ref ∷ refs_of value) = ap (λ o. times r (own_of refs_of o)) l.found in
         omega (arith, there, refs_changed refs_of (table_at old db) (table_at new db) l.at None l.updates r, owned_changed old new db c r)
 
     -- where a value takes the place of another, its blocks take the place of the other's among those owned
-    pub owned_swaps : (at : ℕ) (was value : V) → Swaps (table_at old db) (table_at new db) at was value → times r (owned refs_of new) + times r (refs_of was) ≡ times r (owned refs_of old) + times r (refs_of value)
+    pub owned_swaps : (at : ℕ) (was value : V) → Swaps (table_at old db) (table_at new db) at was value
+        → times r (owned refs_of new) + times r (refs_of was) ≡ times r (owned refs_of old) + times r (refs_of value)
     owned_swaps at was value s =
         let there : times r (own_of refs_of (item (table_at old db) at)) ≡ times r (s.key ∷ refs_of was) = ap (λ o. times r (own_of refs_of o)) s.found in
         omega (arith, there, refs_changed refs_of (table_at old db) (table_at new db) at (Some (record { key = s.key; hash = s.hash; value = value })) s.updates r, owned_changed old new db c r)
@@ -164,7 +170,8 @@ module _ {V : Type 0} {IsSound : Limits → ℕ → Blocks → V → Type 0} (re
     -- what is named and doesn't change keeps its bytes
     pub kept_named : (r : BlockRef) → 0 < times r (owned (refs_of m) bases) + times r out → times r xs ≡ 0 → after r ≡ m r
     kept_named r named apart =
-        Owned-others m after xs ys (owned (refs_of m) bases ++ out) (λ q. omega (arith, times-append q (owned (refs_of m) bases) out, intact.owned q)) p r (omega (arith, times-append r (owned (refs_of m) bases) out, named)) apart
+        Owned-others m after xs ys (owned (refs_of m) bases ++ out) (λ q. omega (arith, times-append q (owned (refs_of m) bases) out, intact.owned q)) p r
+        (omega (arith, times-append r (owned (refs_of m) bases) out, named)) apart
 
     module _ (part : (r : BlockRef) → times r xs ≤ times r out) where
       -- what changes was out, so what the databases own stays
@@ -174,7 +181,8 @@ module _ {V : Type 0} {IsSound : Limits → ℕ → Blocks → V → Type 0} (re
       -- where only blocks that were out change, each element's key keeps its bytes and its value its meaning
       kept_table : (db at : ℕ) (e : Element V) → item (table_at bases db) at ≡ Some e → (after e.key ≡ m e.key) × (value_of after e.value ≡ value_of m e.value)
       kept_table db at e found =
-          let named : (r : BlockRef) → 0 < times r (e.key ∷ refs_of m e.value) → after r ≡ m r = (λ r one. kept_inside r (omega (arith, one, named_in (refs_of m) (table_at bases db) at e r found, table_owned (refs_of m) bases db r))) in
+          let named : (r : BlockRef) → 0 < times r (e.key ∷ refs_of m e.value)
+          → after r ≡ m r = (λ r one. kept_inside r (omega (arith, one, named_in (refs_of m) (table_at bases db) at e r found, table_owned (refs_of m) bases db r))) in
           (named e.key (let itself : one_if (ref_eq e.key e.key) ≡ 1 = cond-true _ _ _ (ref_eq-refl e.key) in omega (arith, itself)), own.means m after e.value (λ r one. named r (omega (arith, one))))
 
       -- where only blocks that were out change, the keys of each table stay live blocks whose bytes differ
@@ -188,13 +196,15 @@ module _ {V : Type 0} {IsSound : Limits → ℕ → Blocks → V → Type 0} (re
       -- where only blocks that were out change, each value stays sound
       kept_values : (db at : ℕ) (e : Element V) → item (table_at bases db) at ≡ Some e → IsSound bases.limits bases.seed after e.value
       kept_values db at e found =
-          let named : (r : BlockRef) → 0 < times r (e.key ∷ refs_of m e.value) → after r ≡ m r = (λ r one. kept_inside r (omega (arith, one, named_in (refs_of m) (table_at bases db) at e r found, table_owned (refs_of m) bases db r))) in
+          let named : (r : BlockRef) → 0 < times r (e.key ∷ refs_of m e.value)
+          → after r ≡ m r = (λ r one. kept_inside r (omega (arith, one, named_in (refs_of m) (table_at bases db) at e r found, table_owned (refs_of m) bases db r))) in
           own.stays bases.limits bases.seed m after e.value (λ r one. named r (omega (arith, one))) (intact.arranged.values db at e found)
 
       -- where only blocks that were out change, each value owns what it owned
       pub refs_out : (db at : ℕ) (e : Element V) → item (table_at bases db) at ≡ Some e → refs_of after e.value ≡ refs_of m e.value
       refs_out db at e found =
-          let named : (r : BlockRef) → 0 < times r (e.key ∷ refs_of m e.value) → after r ≡ m r = (λ r one. kept_inside r (omega (arith, one, named_in (refs_of m) (table_at bases db) at e r found, table_owned (refs_of m) bases db r))) in
+          let named : (r : BlockRef) → 0 < times r (e.key ∷ refs_of m e.value)
+          → after r ≡ m r = (λ r one. kept_inside r (omega (arith, one, named_in (refs_of m) (table_at bases db) at e r found, table_owned (refs_of m) bases db r))) in
           own.refs m after e.value (λ r one. named r (omega (arith, one)))
 
       -- and so the databases do
@@ -203,7 +213,16 @@ module _ {V : Type 0} {IsSound : Limits → ℕ → Blocks → V → Type 0} (re
 
       -- where only blocks that were out change, the databases stay arranged
       pub arranged_out : IsArranged IsSound bases after
-      arranged_out = record { keyed = kept_keyed; timed = λ db. (kept_timed db).0; values = kept_values; sixteen = intact.arranged.sixteen; limits = intact.arranged.limits; seeds = intact.arranged.seeds; turn = intact.arranged.turn }
+      arranged_out = record {
+        keyed = kept_keyed;
+        timed = λ db. (kept_timed db).0;
+        values = kept_values;
+        sixteen = intact.arranged.sixteen;
+        limits = intact.arranged.limits;
+        seeds =
+            intact.arranged.seeds;
+        turn = intact.arranged.turn;
+      }
 
       -- where only blocks that were out change, each key table means the keys and values that it meant
       values_out : (db : ℕ) → map_of after (value_of after) (table_at bases db) ≡ map_of m (value_of m) (table_at bases db)
@@ -238,10 +257,11 @@ module _ {V : Type 0} {IsSound : Limits → ℕ → Blocks → V → Type 0} (re
         | inl here ↦ subst (λ n. IsTimed m (table_at new n) (deadlines_at new n)) (sym here) order.timed
         | inr other ↦ subst (λ (b : Base V). IsTimed m b.keys b.deadlines) (sym (c.others number other)) (a.timed number)
       ];
-      values = λ number at e found. subst (λ limits. IsSound limits new.seed m e.value) (sym c.settings.limits) (subst (λ seed. IsSound old.limits seed m e.value) (sym c.settings.seed) (elim (cases_eq number db) [
-        | inl here ↦ order.values at e (subst (λ n. item (table_at new n) at ≡ Some e) here found)
-        | inr other ↦ a.values number at e (ap (λ (b : Base V). item b.keys at) (sym (c.others number other)) ∙ found)
-      ]));
+      values = λ number at e found. subst (λ limits. IsSound limits new.seed m e.value) (sym c.settings.limits)
+          (subst (λ seed. IsSound old.limits seed m e.value) (sym c.settings.seed) (elim (cases_eq number db) [
+            | inl here ↦ order.values at e (subst (λ n. item (table_at new n) at ≡ Some e) here found)
+            | inr other ↦ a.values number at e (ap (λ (b : Base V). item b.keys at) (sym (c.others number other)) ∙ found)
+          ]));
       sixteen = c.count ∙ a.sixteen;
       limits = subst AreInRange (sym c.settings.limits) a.limits;
       seeds = λ number within. subst (HasSeed (base_at new number)) (sym c.settings.seed) (elim (cases_eq number db) [
@@ -263,14 +283,16 @@ module _ {V : Type 0} {IsSound : Limits → ℕ → Blocks → V → Type 0} (re
 
     module _ (out : List BlockRef) (intact : IsIntact refs_of IsSound old m out) (order : InOrder IsSound m old new db) where
       -- a value takes the place of another
-      pub swapped_intact : (at : ℕ) (was value : V) → Swaps (table_at old db) (table_at new db) at was value → (later : List BlockRef) → ((r : BlockRef) → times r later + times r (refs_of m value) ≡ times r out + times r (refs_of m was)) → IsIntact refs_of IsSound new m later
+      pub swapped_intact : (at : ℕ) (was value : V) → Swaps (table_at old db) (table_at new db) at was value → (later : List BlockRef)
+          → ((r : BlockRef) → times r later + times r (refs_of m value) ≡ times r out + times r (refs_of m was)) → IsIntact refs_of IsSound new m later
       swapped_intact at was value s later same = record {
         owned = λ r. omega (arith, intact.owned r, same r, owned_swaps (refs_of m) old new db c r at was value s);
         arranged = arranged_changed intact.arranged order;
       }
 
       -- an element joins
-      pub joined_intact : (at : ℕ) (e : Element V) → Adds (table_at old db) (table_at new db) at e → (later : List BlockRef) → ((r : BlockRef) → times r later + times r (e.key ∷ refs_of m e.value) ≡ times r out) → IsIntact refs_of IsSound new m later
+      pub joined_intact : (at : ℕ) (e : Element V) → Adds (table_at old db) (table_at new db) at e → (later : List BlockRef)
+          → ((r : BlockRef) → times r later + times r (e.key ∷ refs_of m e.value) ≡ times r out) → IsIntact refs_of IsSound new m later
       joined_intact at e a later same = record {
         owned = λ r. omega (arith, intact.owned r, same r, owned_joins (refs_of m) old new db c r at e a);
         arranged = arranged_changed intact.arranged order;
@@ -279,7 +301,8 @@ module _ {V : Type 0} {IsSound : Limits → ℕ → Blocks → V → Type 0} (re
   module _ (old new : Bases V) (db : ℕ) (m : Blocks) where
     -- a key gets a value and a deadline
     pub put_means : ChangesBase old new db → (key : List ℕ) (value : Value) (deadline : Option ℕ) → map_of m (value_of m) (table_at new db) ≡ insert (map_of m (value_of m) (table_at old db)) key value
-        → moments m (deadlines_at new db) ≡ with_deadline (moments m (deadlines_at old db)) key deadline → means value_of db new m ≡ put (means value_of db old m) key (record { value = value; deadline = deadline })
+        → moments m (deadlines_at new db) ≡ with_deadline (moments m (deadlines_at old db)) key deadline
+        → means value_of db new m ≡ put (means value_of db old m) key (record { value = value; deadline = deadline })
     put_means c key value deadline values times =
         means_changed old new db m c _ ((λ i. with_deadlines (values i) (times i)) ∙ with_put (map_of m (value_of m) (table_at old db)) (moments m (deadlines_at old db)) key value deadline)
 
@@ -290,7 +313,8 @@ module _ {V : Type 0} {IsSound : Limits → ℕ → Blocks → V → Type 0} (re
 
     module _ (a : IsArranged IsSound old m) (at : ℕ) where
       -- a value takes the place of another: the key keeps its deadline
-      pub swapped_means : ChangesTable old new db → Keyed m (table_at new db) → (was value : V) (s : Swaps (table_at old db) (table_at new db) at was value) (key : List ℕ) → m s.key ≡ Some key → (deadline : Option ℕ) → get (moments m (deadlines_at old db)) key ≡ deadline
+      pub swapped_means : ChangesTable old new db → Keyed m (table_at new db) → (was value : V) (s : Swaps (table_at old db) (table_at new db) at was value) (key : List ℕ)
+          → m s.key ≡ Some key → (deadline : Option ℕ) → get (moments m (deadlines_at old db)) key ≡ deadline
           → means value_of db new m ≡ put (means value_of db old m) key (record { value = value_of m value; deadline = deadline })
       swapped_means c keyed was value s key bytes deadline lasts =
           put_means c.base key (value_of m value) deadline
@@ -299,7 +323,8 @@ module _ {V : Type 0} {IsSound : Limits → ℕ → Blocks → V → Type 0} (re
           (ap (moments m) c.deadlines ∙ sym (same_deadline (moments m (deadlines_at old db)) key deadline lasts))
 
       -- an element joins
-      pub joined_means : ChangesBase old new db → Keyed m (table_at new db) → (e : Element V) → Adds (table_at old db) (table_at new db) at e → (key : List ℕ) → m e.key ≡ Some key → (deadline : Option ℕ) → moments m (deadlines_at new db) ≡ with_deadline (moments m (deadlines_at old db)) key deadline
+      pub joined_means : ChangesBase old new db → Keyed m (table_at new db) → (e : Element V) → Adds (table_at old db) (table_at new db) at e → (key : List ℕ) → m e.key ≡ Some key
+          → (deadline : Option ℕ) → moments m (deadlines_at new db) ≡ with_deadline (moments m (deadlines_at old db)) key deadline
           → means value_of db new m ≡ put (means value_of db old m) key (record { value = value_of m e.value; deadline = deadline })
       joined_means c keyed e adds key bytes deadline times =
           put_means c key (value_of m e.value) deadline
@@ -307,7 +332,8 @@ module _ {V : Type 0} {IsSound : Limits → ℕ → Blocks → V → Type 0} (re
           ∙ ap (λ k. insert (map_of m (value_of m) (table_at old db)) k (value_of m e.value)) (some_bytes m e.key key bytes)) times
 
     -- a key's deadline is set, or goes
-    pub retimed_means : (c : ChangesDeadlines old new db) (key : List ℕ) (value : Value) → get (map_of m (value_of m) (table_at old db)) key ≡ Some value → (deadline : Option ℕ) → moments m (deadlines_at new db) ≡ with_deadline (moments m (deadlines_at old db)) key deadline
+    pub retimed_means : (c : ChangesDeadlines old new db) (key : List ℕ) (value : Value) → get (map_of m (value_of m) (table_at old db)) key ≡ Some value → (deadline : Option ℕ)
+        → moments m (deadlines_at new db) ≡ with_deadline (moments m (deadlines_at old db)) key deadline
         → means value_of db new m ≡ put (means value_of db old m) key (record { value = value; deadline = deadline })
     retimed_means c key value there deadline times =
         put_means c.base key value deadline (ap (map_of m (value_of m)) c.keys ∙ sym (same_value (map_of m (value_of m) (table_at old db)) key value there)) times
@@ -318,14 +344,16 @@ module _ {V : Type 0} {IsSound : Limits → ℕ → Blocks → V → Type 0} (re
       where
         each : (number : ℕ) → base_means value_of m (base_at new number) ≡ base_means value_of m (base_at old number)
         each number = elim (cases_eq number db) [
-          | inl here ↦ ap (λ n. base_means value_of m (base_at new n)) here ∙ (λ i. with_deadlines (map_of m (value_of m) (c.keys i)) (times i)) ∙ sym (ap (λ n. base_means value_of m (base_at old n)) here)
+          | inl here ↦ ap (λ n. base_means value_of m (base_at new n)) here ∙ (λ i. with_deadlines (map_of m (value_of m) (c.keys i)) (times i))
+              ∙ sym (ap (λ n. base_means value_of m (base_at old n)) here)
           | inr other ↦ ap (base_means value_of m) (c.base.others number other)
         ]
 
   -- ---- soundness after a call
 
   -- where a call changes what was owned and a part of what was out, the databases are sound beside the rest
-  pub sound_after : (old new : Bases V) (m after : Blocks) (xs part all out : List BlockRef) → SoundBeside refs_of IsSound old m all → AreParts all part out → AreParts xs (owned (refs_of m) old) part → Changes m after xs (owned (refs_of after) new) → IsArranged IsSound new after → SoundBeside refs_of IsSound new after out
+  pub sound_after : (old new : Bases V) (m after : Blocks) (xs part all out : List BlockRef) → SoundBeside refs_of IsSound old m all → AreParts all part out
+      → AreParts xs (owned (refs_of m) old) part → Changes m after xs (owned (refs_of after) new) → IsArranged IsSound new after → SoundBeside refs_of IsSound new after out
   sound_after old new m after xs part all out sound parts taken p arranged = record {
     owns = λ r. omega (arith, sound.owns r, parts r, taken r, (Counts-changed m after xs (owned (refs_of after) new) (λ q. omega (arith, sound.owns q, parts q, taken q)) p).balance r);
     arranged = arranged;
@@ -336,9 +364,12 @@ module _ {V : Type 0} {IsSound : Limits → ℕ → Blocks → V → Type 0} (re
   sound_intact bases m out sound = record { owned = λ r. omega (arith, sound.owns r); arranged = sound.arranged }
 
   -- where the call took nothing in
-  pub sound_kept : (old new : Bases V) (m after : Blocks) → Changes m after (owned (refs_of m) old) (owned (refs_of after) new) → IsArranged IsSound new after → (out : List BlockRef) → SoundBeside refs_of IsSound old m out → SoundBeside refs_of IsSound new after out
+  pub sound_kept : (old new : Bases V) (m after : Blocks) → Changes m after (owned (refs_of m) old) (owned (refs_of after) new) → IsArranged IsSound new after → (out : List BlockRef)
+      → SoundBeside refs_of IsSound old m out → SoundBeside refs_of IsSound new after out
   sound_kept old new m after p arranged out sound = sound_after old new m after (owned (refs_of m) old) [] out out sound (λ r. omega arith) (λ r. omega arith) p arranged
 
   -- where it took the references in that are no longer out
-  pub sound_joined : (old new : Bases V) (m after : Blocks) (part : List BlockRef) → Changes m after (owned (refs_of m) old ++ part) (owned (refs_of after) new) → IsArranged IsSound new after → (all out : List BlockRef) → SoundBeside refs_of IsSound old m all → AreParts all part out → SoundBeside refs_of IsSound new after out
-  sound_joined old new m after part p arranged all out sound parts = sound_after old new m after (owned (refs_of m) old ++ part) part all out sound parts (λ r. times-append r (owned (refs_of m) old) part) p arranged
+  pub sound_joined : (old new : Bases V) (m after : Blocks) (part : List BlockRef) → Changes m after (owned (refs_of m) old ++ part) (owned (refs_of after) new)
+      → IsArranged IsSound new after → (all out : List BlockRef) → SoundBeside refs_of IsSound old m all → AreParts all part out → SoundBeside refs_of IsSound new after out
+  sound_joined old new m after part p arranged all out sound parts =
+      sound_after old new m after (owned (refs_of m) old ++ part) part all out sound parts (λ r. times-append r (owned (refs_of m) old) part) p arranged

@@ -1,5 +1,6 @@
 -- The calls of a keyspace, step by step.
-use Rattle.std.proofs.Common.{◌≡◌, ◌⊎◌, inl, inr, ℕ, zero, suc, ◌+◌, ◌≤◌, ◌<◌, false, true, List, [], ◌∷◌, ◌++◌, length, flat_map, replicate, get_or, Option, Some, None, is_some, Result, Ok, Err, OnOk, OnErr, IfSome, refl, sym, ap, ◌∙◌, subst, arith}
+use Rattle.std.proofs.Common.{◌≡◌, ◌⊎◌, inl, inr, ℕ, zero, suc, ◌+◌, ◌≤◌, ◌<◌, false, true, List, [], ◌∷◌, ◌++◌, length, flat_map, replicate, get_or, Option, Some, None, is_some, Result}
+use Rattle.std.proofs.Common.{Ok, Err, OnOk, OnErr, IfSome, refl, sym, ap, ◌∙◌, subst, arith}
 use Rattle.object_codec.specs.declared.limits.Limits.{Limits}
 use Rattle.std.specs.FinMap.{get, insert, remove}
 use Rattle.std.proofs.lemmas.Bool.{cases_eq}
@@ -30,11 +31,14 @@ use Rattle.held.proofs.Maps.{entry_with, get_with, with_none, got_deadline}
 use Rattle.held.proofs.Tables.{key_itself, some_bytes, named_in, Keyed-none}
 use Rattle.held.proofs.Timing.{timed_sets, timed_clears, timed_none, untimed, moments_lack}
 use Rattle.held.proofs.Joining.{sets_seed}
-use Rattle.held.proofs.Bases.{InOrder, order_swaps, order_removes, order_times, base_then, order_then, owned_out, table_owned, owned_changed, owned_times, owned_joins, owned_swaps, owned_leaves, kept_named, kept_inside, arranged_out, arranged_changed, means_out, intact_out, means_changed, remove_base, swapped_intact, swapped_means, joined_intact, joined_means, retimed_means, same_times}
+use Rattle.held.proofs.Bases.{InOrder, order_swaps, order_removes, order_times, base_then, order_then, owned_out, table_owned, owned_changed, owned_times, owned_joins, owned_swaps}
+use Rattle.held.proofs.Bases.{owned_leaves, kept_named, kept_inside, arranged_out, arranged_changed, means_out, intact_out, means_changed, remove_base, swapped_intact, swapped_means}
+use Rattle.held.proofs.Bases.{joined_intact, joined_means, retimed_means, same_times}
 
 -- a database without a key means none
 pub no_base_means : {V : Type 0} (value_of : Blocks → V → Value) (m : Blocks) (number : ℕ) → base_means value_of m (no_base {V = V} number) ≡ model.no_keys
-no_base_means {V} value_of m number = ap (λ values. with_deadlines values (moments m (no_base {V = V} number).deadlines)) (map_of-empty m (value_of m) (no_keys number) refl) ∙ with_none (moments m (no_base {V = V} number).deadlines)
+no_base_means {V} value_of m number = ap (λ values. with_deadlines values (moments m (no_base {V = V} number).deadlines)) (map_of-empty m (value_of m) (no_keys number) refl)
+    ∙ with_none (moments m (no_base {V = V} number).deadlines)
 
 module _ {V : Type 0} (refs_of : V → List BlockRef) where
   -- an element's references are among those that the databases own
@@ -57,7 +61,8 @@ module _ {V : Type 0} {IsSound : Limits → ℕ → Blocks → V → Type 0} (re
     look_lacks lacks = look_is ∙ ap (λ o. entry_with o (get (moments m (deadlines_at bases db)) key)) (map_of-lacks m (value_of m) (table_at bases db) key (a.keyed db) lacks)
 
     -- at the key of an element stands what its value means, with the deadline of the key
-    pub look_stands : (at : ℕ) (e : Element V) → item (table_at bases db) at ≡ Some e → m e.key ≡ Some key → (deadline : Option ℕ) → get (moments m (deadlines_at bases db)) key ≡ deadline → look (means value_of db bases m) key ≡ Some (record { value = value_of m e.value; deadline = deadline })
+    pub look_stands : (at : ℕ) (e : Element V) → item (table_at bases db) at ≡ Some e → m e.key ≡ Some key → (deadline : Option ℕ) → get (moments m (deadlines_at bases db)) key ≡ deadline
+        → look (means value_of db bases m) key ≡ Some (record { value = value_of m e.value; deadline = deadline })
     look_stands at e found bytes deadline lasts = look_is ∙ (λ i. entry_with (map_of-stands m (value_of m) (table_at bases db) at e key (a.keyed db) found bytes i) (lasts i))
 
     -- a key that isn't there has no deadline
@@ -78,7 +83,8 @@ module _ {V : Type 0} {IsSound : Limits → ℕ → Blocks → V → Type 0} (re
 
   -- ---- keys leave a table with their values, and all their blocks are given back
 
-  module _ (old new : Bases V) (db : ℕ) (m after : Blocks) (c : ChangesBase old new db) (intact : IsIntact refs_of IsSound old m []) (xs : List BlockRef) (gone : (r : BlockRef) → times r (owned (refs_of m) old) ≡ times r (owned (refs_of m) new) + times r xs) (order : InOrder IsSound m old new db) where
+  module _ (old new : Bases V) (db : ℕ) (m after : Blocks) (c : ChangesBase old new db) (intact : IsIntact refs_of IsSound old m []) (xs : List BlockRef)
+      (gone : (r : BlockRef) → times r (owned (refs_of m) old) ≡ times r (owned (refs_of m) new) + times r xs) (order : InOrder IsSound m old new db) where
     -- the blocks of what leaves are live, none of them named twice
     pub left_owned : Owned xs m
     left_owned r = omega (arith, intact.owned r, gone r)
@@ -94,7 +100,8 @@ module _ {V : Type 0} {IsSound : Limits → ℕ → Blocks → V → Type 0} (re
 
       -- giving back the blocks of what left puts what the databases own in place of what they owned
       pub left_changes : Changes m after (owned (refs_of m) old) (owned (refs_of after) new)
-      left_changes = Changes-beside m after xs [] (owned (refs_of m) old) (owned (refs_of after) new) p (λ r. omega (arith, intact.owned r)) (λ r. times r (owned (refs_of m) new)) (λ r. omega (arith, gone r)) (λ r. omega (arith, ap (times r) (owned_out refs_of value_of own new m after xs xs [] left_out p (λ r. omega arith))))
+      left_changes = Changes-beside m after xs [] (owned (refs_of m) old) (owned (refs_of after) new) p (λ r. omega (arith, intact.owned r)) (λ r. times r (owned (refs_of m) new))
+          (λ r. omega (arith, gone r)) (λ r. omega (arith, ap (times r) (owned_out refs_of value_of own new m after xs xs [] left_out p (λ r. omega arith))))
 
       -- what the database means over the store before is what it means afterwards
       pub left_means : (base : Database) → base_means value_of m (base_at new db) ≡ base → means value_of db new after ≡ with_base (means value_of db old m) base
@@ -103,7 +110,9 @@ module _ {V : Type 0} {IsSound : Limits → ℕ → Blocks → V → Type 0} (re
           ∙ means_changed refs_of value_of own old new db m c base is
 
   -- a key's deadline goes, and then the key
-  module _ (old mid : Bases V) (db : ℕ) (m : Blocks) (a : IsArranged IsSound old m) (key : List ℕ) (c : ChangesDeadlines old mid db) (times_are : moments m (deadlines_at mid db) ≡ remove (moments m (deadlines_at old db)) key) (cleared : Clears m (deadlines_at old db).table (deadlines_at mid db).table key ⊎ ((mid ≡ old) × Lacks m (deadlines_at old db).table key))
+  module _ (old mid : Bases V) (db : ℕ) (m : Blocks) (a : IsArranged IsSound old m) (key : List ℕ) (c : ChangesDeadlines old mid db)
+      (times_are : moments m (deadlines_at mid db) ≡ remove (moments m (deadlines_at old db)) key)
+      (cleared : Clears m (deadlines_at old db).table (deadlines_at mid db).table key ⊎ ((mid ≡ old) × Lacks m (deadlines_at old db).table key))
       (times_keyed : Keyed m (deadlines_at mid db).table) where
     -- where a key's deadline goes, the table of deadlines keeps its seed
     clear_seed : (deadlines_at mid db).table.seed ≡ (deadlines_at old db).table.seed
@@ -111,7 +120,8 @@ module _ {V : Type 0} {IsSound : Limits → ℕ → Blocks → V → Type 0} (re
 
     -- where a key's deadline goes, the key has none, and each that is left is that of a key
     clear_timed : IsTimed m (table_at old db) (deadlines_at mid db) × Lacks m (deadlines_at mid db).table key
-    clear_timed = timed_clears m (table_at old db) (deadlines_at old db) (deadlines_at mid db) key (elim cleared [ inl x ↦ inl x | inr same ↦ inr (ap (λ (b : Bases V). deadlines_at b db) same.0, same.1) ]) times_keyed (a.timed db)
+    clear_timed = timed_clears m (table_at old db) (deadlines_at old db) (deadlines_at mid db) key
+        (elim cleared [ inl x ↦ inl x | inr same ↦ inr (ap (λ (b : Bases V). deadlines_at b db) same.0, same.1) ]) times_keyed (a.timed db)
 
     -- where a key's deadline goes, the database stays in order
     pub clear_order : InOrder IsSound m old mid db
@@ -123,7 +133,8 @@ module _ {V : Type 0} {IsSound : Limits → ℕ → Blocks → V → Type 0} (re
 
     -- where a key's deadline goes, the databases stay sound beside what is out of them
     pub cleared_sound : (new : Bases V) → new ≡ mid → (out : List BlockRef) → SoundBeside refs_of IsSound old m out → SoundBeside refs_of IsSound new m out
-    cleared_sound new same out sound = subst (λ (b : Bases V). SoundBeside refs_of IsSound b m out) (sym same) (record { owns = λ r. omega (arith, sound.owns r, owned_times (refs_of m) old mid db c r); arranged = clear_arranged })
+    cleared_sound new same out sound = subst (λ (b : Bases V). SoundBeside refs_of IsSound b m out) (sym same)
+        (record { owns = λ r. omega (arith, sound.owns r, owned_times (refs_of m) old mid db c r); arranged = clear_arranged })
 
     -- nothing stood there
     module _ (lacks : Lacks m (table_at mid db) key) where
@@ -135,9 +146,11 @@ module _ {V : Type 0} {IsSound : Limits → ℕ → Blocks → V → Type 0} (re
       pub absent_means : means value_of db mid m ≡ without (means value_of db old m) key
       absent_means =
           means_changed refs_of value_of own old mid db m c.base _
-          (remove_base refs_of value_of own old mid db m key (ap (map_of m (value_of m)) c.keys ∙ map_of-kept m (value_of m) (table_at old db) (table_at old db) (a.keyed db) key refl absent_lacks) times_are)
+          (remove_base refs_of value_of own old mid db m key
+          (ap (map_of m (value_of m)) c.keys ∙ map_of-kept m (value_of m) (table_at old db) (table_at old db) (a.keyed db) key refl absent_lacks) times_are)
 
-    module _ (new : Bases V) (d : ChangesTable mid new db) (ref : BlockRef) (value : V) (removes : Removes m (table_at mid db) (table_at new db) key ref value) (keyed : Keyed m (table_at new db)) where
+    module _ (new : Bases V) (d : ChangesTable mid new db) (ref : BlockRef) (value : V) (removes : Removes m (table_at mid db) (table_at new db) key ref value)
+        (keyed : Keyed m (table_at new db)) where
       -- where a key's deadline goes and then the key, no other database changes
       pub drop_changes : ChangesBase old new db
       drop_changes = base_then old mid new db c.base d.base
@@ -161,13 +174,18 @@ module _ {V : Type 0} {IsSound : Limits → ℕ → Blocks → V → Type 0} (re
       drop_had = ap (λ (k : Table V). get (map_of m (value_of m) k) key) (sym c.keys) ∙ map_of-had m (value_of m) (table_at mid db) (table_at new db) (clear_arranged.keyed db) key ref value removes
 
   -- where only deadlines changed the databases own the same blocks of the same store
-  pub cleared_changes : (old mid new : Bases V) (db : ℕ) (m : Blocks) → IsIntact refs_of IsSound old m [] → ChangesDeadlines old mid db → new ≡ mid → Changes m m (owned (refs_of m) old) (owned (refs_of m) new)
+  pub cleared_changes : (old mid new : Bases V) (db : ℕ) (m : Blocks) → IsIntact refs_of IsSound old m [] → ChangesDeadlines old mid db → new ≡ mid
+      → Changes m m (owned (refs_of m) old) (owned (refs_of m) new)
   cleared_changes old mid new db m intact c same = subst (λ (b : Bases V). Changes m m (owned (refs_of m) old) (owned (refs_of m) b)) (sym same)
-      (Changes-beside m m [] [] (owned (refs_of m) old) (owned (refs_of m) mid) (Changes-same m [] (λ q. omega arith)) (λ r. omega (arith, intact.owned r)) (λ r. times r (owned (refs_of m) old)) (λ r. omega arith) (λ r. omega (arith, owned_times (refs_of m) old mid db c r)))
+      (Changes-beside m m [] [] (owned (refs_of m) old) (owned (refs_of m) mid) (Changes-same m [] (λ q. omega arith)) (λ r. omega (arith, intact.owned r))
+      (λ r. times r (owned (refs_of m) old)) (λ r. omega arith) (λ r. omega (arith, owned_times (refs_of m) old mid db c r)))
 
   -- a key's deadline goes, then the key, and its blocks are given back
-  module _ (old mid : Bases V) (db : ℕ) (m : Blocks) (intact : IsIntact refs_of IsSound old m []) (key : List ℕ) (c : ChangesDeadlines old mid db) (times_are : moments m (deadlines_at mid db) ≡ remove (moments m (deadlines_at old db)) key) (cleared : Clears m (deadlines_at old db).table (deadlines_at mid db).table key ⊎ ((mid ≡ old) × Lacks m (deadlines_at old db).table key))
-      (times_keyed : Keyed m (deadlines_at mid db).table) (new : Bases V) (d : ChangesTable mid new db) (ref : BlockRef) (value : V) (removes : Removes m (table_at mid db) (table_at new db) key ref value) (keyed : Keyed m (table_at new db)) where
+  module _ (old mid : Bases V) (db : ℕ) (m : Blocks) (intact : IsIntact refs_of IsSound old m []) (key : List ℕ) (c : ChangesDeadlines old mid db)
+      (times_are : moments m (deadlines_at mid db) ≡ remove (moments m (deadlines_at old db)) key)
+      (cleared : Clears m (deadlines_at old db).table (deadlines_at mid db).table key ⊎ ((mid ≡ old) × Lacks m (deadlines_at old db).table key))
+      (times_keyed : Keyed m (deadlines_at mid db).table) (new : Bases V) (d : ChangesTable mid new db) (ref : BlockRef) (value : V)
+      (removes : Removes m (table_at mid db) (table_at new db) key ref value) (keyed : Keyed m (table_at new db)) where
     -- the databases owned the key's block and its value's besides what they own
     gone : (r : BlockRef) → times r (owned (refs_of m) old) ≡ times r (owned (refs_of m) new) + times r (ref ∷ refs_of m value)
     gone = drop_gone old mid db m intact.arranged key c times_are cleared times_keyed new d ref value removes keyed
@@ -189,16 +207,19 @@ module _ {V : Type 0} {IsSound : Limits → ℕ → Blocks → V → Type 0} (re
     dropped_owned = left_owned old new db m m base intact (ref ∷ refs_of m value) gone order
 
     -- the deadline leaves its table, the key its own, and their blocks are given back
-    pub dropped_within : Grows m (deadlines_at old db) (deadlines_at mid db) → KeepsCursor (deadlines_at old db) (deadlines_at mid db) → TableGrows m (table_at mid db) (table_at new db) → db < 16 → (after : Blocks) → Changes m after (ref ∷ refs_of m value) [] → Within refs_of (no_key db) old new m after
+    pub dropped_within : Grows m (deadlines_at old db) (deadlines_at mid db) → KeepsCursor (deadlines_at old db) (deadlines_at mid db) → TableGrows m (table_at mid db) (table_at new db)
+        → db < 16 → (after : Blocks) → Changes m after (ref ∷ refs_of m value) [] → Within refs_of (no_key db) old new m after
     dropped_within grown cursor keys_grown below after p =
         within_then refs_of (no_key db) old mid new m m after (within_times refs_of (no_key db) old mid m db refl intact.arranged below c grown cursor)
         (within_then refs_of (no_key db) mid new new m m after
         (within_removes refs_of (no_key db) mid new m db refl (clear_arranged old mid db m intact.arranged key c times_are cleared times_keyed) below d key ref value removes keys_grown)
-        (within_store refs_of value_of own (no_key db) new m after (ref ∷ refs_of m value) (ref ∷ refs_of m value) [] (left_out old new db m m base intact (ref ∷ refs_of m value) gone order) p (λ r. omega arith)))
+        (within_store refs_of value_of own (no_key db) new m after (ref ∷ refs_of m value) (ref ∷ refs_of m value) []
+        (left_out old new db m m base intact (ref ∷ refs_of m value) gone order) p (λ r. omega arith)))
 
     -- at the key that leaves stood its value, with the deadline that it had
     pub dropped_look : look (means value_of db old m) key ≡ Some (record { value = value_of m value; deadline = get (moments m (deadlines_at old db)) key })
-    dropped_look = look_is old db m intact.arranged key ∙ ap (λ o. entry_with o (get (moments m (deadlines_at old db)) key)) (drop_had old mid db m intact.arranged key c times_are cleared times_keyed new d ref value removes keyed)
+    dropped_look = look_is old db m intact.arranged key ∙ ap (λ o. entry_with o (get (moments m (deadlines_at old db)) key))
+        (drop_had old mid db m intact.arranged key c times_are cleared times_keyed new d ref value removes keyed)
 
     module _ (after : Blocks) (p : Changes m after (ref ∷ refs_of m value) []) where
       -- where a key left and its blocks were given back, the databases are arranged
@@ -211,7 +232,8 @@ module _ {V : Type 0} {IsSound : Limits → ℕ → Blocks → V → Type 0} (re
 
       -- where a key left and its blocks were given back, the world is the old one without the key
       pub dropped_means : means value_of db new after ≡ without (means value_of db old m) key
-      dropped_means = left_means old new db m after base intact (ref ∷ refs_of m value) gone order p _ (drop_base old mid db m intact.arranged key c times_are cleared times_keyed new d ref value removes keyed)
+      dropped_means = left_means old new db m after base intact (ref ∷ refs_of m value) gone order p _
+          (drop_base old mid db m intact.arranged key c times_are cleared times_keyed new d ref value removes keyed)
 
   -- all keys leave
   module _ (old new : Bases V) (db seed : ℕ) (c : ChangesBase old new db) (none : base_at new db ≡ no_base seed) where
@@ -234,7 +256,8 @@ module _ {V : Type 0} {IsSound : Limits → ℕ → Blocks → V → Type 0} (re
     pub all_within : (m after : Blocks) → IsIntact refs_of IsSound old m [] → seed ≡ old.seed → Changes m after (refs (refs_of m) (table_at old db)) [] → Within refs_of (all_keys db) old new m after
     all_within m after intact same p =
         within_then refs_of (all_keys db) old new new m m after (within_anew refs_of (all_keys db) old new m db refl c refl (none ∙ ap no_base same))
-        (within_store refs_of value_of own (all_keys db) new m after (refs (refs_of m) (table_at old db)) (refs (refs_of m) (table_at old db)) [] (left_out old new db m m c intact (refs (refs_of m) (table_at old db)) (all_gone m) (all_order m same)) p (λ r. omega arith))
+        (within_store refs_of value_of own (all_keys db) new m after (refs (refs_of m) (table_at old db)) (refs (refs_of m) (table_at old db)) []
+        (left_out old new db m m c intact (refs (refs_of m) (table_at old db)) (all_gone m) (all_order m same)) p (λ r. omega arith))
 
     -- a database that all keys left means no key
     pub all_means : (m : Blocks) → base_means value_of m (base_at new db) ≡ model.no_keys
@@ -242,11 +265,13 @@ module _ {V : Type 0} {IsSound : Limits → ℕ → Blocks → V → Type 0} (re
 
   -- ---- a value takes the place of another
 
-  module _ (old new : Bases V) (db : ℕ) (m : Blocks) (c : ChangesTable old new db) (at : ℕ) (was value : V) (s : Swaps (table_at old db) (table_at new db) at was value) (keyed : Keyed m (table_at new db)) (a : IsArranged IsSound old m) where
+  module _ (old new : Bases V) (db : ℕ) (m : Blocks) (c : ChangesTable old new db) (at : ℕ) (was value : V) (s : Swaps (table_at old db) (table_at new db) at was value)
+      (keyed : Keyed m (table_at new db)) (a : IsArranged IsSound old m) where
     -- the element that was found there is the one that changes
     pub swapped_key : (key : List ℕ) → Stands m (table_at old db) at key → m s.key ≡ Some key
     swapped_key key stands =
-        let same : stands.element ≡ record { key = s.key; hash = s.hash; value = was } = (let both : Some stands.element ≡ Some (record { key = s.key; hash = s.hash; value = was }) = sym stands.found ∙ s.found in cc) in
+        let same : stands.element ≡ record { key = s.key; hash = s.hash; value = was } =
+        (let both : Some stands.element ≡ Some (record { key = s.key; hash = s.hash; value = was }) = sym stands.found ∙ s.found in cc) in
         ap (λ (e : Element V). m e.key) (sym same) ∙ stands.bytes
 
     -- where a value takes the place of another, its database stays in order
@@ -254,7 +279,8 @@ module _ {V : Type 0} {IsSound : Limits → ℕ → Blocks → V → Type 0} (re
     over_order sound = order_swaps m old new db a c keyed at was value s sound
 
     -- where a value takes the place of another, the databases stay intact with the other out of them instead
-    pub over_intact : IsSound old.limits old.seed m value → (out later : List BlockRef) → IsIntact refs_of IsSound old m out → ((r : BlockRef) → times r later + times r (refs_of m value) ≡ times r out + times r (refs_of m was)) → IsIntact refs_of IsSound new m later
+    pub over_intact : IsSound old.limits old.seed m value → (out later : List BlockRef) → IsIntact refs_of IsSound old m out
+        → ((r : BlockRef) → times r later + times r (refs_of m value) ≡ times r out + times r (refs_of m was)) → IsIntact refs_of IsSound new m later
     over_intact sound out later intact same = swapped_intact refs_of value_of own old new db m c.base out intact (over_order sound) at was value s later same
 
     module _ (takes : IsIntactWith refs_of IsSound old m value) (after : Blocks) (p : Changes m after (refs_of m was) []) where
@@ -270,15 +296,18 @@ module _ {V : Type 0} {IsSound : Limits → ℕ → Blocks → V → Type 0} (re
       over_arranged = arranged_out refs_of value_of own new m after (refs_of m was) (refs_of m was) [] over_out p (λ r. omega arith)
 
       -- where the value that lost its place is given back, the new one is put at its key with the key's deadline
-      pub over_means : (key : List ℕ) → Stands m (table_at old db) at key → (deadline : Option ℕ) → get (moments m (deadlines_at old db)) key ≡ deadline → means value_of db new after ≡ put (means value_of db old m) key (record { value = value_of m value; deadline = deadline })
+      pub over_means : (key : List ℕ) → Stands m (table_at old db) at key → (deadline : Option ℕ) → get (moments m (deadlines_at old db)) key ≡ deadline
+          → means value_of db new after ≡ put (means value_of db old m) key (record { value = value_of m value; deadline = deadline })
       over_means key stands deadline lasts =
           means_out refs_of value_of own new m after (refs_of m was) (refs_of m was) [] over_out p (λ r. omega arith) db
           ∙ swapped_means refs_of value_of own old new db m a at c keyed was value s key (swapped_key key stands) deadline lasts
 
       -- giving back the old value puts what is owned in place of what was owned and the new value's blocks
       pub over_changes : Changes m after (owned (refs_of m) old ++ refs_of m value) (owned (refs_of after) new)
-      over_changes = Changes-beside m after (refs_of m was) [] (owned (refs_of m) old ++ refs_of m value) (owned (refs_of after) new) p (λ r. omega (arith, intact_over.owned r, times-append r (owned (refs_of m) old) (refs_of m value))) (λ r. times r (owned (refs_of m) new))
-          (λ r. omega (arith, times-append r (owned (refs_of m) old) (refs_of m value), owned_swaps (refs_of m) old new db c.base r at was value s)) (λ r. omega (arith, ap (times r) (owned_out refs_of value_of own new m after (refs_of m was) (refs_of m was) [] over_out p (λ r. omega arith))))
+      over_changes = Changes-beside m after (refs_of m was) [] (owned (refs_of m) old ++ refs_of m value) (owned (refs_of after) new) p
+          (λ r. omega (arith, intact_over.owned r, times-append r (owned (refs_of m) old) (refs_of m value))) (λ r. times r (owned (refs_of m) new))
+          (λ r. omega (arith, times-append r (owned (refs_of m) old) (refs_of m value), owned_swaps (refs_of m) old new db c.base r at was value s))
+          (λ r. omega (arith, ap (times r) (owned_out refs_of value_of own new m after (refs_of m was) (refs_of m was) [] over_out p (λ r. omega arith))))
 
     -- the value that was there owns live blocks
     pub over_owned : (out : List BlockRef) → IsIntact refs_of IsSound old m out → Owned (refs_of m was) m
@@ -304,13 +333,16 @@ module _ {V : Type 0} {IsSound : Limits → ℕ → Blocks → V → Type 0} (re
     retimed_sound out sound = record { owns = λ r. omega (arith, sound.owns r, owned_times (refs_of m) old mid db c r); arranged = a }
 
     -- a change of the store from what is owned once a deadline changed is one from what was owned before
-    pub retimed_changes : (after : Blocks) (part : List BlockRef) (new : Bases V) → IsIntact refs_of IsSound old m part → Changes m after (owned (refs_of m) mid ++ part) (owned (refs_of after) new) → Changes m after (owned (refs_of m) old ++ part) (owned (refs_of after) new)
+    pub retimed_changes : (after : Blocks) (part : List BlockRef) (new : Bases V) → IsIntact refs_of IsSound old m part
+        → Changes m after (owned (refs_of m) mid ++ part) (owned (refs_of after) new) → Changes m after (owned (refs_of m) old ++ part) (owned (refs_of after) new)
     retimed_changes after part new intact p =
         Changes-then m m after (owned (refs_of m) old ++ part) (owned (refs_of m) mid ++ part) (owned (refs_of after) new)
-        (Changes-beside m m [] [] (owned (refs_of m) old ++ part) (owned (refs_of m) mid ++ part) (Changes-same m [] (λ q. omega arith)) (λ r. omega (arith, intact.owned r, times-append r (owned (refs_of m) old) part)) (λ r. times r (owned (refs_of m) old) + times r part)
+        (Changes-beside m m [] [] (owned (refs_of m) old ++ part) (owned (refs_of m) mid ++ part) (Changes-same m [] (λ q. omega arith))
+        (λ r. omega (arith, intact.owned r, times-append r (owned (refs_of m) old) part)) (λ r. times r (owned (refs_of m) old) + times r part)
         (λ r. omega (arith, times-append r (owned (refs_of m) old) part)) (λ r. omega (arith, times-append r (owned (refs_of m) mid) part, owned_times (refs_of m) old mid db c r))) p
 
-    module _ (arranged : IsArranged IsSound old m) (at : ℕ) (key : List ℕ) (stands : Stands m (table_at old db) at key) (deadline : Option ℕ) (times_are : moments m (deadlines_at mid db) ≡ with_deadline (moments m (deadlines_at old db)) key deadline) where
+    module _ (arranged : IsArranged IsSound old m) (at : ℕ) (key : List ℕ) (stands : Stands m (table_at old db) at key) (deadline : Option ℕ)
+        (times_are : moments m (deadlines_at mid db) ≡ with_deadline (moments m (deadlines_at old db)) key deadline) where
       -- the key has the deadline that was set, or none where it went
       pub retimed_lasts : get (moments m (deadlines_at mid db)) key ≡ deadline
       retimed_lasts = ap (λ t. get t key) times_are ∙ got_deadline (moments m (deadlines_at old db)) key deadline
@@ -321,17 +353,21 @@ module _ {V : Type 0} {IsSound : Limits → ℕ → Blocks → V → Type 0} (re
 
       -- where a key's deadline is set or goes, its value is put at the key with this deadline or without one
       pub retimed_put : means value_of db mid m ≡ put (means value_of db old m) key (record { value = value_of m stands.element.value; deadline = deadline })
-      retimed_put = retimed_means refs_of value_of own old mid db m c key (value_of m stands.element.value) (map_of-stands m (value_of m) (table_at old db) at stands.element key (arranged.keyed db) stands.found stands.bytes) deadline times_are
+      retimed_put = retimed_means refs_of value_of own old mid db m c key (value_of m stands.element.value)
+          (map_of-stands m (value_of m) (table_at old db) at stands.element key (arranged.keyed db) stands.found stands.bytes) deadline times_are
 
       -- the key's own value, whatever its deadline was
-      pub retimed_entry : (entry : Entry) → look (means value_of db old m) key ≡ Some entry → means value_of db mid m ≡ put (means value_of db old m) key (record { value = entry.value; deadline = deadline })
+      pub retimed_entry : (entry : Entry) → look (means value_of db old m) key ≡ Some entry
+          → means value_of db mid m ≡ put (means value_of db old m) key (record { value = entry.value; deadline = deadline })
       retimed_entry entry is =
-          let both : Some (record { value = value_of m stands.element.value; deadline = get (moments m (deadlines_at old db)) key }) ≡ Some entry = sym (look_stands old db m arranged key at stands.element stands.found stands.bytes _ refl) ∙ is in
+          let both : Some (record { value = value_of m stands.element.value; deadline = get (moments m (deadlines_at old db)) key }) ≡ Some entry =
+          sym (look_stands old db m arranged key at stands.element stands.found stands.bytes _ refl) ∙ is in
           let same : record { value = value_of m stands.element.value; deadline = get (moments m (deadlines_at old db)) key } ≡ entry = cc in
           retimed_put ∙ ap (λ (e : Entry). put (means value_of db old m) key (record { value = e.value; deadline = deadline })) same
 
   -- the key of an item number gets a deadline
-  module _ (old mid : Bases V) (db : ℕ) (m : Blocks) (a : IsArranged IsSound old m) (at : ℕ) (key : List ℕ) (stands : Stands m (table_at old db) at key) (name : BlockRef) (is : key_at (item (table_at old db) at) ≡ Some name) where
+  module _ (old mid : Bases V) (db : ℕ) (m : Blocks) (a : IsArranged IsSound old m) (at : ℕ) (key : List ℕ) (stands : Stands m (table_at old db) at key) (name : BlockRef)
+      (is : key_at (item (table_at old db) at) ≡ Some name) where
     -- the key's element is named by the block that its item number shows
     named : stands.element.key ≡ name
     named = (let both : Some stands.element.key ≡ Some name = sym (ap key_at stands.found) ∙ is in cc)
@@ -341,20 +377,26 @@ module _ {V : Type 0} {IsSound : Limits → ℕ → Blocks → V → Type 0} (re
     bytes = ap m (sym named) ∙ stands.bytes
 
     -- the databases stay arranged where a key gets a deadline, or where that fails and nothing changes
-    pub set_arranged : {E : Type 0} (d : ℕ) (deadline : Option ℕ) → deadline ≡ Some d → IsDeadline deadline → (result : Result (Unit {0}) E) → ChangesDeadlines old mid db → OnOk result (Sets m (deadlines_at old db).table (deadlines_at mid db).table name d) → Keyed m (deadlines_at mid db).table → OnErr result (mid ≡ old) → IsArranged IsSound mid m
+    pub set_arranged : {E : Type 0} (d : ℕ) (deadline : Option ℕ) → deadline ≡ Some d → IsDeadline deadline → (result : Result (Unit {0}) E) → ChangesDeadlines old mid db
+        → OnOk result (Sets m (deadlines_at old db).table (deadlines_at mid db).table name d) → Keyed m (deadlines_at mid db).table → OnErr result (mid ≡ old) → IsArranged IsSound mid m
     set_arranged d deadline some late (Ok u) c sets keyed err =
         arranged_changed refs_of value_of own old mid db m c.base a (order_times m old mid db a c
-        (timed_sets m (table_at old db) (deadlines_at old db) (deadlines_at mid db) name d sets keyed (a.keyed db) (ap is_some bytes) (record { at = at; element = stands.element; found = stands.found; same = named }) (subst IsDeadline some late) (a.timed db))
+        (timed_sets m (table_at old db) (deadlines_at old db) (deadlines_at mid db) name d sets keyed (a.keyed db) (ap is_some bytes)
+        (record { at = at; element = stands.element; found = stands.found; same = named }) (subst IsDeadline some late) (a.timed db))
         (sets_seed m name (deadlines_at old db) (deadlines_at mid db) d sets))
     set_arranged d deadline some late (Err e) c sets keyed err = subst (λ (b : Bases V). IsArranged IsSound b m) (sym err) a
 
     -- a deadline that was set at the bytes of the key's block was set at the key
-    pub set_times : {E : Type 0} (d : ℕ) (deadline : Option ℕ) → deadline ≡ Some d → (result : Result (Unit {0}) E) → OnOk result (moments m (deadlines_at mid db) ≡ insert (moments m (deadlines_at old db)) (bytes_at m name) d) → OnOk result (moments m (deadlines_at mid db) ≡ with_deadline (moments m (deadlines_at old db)) key deadline)
-    set_times d deadline some (Ok u) times = times ∙ ap (λ k. insert (moments m (deadlines_at old db)) k d) (some_bytes m name key bytes) ∙ sym (ap (with_deadline (moments m (deadlines_at old db)) key) some)
+    pub set_times : {E : Type 0} (d : ℕ) (deadline : Option ℕ) → deadline ≡ Some d → (result : Result (Unit {0}) E)
+        → OnOk result (moments m (deadlines_at mid db) ≡ insert (moments m (deadlines_at old db)) (bytes_at m name) d)
+        → OnOk result (moments m (deadlines_at mid db) ≡ with_deadline (moments m (deadlines_at old db)) key deadline)
+    set_times d deadline some (Ok u) times = times ∙ ap (λ k. insert (moments m (deadlines_at old db)) k d) (some_bytes m name key bytes)
+        ∙ sym (ap (with_deadline (moments m (deadlines_at old db)) key) some)
     set_times d deadline some (Err e) times = tt
 
   -- no other element has the key of this one
-  pub only_here : (bases : Bases V) (m : Blocks) (db : ℕ) (key : List ℕ) (at : ℕ) (e : Element V) → Keyed m (table_at bases db) → item (table_at bases db) at ≡ Some e → m e.key ≡ Some key → HasOnly bases m db key e.value
+  pub only_here : (bases : Bases V) (m : Blocks) (db : ℕ) (key : List ℕ) (at : ℕ) (e : Element V) → Keyed m (table_at bases db) → item (table_at bases db) at ≡ Some e → m e.key ≡ Some key
+      → HasOnly bases m db key e.value
   only_here bases m db key at e keyed here named other f found bytes =
       let same : other ≡ at = keyed.apart other at f e found here (bytes ∙ sym named) in
       let both : Some f ≡ Some e = sym found ∙ ap (item (table_at bases db)) same ∙ here in
@@ -362,7 +404,8 @@ module _ {V : Type 0} {IsSound : Limits → ℕ → Blocks → V → Type 0} (re
       ap (λ (x : Element V). x.value) one
 
   -- a key's deadline is set, and a value takes the place of its own
-  module _ (old mid new : Bases V) (db : ℕ) (m after : Blocks) (at : ℕ) (key : List ℕ) (was value : V) (deadline : Option ℕ) (takes : IsIntactWith refs_of IsSound old m value) (c : ChangesDeadlines old mid db) (arranged : IsArranged IsSound mid m) (times_are : moments m (deadlines_at mid db) ≡ with_deadline (moments m (deadlines_at old db)) key deadline)
+  module _ (old mid new : Bases V) (db : ℕ) (m after : Blocks) (at : ℕ) (key : List ℕ) (was value : V) (deadline : Option ℕ) (takes : IsIntactWith refs_of IsSound old m value)
+      (c : ChangesDeadlines old mid db) (arranged : IsArranged IsSound mid m) (times_are : moments m (deadlines_at mid db) ≡ with_deadline (moments m (deadlines_at old db)) key deadline)
       (stands : Stands m (table_at old db) at key) (d : ChangesTable mid new db) (s : Swaps (table_at mid db) (table_at new db) at was value) (keyed : Keyed m (table_at new db)) where
     -- with the deadline set the databases are intact, the new value out of them
     mid_intact : IsIntactWith refs_of IsSound mid m value
@@ -401,21 +444,24 @@ module _ {V : Type 0} {IsSound : Limits → ℕ → Blocks → V → Type 0} (re
       pub put_only : HasOnly new after db key value
       put_only =
           let there : m s.key ≡ Some key = swapped_key mid new db m d at was value s keyed arranged key (retimed_stands old mid db m c arranged intact_put.arranged at key stands deadline times_are) in
-          let kept = kept_inside refs_of value_of own new m after (refs_of m was) (refs_of m was) [] (over_out mid new db m d at was value s keyed arranged mid_intact after p) p (λ r. omega arith) s.key
+          let kept = kept_inside refs_of value_of own new m after (refs_of m was) (refs_of m was) [] (over_out mid new db m d at was value s keyed arranged mid_intact after p) p
+          (λ r. omega arith) s.key
           (omega (arith, key_itself s.key, item_owned (refs_of m) new db at (record { key = s.key; hash = s.hash; value = value }) s.key s.updates.changed)) in
           only_here new after db key at (record { key = s.key; hash = s.hash; value = value }) (put_arranged.keyed db) s.updates.changed (kept ∙ there)
 
       -- where a key got a deadline and a new value, these are put at the key of the world
       pub put_over : means value_of db new after ≡ put (means value_of db old m) key (record { value = value_of m value; deadline = deadline })
       put_over =
-          over_means mid new db m d at was value s keyed arranged mid_intact after p key (retimed_stands old mid db m c arranged intact_put.arranged at key stands deadline times_are) deadline (retimed_lasts old mid db m c arranged intact_put.arranged at key stands deadline times_are)
+          over_means mid new db m d at was value s keyed arranged mid_intact after p key (retimed_stands old mid db m c arranged intact_put.arranged at key stands deadline times_are)
+          deadline (retimed_lasts old mid db m c arranged intact_put.arranged at key stands deadline times_are)
           ∙ ap (λ w. put w key (record { value = value_of m value; deadline = deadline })) (retimed_put old mid db m c arranged intact_put.arranged at key stands deadline times_are)
           ∙ put_twice (means value_of db old m) key _ _
 
   -- ---- a key joins with its value
 
   -- a key's block is placed
-  module _ (old : Bases V) (m mid : Blocks) (r : BlockRef) (key : List ℕ) (value : V) (takes : IsIntactWith refs_of IsSound old m value) (placed : mid ≡ with_block m r (Some key)) (p : Changes m mid [] (r ∷ [])) where
+  module _ (old : Bases V) (m mid : Blocks) (r : BlockRef) (key : List ℕ) (value : V) (takes : IsIntactWith refs_of IsSound old m value) (placed : mid ≡ with_block m r (Some key))
+      (p : Changes m mid [] (r ∷ [])) where
     intact_placed : IsIntact refs_of IsSound old m (refs_of m value)
     intact_placed = with_intact takes
 
@@ -438,7 +484,10 @@ module _ {V : Type 0} {IsSound : Limits → ℕ → Blocks → V → Type 0} (re
     -- where a key's block is placed, a key table that lacks the key still does
     pub placed_lacks : (db : ℕ) → Lacks m (table_at old db) key → Lacks mid (table_at old db) key
     placed_lacks db lacks = record {
-      each = λ at e found same. lacks.each at e found (sym (kept_inside refs_of value_of own old m mid (refs_of m value) [] (r ∷ []) intact_placed p (λ q. omega arith) e.key (omega (arith, key_itself e.key, item_owned (refs_of m) old db at e e.key found))) ∙ same);
+      each = λ at e found same. lacks.each at e found
+          (sym
+          (kept_inside refs_of value_of own old m mid (refs_of m value) [] (r ∷ []) intact_placed p (λ q. omega arith) e.key
+          (omega (arith, key_itself e.key, item_owned (refs_of m) old db at e e.key found))) ∙ same);
     }
 
     -- where a key's block is placed, the value that is out means what it meant
@@ -447,7 +496,8 @@ module _ {V : Type 0} {IsSound : Limits → ℕ → Blocks → V → Type 0} (re
 
     -- where a key's block is placed, the value that is out stays sound
     placed_sound : IsSound old.limits old.seed mid value
-    placed_sound = own.stays old.limits old.seed m mid value (λ q named. kept_named refs_of value_of own old m mid (refs_of m value) [] (r ∷ []) intact_placed p q (omega (arith, named)) refl) takes.sound
+    placed_sound = own.stays old.limits old.seed m mid value
+        (λ q named. kept_named refs_of value_of own old m mid (refs_of m value) [] (r ∷ []) intact_placed p q (omega (arith, named)) refl) takes.sound
 
     -- where a key's block is placed, the databases mean the world that they meant
     placed_means : (db : ℕ) → means value_of db old mid ≡ means value_of db old m
@@ -475,7 +525,9 @@ module _ {V : Type 0} {IsSound : Limits → ℕ → Blocks → V → Type 0} (re
 
       -- where a key joined, the databases are arranged
       pub new_arranged : IsArranged IsSound new mid
-      new_arranged = (joined_intact refs_of value_of own old new db mid j.base (r ∷ refs_of mid value) placed_intact joined_order j.at (record { key = r; hash = j.hash; value = value }) j.adds [] (λ q. omega arith)).arranged
+      new_arranged =
+          (joined_intact refs_of value_of own old new db mid j.base (r ∷ refs_of mid value) placed_intact joined_order j.at (record { key = r; hash = j.hash; value = value }) j.adds []
+          (λ q. omega arith)).arranged
 
       -- whatever element has the key that joined has the value that joined with it
       pub new_only : HasOnly new mid db key value
@@ -489,8 +541,11 @@ module _ {V : Type 0} {IsSound : Limits → ℕ → Blocks → V → Type 0} (re
 
       -- where a key joined, what is owned stands in place of what was owned and the value's blocks
       pub new_changes : Changes m mid (owned (refs_of m) old ++ refs_of m value) (owned (refs_of mid) new)
-      new_changes = Changes-beside m mid [] (r ∷ []) (owned (refs_of m) old ++ refs_of m value) (owned (refs_of mid) new) p (λ q. omega (arith, intact_placed.owned q, times-append q (owned (refs_of m) old) (refs_of m value))) (λ q. times q (owned (refs_of m) old) + times q (refs_of m value))
-          (λ q. omega (arith, times-append q (owned (refs_of m) old) (refs_of m value))) (λ q. omega (arith, ap (times q) placed_owned, ap (times q) placed_refs, owned_joins (refs_of mid) old new db j.base q j.at (record { key = r; hash = j.hash; value = value }) j.adds))
+      new_changes = Changes-beside m mid [] (r ∷ []) (owned (refs_of m) old ++ refs_of m value) (owned (refs_of mid) new) p
+          (λ q. omega (arith, intact_placed.owned q, times-append q (owned (refs_of m) old) (refs_of m value))) (λ q. times q (owned (refs_of m) old) + times q (refs_of m value))
+          (λ q. omega (arith, times-append q (owned (refs_of m) old) (refs_of m value)))
+          (λ q. omega
+          (arith, ap (times q) placed_owned, ap (times q) placed_refs, owned_joins (refs_of mid) old new db j.base q j.at (record { key = r; hash = j.hash; value = value }) j.adds))
 
     -- memory is refused: the key's block is given back, and the value stays out
     module _ (fresh : m r ≡ None) (new : Bases V) (db : ℕ) (k : KeepsTimes old new mid db) (after : Blocks) (ended : after ≡ with_block mid r None) where
@@ -557,11 +612,13 @@ module _ {V : Type 0} {IsSound : Limits → ℕ → Blocks → V → Type 0} (re
       subst (λ v. Changes m after (refs_of m v) []) same (subst (λ b. Changes b after (refs_of b returned) []) blocks p)
 
   -- where the store is as it was the databases own what they owned
-  pub refused_owned : (old new : Bases V) (m mid : Blocks) → mid ≡ m → ((q : BlockRef) → times q (owned (refs_of mid) new) ≡ times q (owned (refs_of m) old)) → (q : BlockRef) → times q (owned (refs_of m) new) ≡ times q (owned (refs_of m) old)
+  pub refused_owned : (old new : Bases V) (m mid : Blocks) → mid ≡ m → ((q : BlockRef) → times q (owned (refs_of mid) new) ≡ times q (owned (refs_of m) old)) → (q : BlockRef)
+      → times q (owned (refs_of m) new) ≡ times q (owned (refs_of m) old)
   refused_owned old new m mid same owns q = ap (λ b. times q (owned (refs_of b) new)) (sym same) ∙ owns q
 
   -- the value alone is given back, where no key changed
-  module _ (old new : Bases V) (m after : Blocks) (value : V) (takes : IsIntactWith refs_of IsSound old m value) (a : IsArranged IsSound new m) (same : (q : BlockRef) → times q (owned (refs_of m) new) ≡ times q (owned (refs_of m) old)) (p : Changes m after (refs_of m value) []) where
+  module _ (old new : Bases V) (m after : Blocks) (value : V) (takes : IsIntactWith refs_of IsSound old m value) (a : IsArranged IsSound new m)
+      (same : (q : BlockRef) → times q (owned (refs_of m) new) ≡ times q (owned (refs_of m) old)) (p : Changes m after (refs_of m value) []) where
     intact_refused : IsIntact refs_of IsSound old m (refs_of m value)
     intact_refused = with_intact takes
 
@@ -579,21 +636,26 @@ module _ {V : Type 0} {IsSound : Limits → ℕ → Blocks → V → Type 0} (re
 
     -- what came of a refused call within a scope is within it also with the value given back
     pub refused_within : (scope : Scope) → Within refs_of scope old new m m → Within refs_of scope old new m after
-    refused_within scope placed = within_then refs_of scope old new new m m after placed (within_store refs_of value_of own scope new m after (refs_of m value) (refs_of m value) [] refused_intact p (λ q. omega arith))
+    refused_within scope placed = within_then refs_of scope old new new m m after placed
+        (within_store refs_of value_of own scope new m after (refs_of m value) (refs_of m value) [] refused_intact p (λ q. omega arith))
 
     -- giving back the value puts what is owned in place of what was owned and the value's blocks
     pub refused_changes : Changes m after (owned (refs_of m) old ++ refs_of m value) (owned (refs_of after) new)
-    refused_changes = Changes-beside m after (refs_of m value) [] (owned (refs_of m) old ++ refs_of m value) (owned (refs_of after) new) p (λ q. omega (arith, intact_refused.owned q, times-append q (owned (refs_of m) old) (refs_of m value))) (λ q. times q (owned (refs_of m) old))
-        (λ q. omega (arith, times-append q (owned (refs_of m) old) (refs_of m value))) (λ q. omega (arith, same q, ap (times q) (owned_out refs_of value_of own new m after (refs_of m value) (refs_of m value) [] refused_intact p (λ q. omega arith))))
+    refused_changes = Changes-beside m after (refs_of m value) [] (owned (refs_of m) old ++ refs_of m value) (owned (refs_of after) new) p
+        (λ q. omega (arith, intact_refused.owned q, times-append q (owned (refs_of m) old) (refs_of m value))) (λ q. times q (owned (refs_of m) old))
+        (λ q. omega (arith, times-append q (owned (refs_of m) old) (refs_of m value)))
+        (λ q. omega (arith, same q, ap (times q) (owned_out refs_of value_of own new m after (refs_of m value) (refs_of m value) [] refused_intact p (λ q. omega arith))))
 
   -- ---- lifting and lowering
 
   -- what stands at a key that is there at the moment
-  pub look_now : (bases : Bases V) (db moment : ℕ) (m : Blocks) (key : List ℕ) (e : Entry) → look (means value_of db bases m) key ≡ Some e → in_time moment e.deadline ≡ true → look (model.live (means value_of db bases m) moment) key ≡ Some e
+  pub look_now : (bases : Bases V) (db moment : ℕ) (m : Blocks) (key : List ℕ) (e : Entry) → look (means value_of db bases m) key ≡ Some e → in_time moment e.deadline ≡ true
+      → look (model.live (means value_of db bases m) moment) key ≡ Some e
   look_now bases db moment m key e is late = look_in_time (means value_of db bases m) moment key e is late
 
   -- nothing stands at the moment at a key whose deadline is past
-  pub look_past : (bases : Bases V) (db moment : ℕ) (m : Blocks) → IsArranged IsSound bases m → (key : List ℕ) (at : ℕ) → Stands m (table_at bases db) at key → in_time moment (get (moments m (deadlines_at bases db)) key) ≡ false → look (model.live (means value_of db bases m) moment) key ≡ None
+  pub look_past : (bases : Bases V) (db moment : ℕ) (m : Blocks) → IsArranged IsSound bases m → (key : List ℕ) (at : ℕ) → Stands m (table_at bases db) at key
+      → in_time moment (get (moments m (deadlines_at bases db)) key) ≡ false → look (model.live (means value_of db bases m) moment) key ≡ None
   look_past bases db moment m a key at stands late = look_gone (means value_of db bases m) moment key _ (look_stands bases db m a key at stands.element stands.found stands.bytes _ refl) late
 
   -- where nothing stands at a key nothing stands there at the moment
@@ -601,7 +663,8 @@ module _ {V : Type 0} {IsSound : Limits → ℕ → Blocks → V → Type 0} (re
   look_nothing bases db moment m key is = look_absent (means value_of db bases m) moment key is
 
   module _ (old new : Bases V) (db : ℕ) (m : Blocks) (c : ChangesTable old new db) (at : ℕ) where
-    module _ (was zero : V) (nothing : IsBlank refs_of IsSound zero) (empty : V) (is_empty : zero ≡ empty) (s : Swaps (table_at old db) (table_at new db) at was zero) (keyed : Keyed m (table_at new db)) (intact : IsIntact refs_of IsSound old m []) (key : List ℕ) (moment : ℕ) (there : StandsAt old m db key moment at) where
+    module _ (was zero : V) (nothing : IsBlank refs_of IsSound zero) (empty : V) (is_empty : zero ≡ empty) (s : Swaps (table_at old db) (table_at new db) at was zero)
+        (keyed : Keyed m (table_at new db)) (intact : IsIntact refs_of IsSound old m []) (key : List ℕ) (moment : ℕ) (there : StandsAt old m db key moment at) where
       -- where a value is taken out of its place, the databases are intact with it out of them
       lifted_intact : IsIntact refs_of IsSound new m (refs_of m was)
       lifted_intact = over_intact old new db m c at was zero s keyed intact.arranged (nothing.sound old.limits old.seed m) [] (refs_of m was) intact (λ r. omega (arith, ap (times r) (nothing.none m)))
@@ -620,7 +683,8 @@ module _ {V : Type 0} {IsSound : Limits → ℕ → Blocks → V → Type 0} (re
         had = record { at = at; element = record { key = s.key; hash = s.hash; value = was }; found = s.found; bytes = lifted_key; is = refl };
         vacant = ap value_at s.updates.changed ∙ ap Some is_empty;
         place = record { element = record { key = s.key; hash = s.hash; value = zero }; found = s.updates.changed; bytes = lifted_key; lasts = ap (λ (d : Timed). get (moments m d) key) c.deadlines };
-        back = λ entry. ap (λ w. put w key entry) (swapped_means refs_of value_of own old new db m intact.arranged at c keyed was zero s key lifted_key _ refl) ∙ put_twice (means value_of db old m) key _ entry;
+        back = λ entry. ap (λ w. put w key entry) (swapped_means refs_of value_of own old new db m intact.arranged at c keyed was zero s key lifted_key _ refl)
+            ∙ put_twice (means value_of db old m) key _ entry;
       })
 
       -- where a value is taken out, sound databases are sound beside it and what was out already
@@ -630,7 +694,8 @@ module _ {V : Type 0} {IsSound : Limits → ℕ → Blocks → V → Type 0} (re
         arranged = lifted_intact.arranged;
       }
 
-    module _ (was value : V) (s : Swaps (table_at old db) (table_at new db) at was value) (keyed : Keyed m (table_at new db)) (takes : IsIntactWith refs_of IsSound old m value) (empty : V) (nothing : IsBlank refs_of IsSound empty) (v : IsVacant empty old db at) where
+    module _ (was value : V) (s : Swaps (table_at old db) (table_at new db) at was value) (keyed : Keyed m (table_at new db)) (takes : IsIntactWith refs_of IsSound old m value) (empty : V)
+        (nothing : IsBlank refs_of IsSound empty) (v : IsVacant empty old db at) where
       intact_lowered : IsIntact refs_of IsSound old m (refs_of m value)
       intact_lowered = with_intact takes
 
@@ -642,9 +707,12 @@ module _ {V : Type 0} {IsSound : Limits → ℕ → Blocks → V → Type 0} (re
           ap (refs_of m) same ∙ nothing.none m
 
       -- where a value is put in the place of a key, it is put at the key of the world with the key's deadline
-      pub lowered_means : (key : List ℕ) (deadline : Option ℕ) → IsPlace old m db at key deadline → means value_of db new m ≡ put (means value_of db old m) key (record { value = value_of m value; deadline = deadline })
+      pub lowered_means : (key : List ℕ) (deadline : Option ℕ) → IsPlace old m db at key deadline
+          → means value_of db new m ≡ put (means value_of db old m) key (record { value = value_of m value; deadline = deadline })
       lowered_means key deadline place =
-          swapped_means refs_of value_of own old new db m intact_lowered.arranged at c keyed was value s key (swapped_key old new db m c at was value s keyed intact_lowered.arranged key (record { element = place.element; found = place.found; bytes = place.bytes })) deadline place.lasts
+          swapped_means refs_of value_of own old new db m intact_lowered.arranged at c keyed was value s key
+          (swapped_key old new db m c at was value s keyed intact_lowered.arranged key (record { element = place.element; found = place.found; bytes = place.bytes })) deadline
+          place.lasts
 
       -- where a value that was out is put in a vacant place, the databases are sound beside the rest
       pub lowered_sound : (all out : List BlockRef) → SoundBeside refs_of IsSound old m all → AreParts all (refs_of m value) out → SoundBeside refs_of IsSound new m out
@@ -656,13 +724,16 @@ module _ {V : Type 0} {IsSound : Limits → ℕ → Blocks → V → Type 0} (re
   -- ---- looking
 
   -- the value at the item number where a key stands at the moment is what is found at the key
-  pub found_held : (bases : Bases V) (db moment : ℕ) (m : Blocks) (key : List ℕ) (at : ℕ) (value : V) → IsIntact refs_of IsSound bases m [] → StandsAt bases m db key moment at → value_at (item (table_at bases db) at) ≡ Some value → Found refs_of value_of bases m db key moment value
+  pub found_held : (bases : Bases V) (db moment : ℕ) (m : Blocks) (key : List ℕ) (at : ℕ) (value : V) → IsIntact refs_of IsSound bases m [] → StandsAt bases m db key moment at
+      → value_at (item (table_at bases db) at) ≡ Some value → Found refs_of value_of bases m db key moment value
   found_held bases db moment m key at value intact there held =
       let stands = there.stands in
       let same : stands.element.value ≡ value = (let both : Some stands.element.value ≡ Some value = sym (ap value_at stands.found) ∙ held in cc) in
       record {
         deadline = get (moments m (deadlines_at bases db)) key;
-        stands = look_now bases db moment m key _ (look_stands bases db m intact.arranged key at stands.element stands.found stands.bytes _ refl ∙ ap (λ v. Some (record { value = value_of m v; deadline = get (moments m (deadlines_at bases db)) key })) same) there.in_time;
+        stands = look_now bases db moment m key _
+            (look_stands bases db m intact.arranged key at stands.element stands.found stands.bytes _ refl
+            ∙ ap (λ v. Some (record { value = value_of m v; deadline = get (moments m (deadlines_at bases db)) key })) same) there.in_time;
         owned = λ r. omega (arith, intact.owned r, item_owned (refs_of m) bases db at stands.element r stands.found, ap (λ v. times r (refs_of m v)) same);
         has = record { at = at; element = stands.element; found = stands.found; bytes = stands.bytes; is = same };
       }
@@ -689,7 +760,8 @@ module _ {V : Type 0} {IsSound : Limits → ℕ → Blocks → V → Type 0} (re
 
     -- their tables come from none
     pub new_grown : (m : Blocks) → bases.seed ≡ seed → AreGrown bases m
-    new_grown m same db = subst (λ s. BaseGrows s (no_base s) (base_at bases db) m m) (sym same) (each_new (λ b. BaseGrows seed (no_base seed) b m m) (λ number. record { keys = no_step; deadlines = no_step; cursor = refl }) db)
+    new_grown m same db = subst (λ s. BaseGrows s (no_base s) (base_at bases db) m m) (sym same)
+        (each_new (λ b. BaseGrows seed (no_base seed) b m m) (λ number. record { keys = no_step; deadlines = no_step; cursor = refl }) db)
 
     -- both tables of each of the 16 databases without a key have the seed of all
     new_seeds : (number : ℕ) → number < 16 → HasSeed (base_at bases number) seed
@@ -703,7 +775,9 @@ module _ {V : Type 0} {IsSound : Limits → ℕ → Blocks → V → Type 0} (re
     -- databases without a key are sound over a store without a block, where limits, seed and turn are in order
     pub new_sound : (m : Blocks) → m ≡ no_blocks → AreInRange bases.limits → bases.seed ≡ seed → bases.turn ≡ 0 → SoundBeside refs_of IsSound bases m []
     new_sound m dead limits same first = record {
-      owns = λ r. (let nothing : times r (owned (refs_of m) bases) ≡ 0 = ap (λ list. times r (flat_map (λ (b : Base V). refs (refs_of m) b.keys) list)) none in let dead_r : live m r ≡ 0 = ap (λ (b : Blocks). live b r) dead in omega arith);
+      owns = λ r.
+          (let nothing : times r (owned (refs_of m) bases) ≡ 0 = ap (λ list. times r (flat_map (λ (b : Base V). refs (refs_of m) b.keys) list)) none in let dead_r : live m r ≡ 0 =
+          ap (λ (b : Blocks). live b r) dead in omega arith);
       arranged = record {
         keyed = each_new (λ b. Keyed m b.keys) (λ number. Keyed-none m number);
         timed = each_new (λ b. IsTimed m b.keys b.deadlines) (λ number. timed_none m number number);

@@ -90,7 +90,8 @@ module _ {V : Type 0} (refs_of : Blocks → V → List BlockRef) where
   stayed_none old m db at e found = record { stood = found; bytes = λ r owns. refl; refs = refl }
 
   pub stayed_then : (a b : Bases V) (m mid after : Blocks) (db at : ℕ) (e : Element V) → Stayed refs_of b mid after db at e → Stayed refs_of a m mid db at e → Stayed refs_of a m after db at e
-  stayed_then a b m mid after db at e last first = record { stood = first.stood; bytes = λ r owns. last.bytes r (subst (λ list. 0 < times r (e.key ∷ list)) (sym first.refs) owns) ∙ first.bytes r owns; refs = last.refs ∙ first.refs }
+  stayed_then a b m mid after db at e last first = record
+      { stood = first.stood; bytes = λ r owns. last.bytes r (subst (λ list. 0 < times r (e.key ∷ list)) (sym first.refs) owns) ∙ first.bytes r owns; refs = last.refs ∙ first.refs }
 
   pub thinned_none : (old : Bases V) (m : Blocks) (db : ℕ) → Thinned refs_of [] old old m m db
   thinned_none old m db = record {
@@ -102,7 +103,8 @@ module _ {V : Type 0} (refs_of : Blocks → V → List BlockRef) where
     stayed = stayed_none old m;
   }
 
-  pub thinned_then : (xs ys : List BlockRef) (a b c : Bases V) (m mid after : Blocks) (db : ℕ) → Thinned refs_of xs a b m mid db → Thinned refs_of ys b c mid after db → Thinned refs_of (xs ++ ys) a c m after db
+  pub thinned_then : (xs ys : List BlockRef) (a b c : Bases V) (m mid after : Blocks) (db : ℕ) → Thinned refs_of xs a b m mid db → Thinned refs_of ys b c mid after db
+      → Thinned refs_of (xs ++ ys) a c m after db
   thinned_then xs ys a b c m mid after db p q = record {
     others = λ number other. q.others number other ∙ p.others number other;
     keys = drops_then xs ys (table_at a db) (table_at b db) (table_at c db) p.keys q.keys;
@@ -113,7 +115,8 @@ module _ {V : Type 0} (refs_of : Blocks → V → List BlockRef) where
   }
 
   -- a key's deadline goes, then the key that a block names, and its blocks are given back
-  module _ {IsSound : Limits → ℕ → Blocks → V → Type 0} (old mid new : Bases V) (m after : Blocks) (db : ℕ) (name ref : BlockRef) (key : List ℕ) (value : V) (a : IsArranged IsSound old m) (n : Names (table_at old db) name) (is : m name ≡ Some key)
+  module _ {IsSound : Limits → ℕ → Blocks → V → Type 0} (old mid new : Bases V) (m after : Blocks) (db : ℕ) (name ref : BlockRef) (key : List ℕ) (value : V) (a : IsArranged IsSound old m)
+      (n : Names (table_at old db) name) (is : m name ≡ Some key)
       (c : ChangesDeadlines old mid db) (cleared : Clears m (deadlines_at old db).table (deadlines_at mid db).table key ⊎ ((mid ≡ old) × Lacks m (deadlines_at old db).table key))
       (d : ChangesTable mid new db) (l : Removes m (table_at mid db) (table_at new db) key ref value) (tables : key_tables m (table_at new db) ≡ removed same_key (key_tables m (table_at mid db)) key)
       (b : IsArranged IsSound new after) (w : Within refs_of (no_key db) old new m after) where
@@ -126,11 +129,13 @@ module _ {V : Type 0} (refs_of : Blocks → V → List BlockRef) where
     keys_drop : Drops (name ∷ []) (table_at old db) (table_at new db)
     keys_drop = subst (λ (t : Table V). Drops (name ∷ []) t (table_at new db)) c.keys (removes_drops m (table_at mid db) (table_at new db) name ref key value mid_keyed is ref_named l)
 
-    times_drop : Clears m (deadlines_at old db).table (deadlines_at mid db).table key ⊎ ((mid ≡ old) × Lacks m (deadlines_at old db).table key) → Drops (name ∷ []) (deadlines_at old db).table (deadlines_at mid db).table
+    times_drop : Clears m (deadlines_at old db).table (deadlines_at mid db).table key ⊎ ((mid ≡ old) × Lacks m (deadlines_at old db).table key)
+        → Drops (name ∷ []) (deadlines_at old db).table (deadlines_at mid db).table
     times_drop (inl cl) =
         let there = (a.timed db).names cl.removes.at _ cl.removes.found in
         removes_drops m (deadlines_at old db).table (deadlines_at mid db).table name cl.ref key cl.deadline (a.timed db).keyed is
-        (sym there.same ∙ one_ref m (table_at old db) (a.keyed db) there.at n.at there.element n.element there.found n.found (ap m there.same ∙ cl.removes.bytes ∙ sym is ∙ sym (ap m n.same)) ∙ n.same) cl.removes
+        (sym there.same ∙ one_ref m (table_at old db) (a.keyed db) there.at n.at there.element n.element there.found n.found
+        (ap m there.same ∙ cl.removes.bytes ∙ sym is ∙ sym (ap m n.same)) ∙ n.same) cl.removes
     times_drop (inr same) = subst (λ (x : Bases V). Drops (name ∷ []) (deadlines_at old db).table (deadlines_at x db).table) (sym same.0) (lacks_drops m (deadlines_at old db).table name key is same.1)
 
     deadlines_drop : Drops (name ∷ []) (deadlines_at old db).table (deadlines_at new db).table
@@ -155,7 +160,8 @@ module _ {V : Type 0} (refs_of : Blocks → V → List BlockRef) where
       | inr other ↦ Served-same _ _ (keys_frame number ∙ ap (λ (x : Base V). key_tables m x.keys) (w.same number other))
     ]
 
-    cleared_less : Clears m (deadlines_at old db).table (deadlines_at mid db).table key ⊎ ((mid ≡ old) × Lacks m (deadlines_at old db).table key) → Shed (key_tables m (deadlines_at old db).table) (key_tables m (deadlines_at mid db).table)
+    cleared_less : Clears m (deadlines_at old db).table (deadlines_at mid db).table key ⊎ ((mid ≡ old) × Lacks m (deadlines_at old db).table key)
+        → Shed (key_tables m (deadlines_at old db).table) (key_tables m (deadlines_at mid db).table)
     cleared_less (inl cl) = Served-once _ _ (record { key = key; without = cl.tables })
     cleared_less (inr same) = Served-same _ _ (ap (λ (x : Bases V). key_tables m (deadlines_at x db).table) same.0)
 

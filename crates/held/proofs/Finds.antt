@@ -1,5 +1,6 @@
 -- The key blocks that a cycle found: each stands in the list once.
-use Rattle.std.proofs.Common.{◌≡◌, ◌≢◌, inl, inr, ℕ, zero, suc, ◌+◌, ◌≤◌, ◌<◌, Bool, true, false, cond, nat_lt, List, [], ◌∷◌, ◌++◌, take, slice_get, Option, Some, None, refl, sym, ap, ◌∙◌, subst, arith}
+use Rattle.std.proofs.Common.{◌≡◌, ◌≢◌, inl, inr, ℕ, zero, suc, ◌+◌, ◌≤◌, ◌<◌, Bool, true, false, cond, nat_lt, List, [], ◌∷◌, ◌++◌, take, slice_get, Option, Some, None, refl, sym, ap}
+use Rattle.std.proofs.Common.{◌∙◌, subst, arith}
 use Rattle.std.specs.Prelude.{◌==◌}
 use Rattle.std.proofs.lemmas.Bool.{cond-true, cond-false, eq-eqb}
 use Rattle.blocks.specs.declared.BlockRef.{BlockRef}
@@ -71,7 +72,8 @@ module _ (m : Blocks) (t : Table ℕ) (k : Keyed m t) (moment : ℕ) where
       omega (arith, first, rest, times-append r (gone_at moment (item t x)) (gone_of t moment xs))
 
   -- an item of the move, and those behind it
-  by_item : (x : ℕ) (xs : List ℕ) (r : BlockRef) → span_times x (x ∷ xs) ≤ 1 → times r (gone_of t moment xs) ≤ 1 → (o : Option (Element ℕ)) → item t x ≡ o → times r (gone_at moment o) + times r (gone_of t moment xs) ≤ 1
+  by_item : (x : ℕ) (xs : List ℕ) (r : BlockRef) → span_times x (x ∷ xs) ≤ 1 → times r (gone_of t moment xs) ≤ 1 → (o : Option (Element ℕ)) → item t x ≡ o
+      → times r (gone_at moment o) + times r (gone_of t moment xs) ≤ 1
   by_item x xs r once rest None is = omega (arith, rest)
   by_item x xs r once rest (Some e) is = elim (cases_ref e.key r) [
     | inl same ↦

@@ -7,7 +7,8 @@ use Rattle.std.specs.declared.cmp.Ordering.{Ordering}
 use Rattle.std.specs.declared.cmp.Ordering.TheVariants.{Less, Equal, Greater}
 use Rattle.std.specs.Cmp.{eq_by_cmp_equiv}
 use Rattle.std.specs.Cmp.Lexicographic.{slice_cmp, nat_list_cmp_total}
-use Rattle.std.specs.FinMap.{empty, entries, entries_sorted, entries-from_sorted, find, is_sorted, get, get-entries, get-from_sorted, insert, remove, len, len-entries, get-empty, get-insert, get-remove, slice_cmp-IsAntisymmetric, nat_cmp-IsAntisymmetric}
+use Rattle.std.specs.FinMap.{empty, entries, entries_sorted, entries-from_sorted, find, is_sorted, get, get-entries, get-from_sorted, insert, remove, len, len-entries, get-empty}
+use Rattle.std.specs.FinMap.{get-insert, get-remove, slice_cmp-IsAntisymmetric, nat_cmp-IsAntisymmetric}
 use Rattle.std.specs.FinMap.Entries.{below_all}
 use Rattle.plain_world.specs.Worlds.{Value, Entry, Database, no_keys}
 use Rattle.held.specs.Databases.{Values, Moments, with_deadlines, with_deadline}
@@ -65,14 +66,16 @@ module _ (moments : Moments) where
   -- what stands at a key
   pub get_with : (values : Values) (q : List ℕ) → get (with_deadlines values moments) q ≡ entry_with (get values q) (get moments q)
   unfolding with_deadlines
-  get_with values q = get-from_sorted (slice_cmp nat_cmp) (map timed (entries values)) q (is_rising values) ∙ find_timed (entries values) q ∙ ap (λ o. entry_with o (get moments q)) (sym (get-entries values q))
+  get_with values q = get-from_sorted (slice_cmp nat_cmp) (map timed (entries values)) q (is_rising values) ∙ find_timed (entries values) q
+      ∙ ap (λ o. entry_with o (get moments q)) (sym (get-entries values q))
 
   pub len_with : (values : Values) → len (with_deadlines values moments) ≡ len values
   unfolding with_deadlines
   len_with values = len-entries _ ∙ ap length (entries-from_sorted (slice_cmp nat_cmp) (map timed (entries values)) (is_rising values)) ∙ length_timed (entries values) ∙ sym (len-entries values)
 
 -- what stands at a key where a value and a deadline are put at another
-chosen : (same : Bool) (v : Value) (d : Option ℕ) (w : Option Value) (e : Option ℕ) → entry_with (cond same (Some v) w) (cond same d e) ≡ cond same (Some (record { value = v; deadline = d })) (entry_with w e)
+chosen : (same : Bool) (v : Value) (d : Option ℕ) (w : Option Value) (e : Option ℕ)
+    → entry_with (cond same (Some v) w) (cond same d e) ≡ cond same (Some (record { value = v; deadline = d })) (entry_with w e)
 chosen true v d w e = refl
 chosen false v d w e = refl
 
@@ -81,7 +84,8 @@ get_deadline moments key None q = get-remove nat_list_cmp_total moments key q
 get_deadline moments key (Some deadline) q = get-insert nat_list_cmp_total moments key deadline q
 
 -- a key gets a value and a deadline
-pub with_put : (values : Values) (moments : Moments) (key : List ℕ) (value : Value) (deadline : Option ℕ) → with_deadlines (insert values key value) (with_deadline moments key deadline) ≡ insert (with_deadlines values moments) key (record { value = value; deadline = deadline })
+pub with_put : (values : Values) (moments : Moments) (key : List ℕ) (value : Value) (deadline : Option ℕ)
+    → with_deadlines (insert values key value) (with_deadline moments key deadline) ≡ insert (with_deadlines values moments) key (record { value = value; deadline = deadline })
 with_put values moments key value deadline =
     maps_alike _ _ (λ q.
     get_with (with_deadline moments key deadline) (insert values key value) q

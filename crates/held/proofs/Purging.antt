@@ -42,7 +42,8 @@ one_less base key e is = elim (cases_eq (len base) 0) [
 
 module _ {V : Type 0} (m : Blocks) where
   -- a key's deadline goes, where it has one
-  pub cleared_loses : (old mid : Bases V) (db : ℕ) (key : List ℕ) → Clears m (deadlines_at old db).table (deadlines_at mid db).table key ⊎ ((mid ≡ old) × Lacks m (deadlines_at old db).table key) → Keyed m (deadlines_at old db).table → Loses m (deadlines_at old db) (deadlines_at mid db) key
+  pub cleared_loses : (old mid : Bases V) (db : ℕ) (key : List ℕ) → Clears m (deadlines_at old db).table (deadlines_at mid db).table key
+      ⊎ ((mid ≡ old) × Lacks m (deadlines_at old db).table key) → Keyed m (deadlines_at old db).table → Loses m (deadlines_at old db) (deadlines_at mid db) key
   cleared_loses old mid db key (inl c) k = record {
     part = λ i f found. (still i f found).1;
     lacks = record { each = λ i f found bytes. (let s = still i f found in s.0 (k.apart i c.removes.at f _ s.1 c.removes.found (bytes ∙ sym c.removes.bytes))) };
@@ -59,16 +60,19 @@ module _ {V : Type 0} (m : Blocks) where
   }
 
   -- and the key leaves
-  pub drops_loses : (old mid new : Bases V) (db : ℕ) (key named : List ℕ) → named ≡ key → ChangesTable mid new db → Clears m (deadlines_at old db).table (deadlines_at mid db).table key ⊎ ((mid ≡ old) × Lacks m (deadlines_at old db).table key) → Keyed m (deadlines_at old db).table → Loses m (deadlines_at old db) (deadlines_at new db) named
+  pub drops_loses : (old mid new : Bases V) (db : ℕ) (key named : List ℕ) → named ≡ key → ChangesTable mid new db → Clears m (deadlines_at old db).table (deadlines_at mid db).table key
+      ⊎ ((mid ≡ old) × Lacks m (deadlines_at old db).table key) → Keyed m (deadlines_at old db).table → Loses m (deadlines_at old db) (deadlines_at new db) named
   drops_loses old mid new db key named is d cleared k =
       subst (Loses m (deadlines_at old db) (deadlines_at new db)) (sym is) (subst (λ (t : Timed). Loses m (deadlines_at old db) t key) (sym d.deadlines) (cleared_loses old mid db key cleared k))
 
   -- a key that a block names is there
-  pub named_there : {X : Type 0} (old mid : Bases V) (db : ℕ) (key : List ℕ) (name : BlockRef) → Names (table_at old db) name → m name ≡ Some key → ChangesDeadlines old mid db → Lacks m (table_at mid db) key → X
+  pub named_there : {X : Type 0} (old mid : Bases V) (db : ℕ) (key : List ℕ) (name : BlockRef) → Names (table_at old db) name → m name ≡ Some key → ChangesDeadlines old mid db
+      → Lacks m (table_at mid db) key → X
   named_there old mid db key name n bytes c lacks = absurd (lacks.each n.at n.element (ap (λ (t : Table V). item t n.at) c.keys ∙ n.found) (ap m n.same ∙ bytes))
 
 -- What was dropped before an item number of the deadlines.
-pub record IsPurged {V : Type 0} (refs_of : Blocks → V → List BlockRef) (value_of : Blocks → V → Value) (IsSound : Limits → ℕ → Blocks → V → Type 0) (old now : Bases V) (m after : Blocks) (db moment n count : ℕ) : Type 0 where
+pub record IsPurged {V : Type 0} (refs_of : Blocks → V → List BlockRef) (value_of : Blocks → V → Value) (IsSound : Limits → ℕ → Blocks → V → Type 0) (old now : Bases V) (m after : Blocks)
+    (db moment n count : ℕ) : Type 0 where
   pub thins : Thins value_of old now m after db moment count
   pub in_time : (i : ℕ) (e : Element ℕ) → i < n → item (deadlines_at now db).table i ≡ Some e → moment ≤ e.value
   pub arranged : IsArranged IsSound now after
@@ -97,7 +101,8 @@ module _ {V : Type 0} {IsSound : Limits → ℕ → Blocks → V → Type 0} (re
   pub thins_none : (old : Bases V) (m : Blocks) (db moment : ℕ) → Thins value_of old old m m db moment 0
   thins_none old m db moment = record { world = with_own old m db; same = refl; counted = omega arith; part = λ i f found. found }
 
-  pub thins_then : (a b c : Bases V) (m mid after : Blocks) (db moment k n : ℕ) → Thins value_of a b m mid db moment k → Thins value_of b c mid after db moment n → Thins value_of a c m after db moment (k + n)
+  pub thins_then : (a b c : Bases V) (m mid after : Blocks) (db moment k n : ℕ) → Thins value_of a b m mid db moment k → Thins value_of b c mid after db moment n
+      → Thins value_of a c m after db moment (k + n)
   thins_then a b c m mid after db moment k n x y = record {
     world = y.world ∙ ap (λ w. with_base w (base_means value_of after (base_at c db))) x.world ∙ with_base_twice (means value_of db a m) _ _;
     same = y.same ∙ x.same;
@@ -122,9 +127,11 @@ module _ {V : Type 0} {IsSound : Limits → ℕ → Blocks → V → Type 0} (re
     passed_stands n = record { element = n.element; found = n.found; bytes = ap m n.same ∙ passed_bytes }
 
     passed_gone : get (live_keys (base_means value_of m (base_at old db)) moment) (bytes_at m name) ≡ None
-    passed_gone = look_past refs_of value_of own old db moment m a (bytes_at m name) passed_named.at (passed_stands passed_named) (ap (in_time moment) passed_moment ∙ lt-leb moment p.element.value p.late)
+    passed_gone = look_past refs_of value_of own old db moment m a (bytes_at m name) passed_named.at (passed_stands passed_named)
+        (ap (in_time moment) passed_moment ∙ lt-leb moment p.element.value p.late)
 
-    passed_some : (n : Names (table_at old db) name) → get (base_means value_of m (base_at old db)) (bytes_at m name) ≡ Some (record { value = value_of m n.element.value; deadline = Some p.element.value })
+    passed_some : (n : Names (table_at old db) name) → get (base_means value_of m (base_at old db)) (bytes_at m name) ≡ Some
+        (record { value = value_of m n.element.value; deadline = Some p.element.value })
     passed_some n = look_stands refs_of value_of own old db m a (bytes_at m name) n.at n.element n.found (ap m n.same ∙ passed_bytes) (Some p.element.value) passed_moment
 
     module _ (w : means value_of db new after ≡ without (means value_of db old m) (bytes_at m name)) (l : Loses m (deadlines_at old db) (deadlines_at new db) (bytes_at m name)) where
@@ -134,7 +141,8 @@ module _ {V : Type 0} {IsSound : Limits → ℕ → Blocks → V → Type 0} (re
       pub thins_one : Thins value_of old new m after db moment 1
       thins_one = record {
         world = w ∙ ap (with_base (means value_of db old m)) (sym left_base);
-        same = ap (λ b. live_keys b moment) left_base ∙ live_removed (base_means value_of m (base_at old db)) moment (bytes_at m name) ∙ removed_same (live_keys (base_means value_of m (base_at old db)) moment) (bytes_at m name) passed_gone;
+        same = ap (λ b. live_keys b moment) left_base ∙ live_removed (base_means value_of m (base_at old db)) moment (bytes_at m name)
+            ∙ removed_same (live_keys (base_means value_of m (base_at old db)) moment) (bytes_at m name) passed_gone;
         counted = one_less (base_means value_of m (base_at old db)) (bytes_at m name) _ (passed_some passed_named) ∙ ap (λ b. 1 + len b) (sym left_base);
         part = l.part;
       }
@@ -150,8 +158,10 @@ module _ {V : Type 0} {IsSound : Limits → ℕ → Blocks → V → Type 0} (re
     few = omega arith;
   }
 
-  pub purge_next : (old now next : Bases V) (m mid after : Blocks) (db moment n count : ℕ) (dropped : Bool) (later : ℕ) → later ≡ count + cond dropped 1 0 → IsPurged refs_of value_of IsSound old now m mid db moment n count → Thins value_of now next mid after db moment (cond dropped 1 0)
-      → ((e : Element ℕ) → item (deadlines_at next db).table n ≡ Some e → moment ≤ e.value) → IsArranged IsSound next after → Changes mid after (owned (refs_of mid) now) (owned (refs_of after) next) → IsPurged refs_of value_of IsSound old next m after db moment (n + 1) later
+  pub purge_next : (old now next : Bases V) (m mid after : Blocks) (db moment n count : ℕ) (dropped : Bool) (later : ℕ) → later ≡ count + cond dropped 1 0
+      → IsPurged refs_of value_of IsSound old now m mid db moment n count → Thins value_of now next mid after db moment (cond dropped 1 0)
+      → ((e : Element ℕ) → item (deadlines_at next db).table n ≡ Some e → moment ≤ e.value) → IsArranged IsSound next after
+      → Changes mid after (owned (refs_of mid) now) (owned (refs_of after) next) → IsPurged refs_of value_of IsSound old next m after db moment (n + 1) later
   purge_next old now next m mid after db moment n count dropped later is p t here a c = record {
     thins = subst (Thins value_of old next m after db moment) (sym is) (thins_then old now next m mid after db moment count (cond dropped 1 0) p.thins t);
     in_time = λ i e below found. elim (cases_eq i n) [
@@ -171,12 +181,14 @@ module _ {V : Type 0} {IsSound : Limits → ℕ → Blocks → V → Type 0} (re
   module _ (bases : Bases V) (m : Blocks) (db moment : ℕ) (a : IsArranged IsSound bases m) (all : (i : ℕ) (e : Element ℕ) → item (deadlines_at bases db).table i ≡ Some e → moment ≤ e.value) where
     deadline_in_time : (key : List ℕ) → in_time moment (get (moments m (deadlines_at bases db)) key) ≡ true
     deadline_in_time key = elim (cases_key m (deadlines_at bases db).table key (a.timed db).keyed) [
-      | inl s ↦ ap (in_time moment) (map_of-stands m (λ v. v) (deadlines_at bases db).table s.at s.element key (a.timed db).keyed s.found s.bytes) ∙ le-leb moment s.element.value (all s.at s.element s.found)
+      | inl s ↦ ap (in_time moment) (map_of-stands m (λ v. v) (deadlines_at bases db).table s.at s.element key (a.timed db).keyed s.found s.bytes)
+          ∙ le-leb moment s.element.value (all s.at s.element s.found)
       | inr lacks ↦ ap (in_time moment) (moments_lack m (deadlines_at bases db) key (a.timed db).keyed lacks)
     ]
 
     pub all_there : live_keys (base_means value_of m (base_at bases db)) moment ≡ base_means value_of m (base_at bases db)
-    all_there = live_all _ moment (λ key. ap (shown moment) (is key) ∙ seen (get (map_of m (value_of m) (table_at bases db)) key) (get (moments m (deadlines_at bases db)) key) (deadline_in_time key) ∙ sym (is key))
+    all_there = live_all _ moment
+        (λ key. ap (shown moment) (is key) ∙ seen (get (map_of m (value_of m) (table_at bases db)) key) (get (moments m (deadlines_at bases db)) key) (deadline_in_time key) ∙ sym (is key))
       where
         is : (key : List ℕ) → get (base_means value_of m (base_at bases db)) key ≡ entry_with (get (map_of m (value_of m) (table_at bases db)) key) (get (moments m (deadlines_at bases db)) key)
         is key = get_with (moments m (deadlines_at bases db)) (map_of m (value_of m) (table_at bases db)) key
@@ -185,7 +197,9 @@ module _ {V : Type 0} {IsSound : Limits → ℕ → Blocks → V → Type 0} (re
         seen None deadline late = refl
         seen (Some value) deadline late = cond-true _ _ _ late
 
-  pub purge_ends : (old now : Bases V) (m after : Blocks) (db moment n count : ℕ) → IsPurged refs_of value_of IsSound old now m after db moment n count → ((i : ℕ) → IsSome (item (deadlines_at old db).table i) → i < n)
+  pub purge_ends : (old now : Bases V) (m after : Blocks) (db moment n count : ℕ) → IsPurged refs_of value_of IsSound old now m after db moment n count
+      → ((i : ℕ) → IsSome (item (deadlines_at old db).table i) → i < n)
       → means value_of db now after ≡ with_base (means value_of db old m) (live_keys ((means value_of db old m).bases db) moment)
   purge_ends old now m after db moment n count p below =
-      p.thins.world ∙ ap (with_base (means value_of db old m)) (sym (all_there now after db moment p.arranged (λ i e found. p.in_time i e (below i (ap is_some (p.thins.part i e found))) found)) ∙ p.thins.same)
+      p.thins.world ∙ ap (with_base (means value_of db old m))
+      (sym (all_there now after db moment p.arranged (λ i e found. p.in_time i e (below i (ap is_some (p.thins.part i e found))) found)) ∙ p.thins.same)

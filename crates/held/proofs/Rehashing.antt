@@ -51,10 +51,12 @@ module _ {V : Type 0} {IsSound : Limits → ℕ → Blocks → V → Type 0} (re
     settings = k.base.settings;
   }
 
-  pub preserves_keys : (old new : Bases V) (db : ℕ) → IsArranged IsSound old m → ChangesTable old new db → (table_at new db).items ≡ (table_at old db).items → Keyed m (table_at new db) → (table_at new db).seed ≡ (table_at old db).seed → Preserves refs_of value_of IsSound m old new
+  pub preserves_keys : (old new : Bases V) (db : ℕ) → IsArranged IsSound old m → ChangesTable old new db → (table_at new db).items ≡ (table_at old db).items → Keyed m (table_at new db)
+      → (table_at new db).seed ≡ (table_at old db).seed → Preserves refs_of value_of IsSound m old new
   preserves_keys old new db a c items keyed seed = preserves_items old new db a (keys_shrink refs_of value_of own old new m db a c items keyed seed)
 
-  pub preserves_deadlines : (old new : Bases V) (db : ℕ) → IsArranged IsSound old m → ChangesDeadlines old new db → (deadlines_at new db).table.items ≡ (deadlines_at old db).table.items → Keyed m (deadlines_at new db).table → (deadlines_at new db).table.seed ≡ (deadlines_at old db).table.seed → Preserves refs_of value_of IsSound m old new
+  pub preserves_deadlines : (old new : Bases V) (db : ℕ) → IsArranged IsSound old m → ChangesDeadlines old new db → (deadlines_at new db).table.items ≡ (deadlines_at old db).table.items
+      → Keyed m (deadlines_at new db).table → (deadlines_at new db).table.seed ≡ (deadlines_at old db).table.seed → Preserves refs_of value_of IsSound m old new
   preserves_deadlines old new db a d times keyed seed = preserves_items old new db a (record {
     base = d.base;
     keys = ap (λ (t : Table V). t.items) d.keys;
@@ -68,14 +70,18 @@ module _ {V : Type 0} {IsSound : Limits → ℕ → Blocks → V → Type 0} (re
 -- ---- which step was made
 
 module _ {V : Type 0} (m : Blocks) (old mid new : Bases V) (db : ℕ) (same : mid ≡ old) where
-  pub keys_stepped : ((number : ℕ) → number < db → keys_move old number ≡ false) → true ≡ keys_move mid db → ChangesTable mid new db → StepsTable m (table_at mid db) (table_at new db) → Rehashes m old new
+  pub keys_stepped : ((number : ℕ) → number < db → keys_move old number ≡ false) → true ≡ keys_move mid db → ChangesTable mid new db → StepsTable m (table_at mid db) (table_at new db)
+      → Rehashes m old new
   keys_stepped none here changes steps =
-      subst (λ (b : Bases V). Rehashes m b new) same (of_keys db (record { here = sym here; lower = λ n below. subst (λ (b : Bases V). keys_move b n ≡ false) (sym same) (none n below) }) changes steps)
+      subst (λ (b : Bases V). Rehashes m b new) same
+      (of_keys db (record { here = sym here; lower = λ n below. subst (λ (b : Bases V). keys_move b n ≡ false) (sym same) (none n below) }) changes steps)
 
   pub deadlines_stepped : ((number : ℕ) → keys_move old number ≡ false) → ((number : ℕ) → number < db → deadlines_move old number ≡ false) → true ≡ deadlines_move mid db → ChangesDeadlines mid new db
       → StepsTable m (deadlines_at mid db).table (deadlines_at new db).table → KeepsCursor (deadlines_at mid db) (deadlines_at new db) → Rehashes m old new
   deadlines_stepped still none here changes steps cursor =
-      subst (λ (b : Bases V). Rehashes m b new) same (of_deadlines db (λ n. subst (λ (b : Bases V). keys_move b n ≡ false) (sym same) (still n)) (record { here = sym here; lower = λ n below. subst (λ (b : Bases V). deadlines_move b n ≡ false) (sym same) (none n below) }) changes steps cursor)
+      subst (λ (b : Bases V). Rehashes m b new) same
+      (of_deadlines db (λ n. subst (λ (b : Bases V). keys_move b n ≡ false) (sym same) (still n))
+      (record { here = sym here; lower = λ n below. subst (λ (b : Bases V). deadlines_move b n ≡ false) (sym same) (none n below) }) changes steps cursor)
 
 -- beyond a list's end stands what stands in its place
 beyond : {A : Type 0} (xs : List A) (i : ℕ) (other : A) → length xs ≤ i → get_or xs i other ≡ other

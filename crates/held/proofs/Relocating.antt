@@ -47,7 +47,8 @@ module _ {V : Type 0} {IsSound : Limits → ℕ → Blocks → V → Type 0} (re
     pub tables : key_tables after now.keys ≡ key_tables m was.keys
     pub times_tables : key_tables after now.deadlines.table ≡ key_tables m was.deadlines.table
     pub cursor : KeepsCursor was.deadlines now.deadlines
-    pub sound : (limits : Limits) (seed : ℕ) → ((at : ℕ) (e : Element V) → item was.keys at ≡ Some e → IsSound limits seed m e.value) → (at : ℕ) (e : Element V) → item now.keys at ≡ Some e → IsSound limits seed after e.value
+    pub sound : (limits : Limits) (seed : ℕ) → ((at : ℕ) (e : Element V) → item was.keys at ≡ Some e → IsSound limits seed m e.value) → (at : ℕ) (e : Element V) → item now.keys at ≡ Some e
+        → IsSound limits seed after e.value
     pub seed : now.keys.seed ≡ was.keys.seed
     pub times_seed : now.deadlines.table.seed ≡ was.deadlines.table.seed
 
@@ -80,7 +81,8 @@ module _ {V : Type 0} {IsSound : Limits → ℕ → Blocks → V → Type 0} (re
   sound_stays limits seed m after e stay sound = own.stays limits seed m after e.value (λ r isin. stay r (omega (arith, isin))) sound
 
   -- a database none of whose blocks changed
-  renewed_same : (m after : Blocks) (base : Base V) → Keyed m base.keys → IsTimed m base.keys base.deadlines → ((at : ℕ) (e : Element V) → item base.keys at ≡ Some e → Stay m after e) → Renewed m after base base
+  renewed_same : (m after : Blocks) (base : Base V) → Keyed m base.keys → IsTimed m base.keys base.deadlines → ((at : ℕ) (e : Element V) → item base.keys at ≡ Some e → Stay m after e)
+      → Renewed m after base base
   renewed_same m after base k t stay =
       let keyed = Keyed-frame m after base.keys k (λ at e found. name_stays m after e (stay at e found)) in
       let timed = timed_frame m after base.keys base.deadlines t (λ at e found. name_stays m after e (stay at e found)) in
@@ -90,19 +92,23 @@ module _ {V : Type 0} {IsSound : Limits → ℕ → Blocks → V → Type 0} (re
         values = map_of-frame m after (value_of m) (value_of after) base.keys k keyed.0 (λ at e found. (name_stays m after e (stay at e found), value_stays m after e (stay at e found)));
         times = timed.1;
         tables = keyed.1;
-        times_tables = (Keyed-frame m after base.deadlines.table t.keyed (λ at f found. (let n = t.names at f found in subst (λ r. after r ≡ m r) n.same (name_stays m after n.element (stay n.at n.element n.found))))).1;
+        times_tables =
+            (Keyed-frame m after base.deadlines.table t.keyed
+            (λ at f found. (let n = t.names at f found in subst (λ r. after r ≡ m r) n.same (name_stays m after n.element (stay n.at n.element n.found))))).1;
         cursor = refl;
         sound = λ limits seed all at e found. sound_stays limits seed m after e (stay at e found) (all at e found);
         seed = refl;
         times_seed = refl;
       }
 
-  module _ (old new : Bases V) (db : ℕ) (m after : Blocks) (a : IsArranged IsSound old m) (c : ChangesBase old new db) (here : Renewed m after (base_at old db) (base_at new db)) (apart : (number at : ℕ) (e : Element V) → number ≢ db → item (table_at old number) at ≡ Some e → Stay m after e) where
+  module _ (old new : Bases V) (db : ℕ) (m after : Blocks) (a : IsArranged IsSound old m) (c : ChangesBase old new db) (here : Renewed m after (base_at old db) (base_at new db))
+      (apart : (number at : ℕ) (e : Element V) → number ≢ db → item (table_at old number) at ≡ Some e → Stay m after e) where
     -- where one database is renewed and no block of the others changed, each database is renewed
     each : (number : ℕ) → Renewed m after (base_at old number) (base_at new number)
     each number = elim (cases_eq number db) [
       | inl same ↦ subst (λ n. Renewed m after (base_at old n) (base_at new n)) (sym same) here
-      | inr other ↦ subst (Renewed m after (base_at old number)) (sym (c.others number other)) (renewed_same m after (base_at old number) (a.keyed number) (a.timed number) (λ at e found. apart number at e other found))
+      | inr other ↦ subst (Renewed m after (base_at old number)) (sym (c.others number other))
+          (renewed_same m after (base_at old number) (a.keyed number) (a.timed number) (λ at e found. apart number at e other found))
     ]
 
     -- all databases, where the blocks of one moved
@@ -112,11 +118,16 @@ module _ {V : Type 0} {IsSound : Limits → ℕ → Blocks → V → Type 0} (re
       arranged = record {
         keyed = λ number. (each number).keyed;
         timed = λ number. (each number).timed;
-        values = λ number at e found. subst (λ limits. IsSound limits new.seed after e.value) (sym c.settings.limits) (subst (λ seed. IsSound old.limits seed after e.value) (sym c.settings.seed) ((each number).sound old.limits old.seed (a.values number) at e found));
+        values = λ number at e found. subst (λ limits. IsSound limits new.seed after e.value) (sym c.settings.limits)
+            (subst (λ seed. IsSound old.limits seed after e.value) (sym c.settings.seed) ((each number).sound old.limits old.seed (a.values number) at e found));
         sixteen = c.count ∙ a.sixteen;
         limits = subst AreInRange (sym c.settings.limits) a.limits;
         turn = subst (λ n. n < 16) (sym c.settings.turn) a.turn;
-        seeds = λ number within. record { keys = (each number).seed ∙ (a.seeds number within).keys ∙ sym c.settings.seed; deadlines = (each number).times_seed ∙ (a.seeds number within).deadlines ∙ sym c.settings.seed };
+        seeds = λ number within. record {
+          keys = (each number).seed ∙ (a.seeds number within).keys ∙ sym c.settings.seed;
+          deadlines = (each number).times_seed ∙ (a.seeds number within).deadlines
+              ∙ sym c.settings.seed;
+        };
       };
       changes = p;
       settings = c.settings;
@@ -129,7 +140,8 @@ module _ {V : Type 0} {IsSound : Limits → ℕ → Blocks → V → Type 0} (re
         both n = λ i. with_deadlines ((each n).values i) ((each n).times i)
 
   -- one move after another
-  pub relocates_then : (a b c : Bases V) (m mid after : Blocks) → Relocates refs_of value_of IsSound a b m mid → Relocates refs_of value_of IsSound b c mid after → Relocates refs_of value_of IsSound a c m after
+  pub relocates_then : (a b c : Bases V) (m mid after : Blocks) → Relocates refs_of value_of IsSound a b m mid → Relocates refs_of value_of IsSound b c mid after
+      → Relocates refs_of value_of IsSound a c m after
   relocates_then a b c m mid after p q = record {
     means = λ number. q.means number ∙ p.means number;
     arranged = q.arranged;
@@ -154,7 +166,8 @@ module _ {V : Type 0} {IsSound : Limits → ℕ → Blocks → V → Type 0} (re
 
   -- ---- the block of a key moves
 
-  module _ (old new : Bases V) (db at : ℕ) (m after : Blocks) (intact : IsIntact refs_of IsSound old m []) (c : ChangesBase old new db) (name ref : BlockRef) (keys : Renames (table_at old db) (table_at new db) at ref) (named : keys.element.key ≡ name) (bytes : after ref ≡ m name) (p : Changes m after (name ∷ []) (ref ∷ [])) where
+  module _ (old new : Bases V) (db at : ℕ) (m after : Blocks) (intact : IsIntact refs_of IsSound old m []) (c : ChangesBase old new db) (name ref : BlockRef)
+      (keys : Renames (table_at old db) (table_at new db) at ref) (named : keys.element.key ≡ name) (bytes : after ref ≡ m name) (p : Changes m after (name ∷ []) (ref ∷ [])) where
     -- the element, named by the new block
     abbrev moved : Element V
     moved = record keys.element { key = ref }
@@ -162,7 +175,8 @@ module _ {V : Type 0} {IsSound : Limits → ℕ → Blocks → V → Type 0} (re
     -- the databases own the key's new block in place of its old one, and else what they owned
     balance : (r : BlockRef) → times r (owned (refs_of m) new) + times r (name ∷ []) ≡ times r (owned (refs_of m) old) + times r (ref ∷ [])
     balance r =
-        let there : times r (own_of (refs_of m) (item (table_at old db) at)) ≡ times r (name ∷ refs_of m keys.element.value) = ap (λ o. times r (own_of (refs_of m) o)) keys.found ∙ ap (λ k. times r (k ∷ refs_of m keys.element.value)) named in
+        let there : times r (own_of (refs_of m) (item (table_at old db) at)) ≡ times r (name ∷ refs_of m keys.element.value) = ap (λ o. times r (own_of (refs_of m) o)) keys.found
+        ∙ ap (λ k. times r (k ∷ refs_of m keys.element.value)) named in
         omega (arith, there, refs_changed (refs_of m) (table_at old db) (table_at new db) at (Some moved) keys.updates r, owned_changed (refs_of m) old new db c r)
 
     -- what was owned and is owned has the bytes that it had
@@ -192,7 +206,9 @@ module _ {V : Type 0} {IsSound : Limits → ℕ → Blocks → V → Type 0} (re
 
     -- the value of the key whose block moved means what it meant
     value_here : value_of after keys.element.value ≡ value_of m keys.element.value
-    value_here = own.means m after keys.element.value (λ r isin. stay r (omega (arith, isin, item_owned (refs_of m) old db at keys.element r keys.found)) (omega (arith, isin, item_owned (refs_of m) new db at moved r keys.updates.changed)))
+    value_here = own.means m after keys.element.value
+        (λ r isin. stay r (omega (arith, isin, item_owned (refs_of m) old db at keys.element r keys.found))
+        (omega (arith, isin, item_owned (refs_of m) new db at moved r keys.updates.changed)))
 
     -- the table's keys stay live blocks whose bytes differ, each in the bucket where it stood
     keyed_here : Keyed after (table_at new db) × (key_tables after (table_at new db) ≡ key_tables m (table_at old db))
@@ -216,12 +232,15 @@ module _ {V : Type 0} {IsSound : Limits → ℕ → Blocks → V → Type 0} (re
         ])
 
     -- each value of the database stays sound
-    sound_here : (limits : Limits) (seed : ℕ) → ((i : ℕ) (e : Element V) → item (table_at old db) i ≡ Some e → IsSound limits seed m e.value) → (i : ℕ) (f : Element V) → item (table_at new db) i ≡ Some f → IsSound limits seed after f.value
+    sound_here : (limits : Limits) (seed : ℕ) → ((i : ℕ) (e : Element V) → item (table_at old db) i ≡ Some e → IsSound limits seed m e.value) → (i : ℕ) (f : Element V)
+        → item (table_at new db) i ≡ Some f → IsSound limits seed after f.value
     sound_here limits seed all i f there = elim (cases_eq i at) [
       | inl here ↦
           (let same : f ≡ moved = some_same (item (table_at new db) at) _ _ (ap (item (table_at new db)) (sym here) ∙ there) keys.updates.changed in
           subst (λ (x : Element V). IsSound limits seed after x.value) (sym same)
-          (own.stays limits seed m after keys.element.value (λ r isin. stay r (omega (arith, isin, item_owned (refs_of m) old db at keys.element r keys.found)) (omega (arith, isin, item_owned (refs_of m) new db at moved r keys.updates.changed))) (all at keys.element keys.found)))
+          (own.stays limits seed m after keys.element.value
+          (λ r isin. stay r (omega (arith, isin, item_owned (refs_of m) old db at keys.element r keys.found))
+          (omega (arith, isin, item_owned (refs_of m) new db at moved r keys.updates.changed))) (all at keys.element keys.found)))
       | inr other ↦ (let was = sym (keys.updates.others i other) ∙ there in sound_stays limits seed m after f (stay_here i f other was) (all i f was))
     ]
 
@@ -239,7 +258,8 @@ module _ {V : Type 0} {IsSound : Limits → ℕ → Blocks → V → Type 0} (re
         )
 
     -- the key has no deadline
-    pub times_alone : (key : List ℕ) → m name ≡ Some key → deadlines_at new db ≡ deadlines_at old db → Lacks m (deadlines_at old db).table key → TimesMoved m after (table_at new db) (deadlines_at old db) (deadlines_at new db)
+    pub times_alone : (key : List ℕ) → m name ≡ Some key → deadlines_at new db ≡ deadlines_at old db → Lacks m (deadlines_at old db).table key
+        → TimesMoved m after (table_at new db) (deadlines_at old db) (deadlines_at new db)
     times_alone key is same lacks = subst (TimesMoved m after (table_at new db) (deadlines_at old db)) (sym same) (record {
       timed = record { keyed = frame.0; names = λ i f found. (kept i f found).1; latest = t.latest };
       times = map_of-frame m after (λ v. v) (λ v. v) (deadlines_at old db).table t.keyed frame.0 (λ i f found. ((kept i f found).0, refl));
@@ -258,7 +278,9 @@ module _ {V : Type 0} {IsSound : Limits → ℕ → Blocks → V → Type 0} (re
         frame = Keyed-frame m after (deadlines_at old db).table t.keyed (λ i f found. (kept i f found).0)
 
     -- its deadline is named by the same block
-    pub times_with : (key : List ℕ) (number : ℕ) → m name ≡ Some key → Stands m (deadlines_at old db).table number key → Renames (deadlines_at old db).table (deadlines_at new db).table number ref → KeepsCursor (deadlines_at old db) (deadlines_at new db) → TimesMoved m after (table_at new db) (deadlines_at old db) (deadlines_at new db)
+    pub times_with : (key : List ℕ) (number : ℕ) → m name ≡ Some key → Stands m (deadlines_at old db).table number key
+        → Renames (deadlines_at old db).table (deadlines_at new db).table number ref → KeepsCursor (deadlines_at old db) (deadlines_at new db)
+        → TimesMoved m after (table_at new db) (deadlines_at old db) (deadlines_at new db)
     times_with key number is stands r cursor = record {
       timed = record {
         keyed = keyed.0;
@@ -275,7 +297,8 @@ module _ {V : Type 0} {IsSound : Limits → ℕ → Blocks → V → Type 0} (re
           | inr other ↦ t.latest i f (sym (r.updates.others i other) ∙ found)
         ];
       };
-      times = map_of-renames m after (λ v. v) (deadlines_at old db).table (deadlines_at new db).table number ref t.keyed keyed.0 r (bytes ∙ sym same_bytes) (λ i f other found. (kept i f other found).0);
+      times = map_of-renames m after (λ v. v) (deadlines_at old db).table (deadlines_at new db).table number ref t.keyed keyed.0 r (bytes ∙ sym same_bytes)
+          (λ i f other found. (kept i f other found).0);
       tables = keyed.1;
       cursor = cursor;
       seed = r.seed;
@@ -298,7 +321,8 @@ module _ {V : Type 0} {IsSound : Limits → ℕ → Blocks → V → Type 0} (re
     new_refs number i f there = elim (cases_eq number db) [
       | inl here ↦ elim (cases_eq i at) [
         | inl same_at ↦
-            (let same : f ≡ moved = some_same (item (table_at new db) at) _ _ (ap (item (table_at new db)) (sym same_at) ∙ subst (λ n. item (table_at new n) i ≡ Some f) here there) keys.updates.changed in
+            (let same : f ≡ moved = some_same (item (table_at new db) at) _ _ (ap (item (table_at new db)) (sym same_at) ∙ subst (λ n. item (table_at new n) i ≡ Some f) here there)
+            keys.updates.changed in
             subst (λ (x : Element V). refs_of after x.value ≡ refs_of m x.value) (sym same) (own.refs m after keys.element.value stay_value))
         | inr other ↦ refs_stay m after f (stay_here i f other (sym (keys.updates.others i other) ∙ subst (λ n. item (table_at new n) i ≡ Some f) here there))
       ]
@@ -309,9 +333,23 @@ module _ {V : Type 0} {IsSound : Limits → ℕ → Blocks → V → Type 0} (re
     pub name_relocates : TimesMoved m after (table_at new db) (deadlines_at old db) (deadlines_at new db) → Relocates refs_of value_of IsSound old new m after
     name_relocates t =
         relocates_one old new db m after intact.arranged c
-        (record { keyed = keyed_here.0; timed = t.timed; values = values_here; times = t.times; tables = keyed_here.1; times_tables = t.tables; cursor = t.cursor; sound = sound_here; seed = keys.seed; times_seed = t.seed })
+        (record {
+          keyed = keyed_here.0;
+          timed = t.timed;
+          values = values_here;
+          times = t.times;
+          tables = keyed_here.1;
+          times_tables = t.tables;
+          cursor = t.cursor;
+          sound = sound_here;
+          seed =
+              keys.seed;
+          times_seed = t.seed;
+        })
         stay_apart
-        (Changes-beside m after (name ∷ []) (ref ∷ []) (owned (refs_of m) old) (owned (refs_of after) new) p (λ r. omega (arith, intact.owned r)) (λ r. times r (owned (refs_of m) old) - times r (name ∷ [])) (λ r. omega (arith, among r)) (λ r. omega (arith, among r, balance r, ap (times r) (owned_same (refs_of m) (refs_of after) new new_refs))))
+        (Changes-beside m after (name ∷ []) (ref ∷ []) (owned (refs_of m) old) (owned (refs_of after) new) p (λ r. omega (arith, intact.owned r))
+        (λ r. times r (owned (refs_of m) old) - times r (name ∷ [])) (λ r. omega (arith, among r))
+        (λ r. omega (arith, among r, balance r, ap (times r) (owned_same (refs_of m) (refs_of after) new new_refs))))
       where
         among : (r : BlockRef) → times r (name ∷ []) ≤ times r (owned (refs_of m) old)
         among r =
@@ -334,14 +372,35 @@ module _ {V : Type 0} {IsSound : Limits → ℕ → Blocks → V → Type 0} (re
 
     -- where the new block wants no move, the block of the element's key was passed
     pub name_passes : (later : Heap) → wants later ref ≡ false → PassesName refs_of m after later old new db at
-    name_passes later calm = record { tops = λ number. elim (cases_eq number db) [ inl here ↦ subst (λ n. (table_at new n).top ≡ (table_at old n).top) (sym here) keys.top | inr away ↦ ap (λ (b : Base V). b.keys.top) (c.others number away) ]; was = keys.element; now = moved; replaces = name_replaces; same_value = refl; stays = stay_value; apart = λ number other e off found r isin. elim off [ inl away ↦ stay_apart number other e away found r (omega (arith, isin)) | inr off' ↦ elim (cases_eq number db) [ inl here ↦ stay_here other e off' (subst (λ n. item (table_at old n) other ≡ Some e) here found) r (omega (arith, isin)) | inr away ↦ stay_apart number other e away found r (omega (arith, isin)) ] ]; calm = calm }
+    name_passes later calm = record {
+      tops = λ number. elim (cases_eq number db)
+          [ inl here ↦ subst (λ n. (table_at new n).top ≡ (table_at old n).top) (sym here) keys.top | inr away ↦ ap (λ (b : Base V). b.keys.top) (c.others number away) ];
+      was =
+          keys.element;
+      now = moved;
+      replaces = name_replaces;
+      same_value = refl;
+      stays = stay_value;
+      apart =
+          λ number other e off found r isin. elim off [
+            | inl away ↦ stay_apart number other e away found r (omega (arith, isin))
+            | inr off'
+                ↦ elim (cases_eq number db) [
+                  | inl here ↦ stay_here other e off' (subst (λ n. item (table_at old n) other ≡ Some e) here found) r (omega (arith, isin))
+                  | inr away
+                      ↦ stay_apart number other e away found r (omega (arith, isin))
+                ]
+          ];
+      calm = calm;
+    }
 
   -- the element's key block, as it was read
   name_is : (t u : Table V) (at : ℕ) (name ref : BlockRef) (keys : Renames t u at ref) → key_at (item t at) ≡ Some name → keys.element.key ≡ name
   name_is t u at name ref keys is = some_same (key_at (item t at)) _ _ (ap key_at keys.found) is
 
   -- the key has no deadline
-  module _ (old new : Bases V) (db at : ℕ) (m after : Blocks) (intact : IsIntact refs_of IsSound old m []) (name ref : BlockRef) (is : key_at (item (table_at old db) at) ≡ Some name) (bytes : after ref ≡ m name) (p : Changes m after (name ∷ []) (ref ∷ [])) (c : ChangesTable old new db) (keys : Renames (table_at old db) (table_at new db) at ref) where
+  module _ (old new : Bases V) (db at : ℕ) (m after : Blocks) (intact : IsIntact refs_of IsSound old m []) (name ref : BlockRef) (is : key_at (item (table_at old db) at) ≡ Some name)
+      (bytes : after ref ≡ m name) (p : Changes m after (name ∷ []) (ref ∷ [])) (c : ChangesTable old new db) (keys : Renames (table_at old db) (table_at new db) at ref) where
     -- that the block of a key without a deadline moves is a relocation of the databases
     pub alone_relocates : (key : List ℕ) → m name ≡ Some key → Lacks m (deadlines_at old db).table key → Relocates refs_of value_of IsSound old new m after
     alone_relocates key was lacks =
@@ -353,7 +412,9 @@ module _ {V : Type 0} {IsSound : Limits → ℕ → Blocks → V → Type 0} (re
     alone_passes later calm = name_passes old new db at m after intact c.base name ref keys (name_is (table_at old db) (table_at new db) at name ref keys is) bytes p later calm
 
   -- it has one, which is named by the same block
-  module _ (old mid new : Bases V) (db at : ℕ) (m after : Blocks) (intact : IsIntact refs_of IsSound old m []) (name ref : BlockRef) (is : key_at (item (table_at old db) at) ≡ Some name) (bytes : after ref ≡ m name) (p : Changes m after (name ∷ []) (ref ∷ [])) (c : ChangesTable old mid db) (keys : Renames (table_at old db) (table_at mid db) at ref) (d : ChangesDeadlines mid new db) where
+  module _ (old mid new : Bases V) (db at : ℕ) (m after : Blocks) (intact : IsIntact refs_of IsSound old m []) (name ref : BlockRef) (is : key_at (item (table_at old db) at) ≡ Some name)
+      (bytes : after ref ≡ m name) (p : Changes m after (name ∷ []) (ref ∷ [])) (c : ChangesTable old mid db) (keys : Renames (table_at old db) (table_at mid db) at ref)
+      (d : ChangesDeadlines mid new db) where
     -- where the name of the deadline follows, the key's element is still named by the new block
     both_keys : Renames (table_at old db) (table_at new db) at ref
     both_keys = subst (λ (t : Table V). Renames (table_at old db) t at ref) (sym d.keys) keys
@@ -363,7 +424,9 @@ module _ {V : Type 0} {IsSound : Limits → ℕ → Blocks → V → Type 0} (re
     both_base = base_then old mid new db c.base d.base
 
     -- that the block of a key moves and the name of its deadline follows is a relocation of the databases
-    pub with_relocates : (key : List ℕ) (number : ℕ) → m name ≡ Some key → Stands m (deadlines_at old db).table number key → Renames (deadlines_at mid db).table (deadlines_at new db).table number ref → KeepsCursor (deadlines_at mid db) (deadlines_at new db) → Relocates refs_of value_of IsSound old new m after
+    pub with_relocates : (key : List ℕ) (number : ℕ) → m name ≡ Some key → Stands m (deadlines_at old db).table number key
+        → Renames (deadlines_at mid db).table (deadlines_at new db).table number ref → KeepsCursor (deadlines_at mid db) (deadlines_at new db)
+        → Relocates refs_of value_of IsSound old new m after
     with_relocates key number was stands r cursor =
         let named = name_is (table_at old db) (table_at new db) at name ref both_keys is in
         name_relocates old new db at m after intact both_base name ref both_keys named bytes p
@@ -375,7 +438,8 @@ module _ {V : Type 0} {IsSound : Limits → ℕ → Blocks → V → Type 0} (re
     with_passes later calm = name_passes old new db at m after intact both_base name ref both_keys (name_is (table_at old db) (table_at new db) at name ref both_keys is) bytes p later calm
 
   -- a key's block that wants no move
-  pub stays_passes : (m : Blocks) (later : Heap) (bases : Bases V) (db at : ℕ) (name : BlockRef) → IsSome (item (table_at bases db) at) → key_at (item (table_at bases db) at) ≡ Some name → wants later name ≡ false → PassesName refs_of m m later bases bases db at
+  pub stays_passes : (m : Blocks) (later : Heap) (bases : Bases V) (db at : ℕ) (name : BlockRef) → IsSome (item (table_at bases db) at) → key_at (item (table_at bases db) at) ≡ Some name
+      → wants later name ≡ false → PassesName refs_of m m later bases bases db at
   stays_passes m later bases db at name some is calm = by_item (item (table_at bases db) at) refl some
     where
       by_item : (o : Option (Element V)) → item (table_at bases db) at ≡ o → IsSome o → PassesName refs_of m m later bases bases db at
@@ -393,7 +457,8 @@ module _ {V : Type 0} {IsSound : Limits → ℕ → Blocks → V → Type 0} (re
 
   -- ---- the blocks of a value move
 
-  module _ (old mid : Bases V) (db at : ℕ) (m : Blocks) (intact : IsIntact refs_of IsSound old m []) (c : ChangesTable old mid db) (was vacant : V) (none : IsBlank refs_of IsSound vacant) (s : Swaps (table_at old db) (table_at mid db) at was vacant) (keyed : Keyed m (table_at mid db)) where
+  module _ (old mid : Bases V) (db at : ℕ) (m : Blocks) (intact : IsIntact refs_of IsSound old m []) (c : ChangesTable old mid db) (was vacant : V) (none : IsBlank refs_of IsSound vacant)
+      (s : Swaps (table_at old db) (table_at mid db) at was vacant) (keyed : Keyed m (table_at mid db)) where
     -- what stands in the place of the value that was taken out owns no block
     nothing : (r : BlockRef) → times r (refs_of m vacant) ≡ 0
     nothing r = ap (times r) (none.none m)
@@ -406,7 +471,10 @@ module _ {V : Type 0} {IsSound : Limits → ℕ → Blocks → V → Type 0} (re
     pub out_owned : Owned (refs_of m was) m
     out_owned r = omega (arith, out.owned r)
 
-    module _ (new : Bases V) (after : Blocks) (value back : V) (d : ChangesTable mid new db) (u : Swaps (table_at mid db) (table_at new db) at back value) (keyed_on : Keyed after (table_at mid db) → Keyed after (table_at new db)) (tables_in : key_tables m (table_at mid db) ≡ key_tables m (table_at old db)) (tables_on : key_tables after (table_at new db) ≡ key_tables after (table_at mid db)) (p : Changes m after (refs_of m was) (refs_of after value)) (same : value_of after value ≡ value_of m was) (sound : (limits : Limits) (seed : ℕ) → IsSound limits seed m was → IsSound limits seed after value) where
+    module _ (new : Bases V) (after : Blocks) (value back : V) (d : ChangesTable mid new db) (u : Swaps (table_at mid db) (table_at new db) at back value)
+        (keyed_on : Keyed after (table_at mid db) → Keyed after (table_at new db)) (tables_in : key_tables m (table_at mid db) ≡ key_tables m (table_at old db))
+        (tables_on : key_tables after (table_at new db) ≡ key_tables after (table_at mid db)) (p : Changes m after (refs_of m was) (refs_of after value))
+        (same : value_of after value ≡ value_of m was) (sound : (limits : Limits) (seed : ℕ) → IsSound limits seed m was → IsSound limits seed after value) where
       -- the element with its value as it was
       abbrev first : Element V
       first = record { key = s.key; hash = s.hash; value = was }
@@ -453,7 +521,9 @@ module _ {V : Type 0} {IsSound : Limits → ℕ → Blocks → V → Type 0} (re
 
       -- while the value is out each deadline stays that of a key, and all mean what they meant
       timed_mid : IsTimed after (table_at mid db) (deadlines_at old db) × (moments after (deadlines_at old db) ≡ moments m (deadlines_at old db))
-      timed_mid = timed_frame m after (table_at mid db) (deadlines_at old db) (timed_swaps m (table_at old db) (table_at mid db) (deadlines_at old db) at was vacant s (intact.arranged.timed db)) (λ other e found. name_stays m after e (mid_stays db other e found))
+      timed_mid = timed_frame m after (table_at mid db) (deadlines_at old db)
+          (timed_swaps m (table_at old db) (table_at mid db) (deadlines_at old db) at was vacant s (intact.arranged.timed db))
+          (λ other e found. name_stays m after e (mid_stays db other e found))
 
       -- taking the value out and putting it back leaves the deadlines
       same_times : deadlines_at new db ≡ deadlines_at old db
@@ -477,7 +547,8 @@ module _ {V : Type 0} {IsSound : Limits → ℕ → Blocks → V → Type 0} (re
           ])
 
       -- with the moved value in its place each value of the database stays sound
-      sound_moved : (limits : Limits) (seed : ℕ) → ((i : ℕ) (e : Element V) → item (table_at old db) i ≡ Some e → IsSound limits seed m e.value) → (i : ℕ) (f : Element V) → item (table_at new db) i ≡ Some f → IsSound limits seed after f.value
+      sound_moved : (limits : Limits) (seed : ℕ) → ((i : ℕ) (e : Element V) → item (table_at old db) i ≡ Some e → IsSound limits seed m e.value) → (i : ℕ) (f : Element V)
+          → item (table_at new db) i ≡ Some f → IsSound limits seed after f.value
       sound_moved limits seed all i f there = elim (cases_eq i at) [
         | inl here ↦
             (let one' : f ≡ last = some_same (item (table_at new db) at) _ _ (ap (item (table_at new db)) (sym here) ∙ there) stands in
@@ -493,7 +564,11 @@ module _ {V : Type 0} {IsSound : Limits → ℕ → Blocks → V → Type 0} (re
         values = values_moved;
         times = ap (moments after) same_times ∙ timed_mid.1;
         tables = tables_on ∙ frame.1 ∙ tables_in;
-        times_tables = ap (λ (t : Timed). key_tables after t.table) same_times ∙ (renewed_same m after (record { keys = table_at mid db; deadlines = deadlines_at old db }) keyed (timed_swaps m (table_at old db) (table_at mid db) (deadlines_at old db) at was vacant s (intact.arranged.timed db)) (λ other e found. mid_stays db other e found)).times_tables;
+        times_tables = ap (λ (t : Timed). key_tables after t.table) same_times
+            ∙
+            (renewed_same m after (record { keys = table_at mid db; deadlines = deadlines_at old db }) keyed
+            (timed_swaps m (table_at old db) (table_at mid db) (deadlines_at old db) at was vacant s (intact.arranged.timed db))
+            (λ other e found. mid_stays db other e found)).times_tables;
         cursor = ap (λ (t : Timed). t.cursor) same_times;
         sound = sound_moved;
         seed = u.seed ∙ s.seed;
@@ -508,9 +583,16 @@ module _ {V : Type 0} {IsSound : Limits → ℕ → Blocks → V → Type 0} (re
       pub value_relocates : Relocates refs_of value_of IsSound old new m after
       value_relocates =
           relocates_one old new db m after intact.arranged base renewed apart_stays
-          (Changes-beside m after (refs_of m was) (refs_of after value) (owned (refs_of m) old) (owned (refs_of after) new) p (λ r. omega (arith, intact.owned r)) (λ r. times r (owned (refs_of m) mid))
+          (Changes-beside m after (refs_of m was) (refs_of after value) (owned (refs_of m) old) (owned (refs_of after) new) p (λ r. omega (arith, intact.owned r))
+          (λ r. times r (owned (refs_of m) mid))
           (λ r. omega (arith, owned_swaps (refs_of m) old mid db c.base r at was vacant s, nothing r))
-          (λ r. omega (arith, owned_swaps (refs_of after) mid new db d.base r at back value u, back_none r, ap (times r) (owned_out refs_of value_of own mid m after (refs_of m was) (refs_of m was) (refs_of after value) out p (λ q. omega arith)))))
+          (λ r. omega (
+            arith,
+            owned_swaps (refs_of after) mid new db d.base r at back value u,
+            back_none r,
+            ap (times r)
+                (owned_out refs_of value_of own mid m after (refs_of m was) (refs_of m was) (refs_of after value) out p (λ q. omega arith)),
+          )))
 
       -- the element with the moved value stands in place of the old one, and all others stay
       value_replaces : Replaces old new db at first last
@@ -527,24 +609,37 @@ module _ {V : Type 0} {IsSound : Limits → ℕ → Blocks → V → Type 0} (re
       }
 
       -- where a part of the value's blocks was passed, this part of the element's blocks was
-      pub value_passes : {E : Type 0} (marks : Blocks → V → Marks) (tables : Blocks → V → Tables (List ℕ)) (encoding : V → E) (heap later : Heap) (from room : ℕ) (answer : Moved) → PassesPart refs_of value_of IsSound marks tables encoding m after heap later was value from room answer → PassesElement refs_of marks tables encoding m after later old new db at (Some from) room answer
+      pub value_passes : {E : Type 0} (marks : Blocks → V → Marks) (tables : Blocks → V → Tables (List ℕ)) (encoding : V → E) (heap later : Heap) (from room : ℕ) (answer : Moved)
+          → PassesPart refs_of value_of IsSound marks tables encoding m after heap later was value from room answer
+          → PassesElement refs_of marks tables encoding m after later old new db at (Some from) room answer
       value_passes marks tables encoding heap later from room answer part = record {
         was = first;
         now = last;
         replaces = value_replaces;
-        apart = λ number other e off found r isin. elim off [ inl away ↦ apart_stays number other e away found r (omega (arith, isin)) | inr off' ↦ elim (cases_eq number db) [ inl here ↦ here_stays other e off' (subst (λ n. item (table_at old n) other ≡ Some e) here found) r (omega (arith, isin)) | inr away ↦ apart_stays number other e away found r (omega (arith, isin)) ] ];
+        apart = λ number other e off found r isin. elim off [
+          | inl away ↦ apart_stays number other e away found r (omega (arith, isin))
+          | inr off'
+              ↦ elim (cases_eq number db) [
+                | inl here ↦ here_stays other e off' (subst (λ n. item (table_at old n) other ≡ Some e) here found) r (omega (arith, isin))
+                | inr away
+                    ↦ apart_stays number other e away found r (omega (arith, isin))
+              ]
+        ];
         name_passed = λ none. cc;
         name_stays = λ some. refl;
         same_marks = part.same_marks;
         same_encoding = part.same_encoding;
         same_tables = part.same_tables;
-        tops = λ number. elim (cases_eq number db) [ inl here ↦ subst (λ n. (table_at new n).top ≡ (table_at old n).top) (sym here) (u.top ∙ s.top) | inr away ↦ ap (λ (b : Base V). b.keys.top) (base.others number away) ];
+        tops = λ number. elim (cases_eq number db)
+            [ inl here ↦ subst (λ n. (table_at new n).top ≡ (table_at old n).top) (sym here) (u.top ∙ s.top) | inr away ↦ ap (λ (b : Base V). b.keys.top) (base.others number away) ];
         passed = part.passed;
         bounded = record { used = omega (arith, part.bounded.used); within = part.bounded.within; on = part.bounded.on };
       }
 
 -- a key's block was passed, and then a part of its value
-module _ {V E : Type 0} (refs_of : Blocks → V → List BlockRef) (marks : Blocks → V → Marks) (tables : Blocks → V → Tables (List ℕ)) (encoding : V → E) (refs_own : (m after : Blocks) (value : V) → ((r : BlockRef) → 0 < times r (refs_of m value) → after r ≡ m r) → refs_of after value ≡ refs_of m value) (marks_own : RestsOn refs_of marks) (m between after : Blocks) (heap later : Heap) (old mid new : Bases V) (db at : ℕ) where
+module _ {V E : Type 0} (refs_of : Blocks → V → List BlockRef) (marks : Blocks → V → Marks) (tables : Blocks → V → Tables (List ℕ)) (encoding : V → E)
+    (refs_own : (m after : Blocks) (value : V) → ((r : BlockRef) → 0 < times r (refs_of m value) → after r ≡ m r) → refs_of after value ≡ refs_of m value)
+    (marks_own : RestsOn refs_of marks) (m between after : Blocks) (heap later : Heap) (old mid new : Bases V) (db at : ℕ) where
   -- two replacements at one item number are one of the first element by the last
   replaces_then : (a b c d : Element V) → Replaces old mid db at a b → Replaces mid new db at c d → Replaces old new db at a d
   replaces_then a b c d p q = record {
@@ -562,13 +657,16 @@ module _ {V E : Type 0} (refs_of : Blocks → V → List BlockRef) (marks : Bloc
       further (Some next) h = (h.0, omega (arith, h.1))
 
   -- where a key's block and then a part of its value were passed a part of the element was
-  pub element_passes : (mark : Option ℕ) (room : ℕ) (answer : Moved) → mark ≡ None → 0 < room → (p : PassesName refs_of m between heap old mid db at) → PassesElement refs_of marks tables encoding between after later mid new db at (Some 0) (room - 1) answer → Calmer heap later → tables between p.was.value ≡ tables m p.was.value → PassesElement refs_of marks tables encoding m after later old new db at mark room (record { next = answer.next; used = answer.used + 1 })
+  pub element_passes : (mark : Option ℕ) (room : ℕ) (answer : Moved) → mark ≡ None → 0 < room → (p : PassesName refs_of m between heap old mid db at)
+      → PassesElement refs_of marks tables encoding between after later mid new db at (Some 0) (room - 1) answer → Calmer heap later → tables between p.was.value ≡ tables m p.was.value
+      → PassesElement refs_of marks tables encoding m after later old new db at mark room (record { next = answer.next; used = answer.used + 1 })
   element_passes mark room answer none some p q calmer kept =
       subst (λ (o : Option ℕ). PassesElement refs_of marks tables encoding m after later old new db at o room (record { next = answer.next; used = answer.used + 1 })) (sym none) (record {
         was = p.was;
         now = q.now;
         replaces = replaces_then p.was p.now q.was q.now p.replaces q.replaces;
-        apart = λ number other e off found r isin. q.apart number other e off (p.replaces.others number other off ∙ found) r (subst (λ list. 0 < times r list) (sym (refs_own m between e.value (p.apart number other e off found))) isin) ∙ p.apart number other e off found r isin;
+        apart = λ number other e off found r isin. q.apart number other e off (p.replaces.others number other off ∙ found) r
+            (subst (λ list. 0 < times r list) (sym (refs_own m between e.value (p.apart number other e off found))) isin) ∙ p.apart number other e off found r isin;
         name_passed = λ _. ap (wants later) (q.name_stays refl ∙ ap (λ (x : Element V). x.key) same) ∙ calmer.calm p.now.key p.calm;
         name_stays = λ some'. cc;
         same_marks = q.same_marks ∙ ap (marks between) value ∙ marks_own m between p.was.value p.stays;

@@ -44,7 +44,8 @@ put_same w key e is = λ i. record { bases = λ number. each number i; selected 
     ]
 
 -- Something else is put at a key, its own entry is put at another key, and the first key leaves.
-pub moved_world : (w : World) (key to : List ℕ) (number : ℕ) (a e : Entry) → ((w.selected ≡ number) × (key ≡ to) → ⊥) → remove (put_in (put w key a) number to e) key ≡ put_in (remove w key) number to e
+pub moved_world : (w : World) (key to : List ℕ) (number : ℕ) (a e : Entry) → ((w.selected ≡ number) × (key ≡ to) → ⊥)
+    → remove (put_in (put w key a) number to e) key ≡ put_in (remove w key) number to e
 moved_world w key to number a e apart = λ i. record { bases = λ n. each n i; selected = w.selected }
   where
     chosen : Database
@@ -86,7 +87,8 @@ moved_world w key to number a e apart = λ i. record { bases = λ n. each n i; s
 
 module _ {V : Type 0} {IsSound : Limits → ℕ → Blocks → V → Type 0} (refs_of : Blocks → V → List BlockRef) (value_of : Blocks → V → Value) (own : ReadsOwn refs_of value_of IsSound) where
   -- each deadline that a key has is at most the greatest
-  pub deadline_late : (bases : Bases V) (db : ℕ) (m : Blocks) → IsArranged IsSound bases m → (key : List ℕ) (deadline : Option ℕ) → get (moments m (deadlines_at bases db)) key ≡ deadline → IsDeadline deadline
+  pub deadline_late : (bases : Bases V) (db : ℕ) (m : Blocks) → IsArranged IsSound bases m → (key : List ℕ) (deadline : Option ℕ) → get (moments m (deadlines_at bases db)) key ≡ deadline
+      → IsDeadline deadline
   deadline_late bases db m a key None is = tt
   deadline_late bases db m a key (Some deadline) is =
       (let had = map_of-has m (λ v. v) (deadlines_at bases db).table key deadline (a.timed db).keyed is in
@@ -94,7 +96,8 @@ module _ {V : Type 0} {IsSound : Limits → ℕ → Blocks → V → Type 0} (re
 
   -- ---- the value is taken out of its place
 
-  module _ (old mid : Bases V) (db : ℕ) (m : Blocks) (intact : IsIntact refs_of IsSound old m []) (key : List ℕ) (at : ℕ) (stands : Stands m (table_at old db) at key) (deadline : Option ℕ) (lasts : get (moments m (deadlines_at old db)) key ≡ deadline)
+  module _ (old mid : Bases V) (db : ℕ) (m : Blocks) (intact : IsIntact refs_of IsSound old m []) (key : List ℕ) (at : ℕ) (stands : Stands m (table_at old db) at key) (deadline : Option ℕ)
+      (lasts : get (moments m (deadlines_at old db)) key ≡ deadline)
       (c : ChangesTable old mid db) (was zero : V) (nothing : IsBlank refs_of IsSound zero) (s : Swaps (table_at old db) (table_at mid db) at was zero) (keyed : Keyed m (table_at mid db)) where
     -- the element whose value is taken out has the first key
     out_key : m s.key ≡ Some key
@@ -102,14 +105,16 @@ module _ {V : Type 0} {IsSound : Limits → ℕ → Blocks → V → Type 0} (re
 
     -- where the value is taken out, the databases are intact with it out of them
     pub out_intact : IsIntact refs_of IsSound mid m (refs_of m was)
-    out_intact = over_intact refs_of value_of own old mid db m c at was zero s keyed intact.arranged (nothing.sound old.limits old.seed m) [] (refs_of m was) intact (λ r. omega (arith, ap (times r) (nothing.none m)))
+    out_intact = over_intact refs_of value_of own old mid db m c at was zero s keyed intact.arranged (nothing.sound old.limits old.seed m) [] (refs_of m was) intact
+        (λ r. omega (arith, ap (times r) (nothing.none m)))
 
     -- and the value is sound, as it was
     pub out_with : IsIntactWith refs_of IsSound mid m was
     out_with = record {
       owned = out_intact.owned;
       arranged = out_intact.arranged;
-      sound = subst (λ limits. IsSound limits mid.seed m was) (sym c.base.settings.limits) (subst (λ seed. IsSound old.limits seed m was) (sym c.base.settings.seed) (intact.arranged.values db at (record { key = s.key; hash = s.hash; value = was }) s.found));
+      sound = subst (λ limits. IsSound limits mid.seed m was) (sym c.base.settings.limits)
+          (subst (λ seed. IsSound old.limits seed m was) (sym c.base.settings.seed) (intact.arranged.values db at (record { key = s.key; hash = s.hash; value = was }) s.found));
     }
 
     -- where the value is taken out, what stands in its place is put at the key with the key's deadline
@@ -133,18 +138,21 @@ module _ {V : Type 0} {IsSound : Limits → ℕ → Blocks → V → Type 0} (re
     out_within tables to_db to = within_swaps refs_of (two_keys db key to_db to) old mid m db (inl refl) c at was zero s tables (inl (refl, some_bytes m s.key key out_key))
 
     -- the value is put at the other key, or was not for want of memory
-    pub placed_within : key_tables m (table_at mid db) ≡ key_tables m (table_at old db) → (to_db : ℕ) (to : List ℕ) (new : Bases V) (after : Blocks) → Within refs_of (one_key to_db to) mid new m after → Within refs_of (two_keys db key to_db to) old new m after
+    pub placed_within : key_tables m (table_at mid db) ≡ key_tables m (table_at old db) → (to_db : ℕ) (to : List ℕ) (new : Bases V) (after : Blocks)
+        → Within refs_of (one_key to_db to) mid new m after → Within refs_of (two_keys db key to_db to) old new m after
     placed_within tables to_db to new after placed =
         within_then refs_of (two_keys db key to_db to) old mid new m m after (out_within tables to_db to)
         (within_wider refs_of (one_key to_db to) (two_keys db key to_db to) (λ number there. inr there) (λ number other named. inr named) (λ number no. absurd no) mid new m after placed)
 
     -- and the first one leaves
-    pub left_within : (to_db : ℕ) (to : List ℕ) (new last : Bases V) (after later : Blocks) → Within refs_of (no_key db) new last after later → Within refs_of (two_keys db key to_db to) new last after later
+    pub left_within : (to_db : ℕ) (to : List ℕ) (new last : Bases V) (after later : Blocks) → Within refs_of (no_key db) new last after later
+        → Within refs_of (two_keys db key to_db to) new last after later
     left_within to_db to new last after later left =
         within_wider refs_of (no_key db) (two_keys db key to_db to) (λ number here. inl here) (λ number other none. absurd none.1) (λ number no. absurd no) new last after later left
 
     -- Nothing stands at the first key, and whatever stands at the other one is the value that stood there.
-    pub moved_writes : (to_db : ℕ) (to : List ℕ) (new last : Bases V) (after later : Blocks) → HasOnly new after to_db to was → Within refs_of (no_key db) new last after later → means value_of db last later ≡ without (means value_of db new after) key
+    pub moved_writes : (to_db : ℕ) (to : List ℕ) (new last : Bases V) (after later : Blocks) → HasOnly new after to_db to was → Within refs_of (no_key db) new last after later
+        → means value_of db last later ≡ without (means value_of db new after) key
         → Within refs_of (two_keys db key to_db to) old last m later → IsArranged IsSound last later → Written refs_of (HasValue old m db key) old last m later
     moved_writes to_db to new last after later only left gone within arranged =
         written_named refs_of (HasValue old m db key) (two_keys db key to_db to) (two_settled db key to_db to) old last m later within arranged
@@ -164,7 +172,8 @@ module _ {V : Type 0} {IsSound : Limits → ℕ → Blocks → V → Type 0} (re
 
     -- ---- it stands at the other key, and the first one leaves
 
-    module _ (to_db : ℕ) (to : List ℕ) (new : Bases V) (after : Blocks) (p : Changes m after (owned (refs_of m) mid ++ refs_of m was) (owned (refs_of after) new)) (a : IsArranged IsSound new after) where
+    module _ (to_db : ℕ) (to : List ℕ) (new : Bases V) (after : Blocks) (p : Changes m after (owned (refs_of m) mid ++ refs_of m was) (owned (refs_of after) new))
+        (a : IsArranged IsSound new after) where
       -- with the value at the other key sound databases are sound beside what was out
       pub moved_sound : (out : List BlockRef) → SoundBeside refs_of IsSound old m out → SoundBeside refs_of IsSound new after out
       moved_sound out sound = sound_joined refs_of value_of own mid new m after (refs_of m was) p a (refs_of m was ++ out) out (out_sound out sound) (λ r. times-append r (refs_of m was) out)
@@ -173,12 +182,15 @@ module _ {V : Type 0} {IsSound : Limits → ℕ → Blocks → V → Type 0} (re
       pub moved_changes : Changes m after (owned (refs_of m) old) (owned (refs_of after) new)
       moved_changes =
           Changes-then m m after (owned (refs_of m) old) (owned (refs_of m) mid ++ refs_of m was) (owned (refs_of after) new)
-          (Changes-beside m m [] [] (owned (refs_of m) old) (owned (refs_of m) mid ++ refs_of m was) (Changes-same m [] (λ q. omega arith)) (λ r. omega (arith, intact.owned r)) (λ r. times r (owned (refs_of m) old)) (λ r. omega arith)
+          (Changes-beside m m [] [] (owned (refs_of m) old) (owned (refs_of m) mid ++ refs_of m was) (Changes-same m [] (λ q. omega arith)) (λ r. omega (arith, intact.owned r))
+          (λ r. times r (owned (refs_of m) old)) (λ r. omega arith)
           (λ r. omega (arith, out_owned r, times-append r (owned (refs_of m) mid) (refs_of m was)))) p
 
       -- with the value at the other key and the first key gone, the key has moved in the world with its entry
-      pub moved_means : means value_of to_db new after ≡ put (means value_of to_db mid m) to (record { value = value_of m was; deadline = deadline }) → (last : Bases V) (later : Blocks) → means value_of db last later ≡ without (means value_of db new after) key
-          → ((db ≡ to_db) × (key ≡ to) → ⊥) → (entry : Entry) → look (means value_of db old m) key ≡ Some entry → means value_of db last later ≡ put_in (remove (means value_of db old m) key) to_db to entry
+      pub moved_means : means value_of to_db new after ≡ put (means value_of to_db mid m) to (record { value = value_of m was; deadline = deadline }) → (last : Bases V) (later : Blocks)
+          → means value_of db last later ≡ without (means value_of db new after) key
+          → ((db ≡ to_db) × (key ≡ to) → ⊥) → (entry : Entry) → look (means value_of db old m) key ≡ Some entry
+          → means value_of db last later ≡ put_in (remove (means value_of db old m) key) to_db to entry
       moved_means put_there last later gone apart entry is =
           let same : record { value = value_of m was; deadline = deadline } ≡ entry = some_same (look (means value_of db old m) key) _ _ out_look is in
           gone ∙ ap (λ w. without (selecting w db) key) put_there
@@ -188,7 +200,9 @@ module _ {V : Type 0} {IsSound : Limits → ℕ → Blocks → V → Type 0} (re
 
     -- ---- memory is refused, and it is put back
 
-    module _ (to_db : ℕ) (new : Bases V) (after : Blocks) (same : after ≡ m) (keys : (number : ℕ) → table_at new number ≡ table_at mid number) (owns : (r : BlockRef) → times r (owned (refs_of after) new) ≡ times r (owned (refs_of m) mid)) (a : IsArranged IsSound new after) (kept : means value_of to_db new after ≡ means value_of to_db mid m) where
+    module _ (to_db : ℕ) (new : Bases V) (after : Blocks) (same : after ≡ m) (keys : (number : ℕ) → table_at new number ≡ table_at mid number)
+        (owns : (r : BlockRef) → times r (owned (refs_of after) new) ≡ times r (owned (refs_of m) mid)) (a : IsArranged IsSound new after)
+        (kept : means value_of to_db new after ≡ means value_of to_db mid m) where
       owns_m : (r : BlockRef) → times r (owned (refs_of m) new) ≡ times r (owned (refs_of m) mid)
       owns_m r = ap (λ b. times r (owned (refs_of b) new)) (sym same) ∙ owns r
 
@@ -202,7 +216,8 @@ module _ {V : Type 0} {IsSound : Limits → ℕ → Blocks → V → Type 0} (re
           deadline_seen refs_of value_of own new db after a key ∙ ap (λ w. deadline_of (look w key)) back_world
           ∙ sym (deadline_seen refs_of value_of own mid db m out_intact.arranged key) ∙ ap (λ (d : Timed). get (moments m d) key) c.deadlines ∙ lasts
 
-      module _ (last : Bases V) (value : V) (returned : value ≡ was) (settings : SameSettings mid new) (d : ChangesTable new last db) (vacant : V) (b : Swaps (table_at new db) (table_at last db) at vacant value) (last_keyed : Keyed after (table_at last db)) where
+      module _ (last : Bases V) (value : V) (returned : value ≡ was) (settings : SameSettings mid new) (d : ChangesTable new last db) (vacant : V)
+          (b : Swaps (table_at new db) (table_at last db) at vacant value) (last_keyed : Keyed after (table_at last db)) where
         -- where memory is refused, the first key's element stands as it stood when the value was taken out
         back_found : item (table_at new db) at ≡ Some (record { key = s.key; hash = s.hash; value = zero })
         back_found = ap (λ (t : Table V). item t at) (keys db) ∙ s.updates.changed
@@ -230,7 +245,8 @@ module _ {V : Type 0} {IsSound : Limits → ℕ → Blocks → V → Type 0} (re
         -- where the value is put back, the databases mean the world that they meant at first
         pub refused_world : means value_of db last after ≡ means value_of db old m
         refused_world =
-            swapped_means refs_of value_of own new last db after a at d last_keyed vacant value b key (swapped_key refs_of value_of own new last db after d at vacant value b last_keyed a key back_stands) deadline back_lasts
+            swapped_means refs_of value_of own new last db after a at d last_keyed vacant value b key
+            (swapped_key refs_of value_of own new last db after d at vacant value b last_keyed a key back_stands) deadline back_lasts
             ∙ (λ i. put (back_world i) key (record { value = back_value i; deadline = deadline }))
             ∙ ap (λ w. put w key (record { value = value_of m was; deadline = deadline })) out_means
             ∙ put_twice (means value_of db old m) key _ _
@@ -238,24 +254,39 @@ module _ {V : Type 0} {IsSound : Limits → ℕ → Blocks → V → Type 0} (re
 
         -- where the value is put back, the databases own what they owned at first
         back_owned : (r : BlockRef) → times r (owned (refs_of m) last) ≡ times r (owned (refs_of m) old)
-        back_owned r = (let returned_refs = ap (λ v. times r (refs_of m v)) returned in omega (arith, owned_swaps (refs_of m) new last db d.base r at vacant value b, ap (times r) (back_zero m), returned_refs, owns_m r, out_owned r))
+        back_owned r =
+            (let returned_refs = ap (λ v. times r (refs_of m v)) returned in
+            omega (arith, owned_swaps (refs_of m) new last db d.base r at vacant value b, ap (times r) (back_zero m), returned_refs, owns_m r, out_owned r))
 
         -- until the value is put back the databases are intact with it out of them
         new_intact : IsIntact refs_of IsSound new after (refs_of after value)
-        new_intact = record { owned = λ r. (let returned_refs : times r (refs_of after value) ≡ times r (refs_of m was) = (λ i. times r (refs_of (same i) (returned i))) in let alive = ap (λ x. live x r) same in omega (arith, out_intact.owned r, owns r, returned_refs, alive)); arranged = a }
+        new_intact = record {
+          owned = λ r.
+              (let returned_refs : times r (refs_of after value) ≡ times r (refs_of m was) = (λ i. times r (refs_of (same i) (returned i))) in let alive = ap (λ x. live x r) same in
+              omega (arith, out_intact.owned r, owns r, returned_refs, alive));
+          arranged = a;
+        }
 
         -- the value that is put back is sound, as it was
         new_sound : IsSound new.limits new.seed after value
         new_sound = subst (λ v. IsSound new.limits new.seed after v) (sym returned) (subst (λ x. IsSound new.limits new.seed x was) (sym same)
-            (subst (λ limits. IsSound limits new.seed m was) (sym (settings.limits ∙ c.base.settings.limits)) (subst (λ seed. IsSound old.limits seed m was) (sym (settings.seed ∙ c.base.settings.seed)) (intact.arranged.values db at (record { key = s.key; hash = s.hash; value = was }) s.found))))
+            (subst (λ limits. IsSound limits new.seed m was) (sym (settings.limits ∙ c.base.settings.limits))
+            (subst (λ seed. IsSound old.limits seed m was) (sym (settings.seed ∙ c.base.settings.seed))
+            (intact.arranged.values db at (record { key = s.key; hash = s.hash; value = was }) s.found))))
 
         -- where the value is put back, the databases are arranged
         last_arranged : IsArranged IsSound last after
-        last_arranged = (over_intact refs_of value_of own new last db after d at vacant value b last_keyed a new_sound (refs_of after value) [] new_intact (λ r. omega (arith, ap (times r) (back_zero after)))).arranged
+        last_arranged =
+            (over_intact refs_of value_of own new last db after d at vacant value b last_keyed a new_sound (refs_of after value) [] new_intact
+            (λ r. omega (arith, ap (times r) (back_zero after)))).arranged
 
         -- where the value is put back, sound databases are sound beside what was out
         pub refused_sound : (out : List BlockRef) → SoundBeside refs_of IsSound old m out → SoundBeside refs_of IsSound last after out
-        refused_sound out sound = record { owns = λ r. (let alive = ap (λ x. live x r) same in omega (arith, sound.owns r, back_owned r, alive, ap (λ x. times r (owned (refs_of x) last)) same)); arranged = last_arranged }
+        refused_sound out sound = record {
+          owns = λ r. (let alive = ap (λ x. live x r) same in omega (arith, sound.owns r, back_owned r, alive, ap (λ x. times r (owned (refs_of x) last)) same));
+          arranged =
+              last_arranged;
+        }
 
         -- where memory was refused the databases own what they owned
         pub refused_owns : (r : BlockRef) → times r (owned (refs_of after) last) ≡ times r (owned (refs_of m) old)
@@ -264,4 +295,5 @@ module _ {V : Type 0} {IsSound : Limits → ℕ → Blocks → V → Type 0} (re
         -- where the value is put back, what is owned stands in place of what was owned
         pub refused_same : Changes m after (owned (refs_of m) old) (owned (refs_of after) last)
         refused_same = subst (λ x. Changes m x (owned (refs_of m) old) (owned (refs_of x) last)) (sym same)
-            (Changes-beside m m [] [] (owned (refs_of m) old) (owned (refs_of m) last) (Changes-same m [] (λ q. omega arith)) (λ r. omega (arith, intact.owned r)) (λ r. times r (owned (refs_of m) old)) (λ r. omega arith) (λ r. omega (arith, back_owned r)))
+            (Changes-beside m m [] [] (owned (refs_of m) old) (owned (refs_of m) last) (Changes-same m [] (λ q. omega arith)) (λ r. omega (arith, intact.owned r))
+            (λ r. times r (owned (refs_of m) old)) (λ r. omega arith) (λ r. omega (arith, back_owned r)))

@@ -23,7 +23,9 @@ pub record KeepsItems {V : Type 0} (old new : Bases V) (m : Blocks) (db : ℕ) :
   pub times_keyed : Keyed m (deadlines_at new db).table
   pub times_seed : (deadlines_at new db).table.seed ≡ (deadlines_at old db).table.seed
 
-module _ {V : Type 0} {IsSound : Limits → ℕ → Blocks → V → Type 0} (refs_of : Blocks → V → List BlockRef) (value_of : Blocks → V → Value) (own : ReadsOwn refs_of value_of IsSound) (old mid : Bases V) (m : Blocks) (db : ℕ) (a : IsArranged IsSound old m) (c : ChangesTable old mid db) (items : (table_at mid db).items ≡ (table_at old db).items) (keyed : Keyed m (table_at mid db)) (seed : (table_at mid db).seed ≡ (table_at old db).seed) where
+module _ {V : Type 0} {IsSound : Limits → ℕ → Blocks → V → Type 0} (refs_of : Blocks → V → List BlockRef) (value_of : Blocks → V → Value) (own : ReadsOwn refs_of value_of IsSound)
+    (old mid : Bases V) (m : Blocks) (db : ℕ) (a : IsArranged IsSound old m) (c : ChangesTable old mid db) (items : (table_at mid db).items ≡ (table_at old db).items)
+    (keyed : Keyed m (table_at mid db)) (seed : (table_at mid db).seed ≡ (table_at old db).seed) where
   pub keys_shrink : KeepsItems old mid m db
   keys_shrink = record {
     base = c.base;
@@ -35,7 +37,8 @@ module _ {V : Type 0} {IsSound : Limits → ℕ → Blocks → V → Type 0} (re
     times_seed = ap (λ (d : Timed). d.table.seed) c.deadlines;
   }
 
-  pub both_shrink : (new : Bases V) → ChangesDeadlines mid new db → (deadlines_at new db).table.items ≡ (deadlines_at mid db).table.items → Keyed m (deadlines_at new db).table → (deadlines_at new db).table.seed ≡ (deadlines_at mid db).table.seed → KeepsItems old new m db
+  pub both_shrink : (new : Bases V) → ChangesDeadlines mid new db → (deadlines_at new db).table.items ≡ (deadlines_at mid db).table.items → Keyed m (deadlines_at new db).table
+      → (deadlines_at new db).table.seed ≡ (deadlines_at mid db).table.seed → KeepsItems old new m db
   both_shrink new d times times_keyed times_seed = record {
     base = base_then old mid new db c.base d.base;
     keys = ap (λ (t : Table V). t.items) d.keys ∙ items;
@@ -46,13 +49,16 @@ module _ {V : Type 0} {IsSound : Limits → ℕ → Blocks → V → Type 0} (re
     times_seed = times_seed ∙ ap (λ (x : Timed). x.table.seed) c.deadlines;
   }
 
-module _ {V : Type 0} {IsSound : Limits → ℕ → Blocks → V → Type 0} (refs_of : Blocks → V → List BlockRef) (value_of : Blocks → V → Value) (own : ReadsOwn refs_of value_of IsSound) (old new : Bases V) (m : Blocks) (db : ℕ) (a : IsArranged IsSound old m) (k : KeepsItems old new m db) where
+module _ {V : Type 0} {IsSound : Limits → ℕ → Blocks → V → Type 0} (refs_of : Blocks → V → List BlockRef) (value_of : Blocks → V → Value) (own : ReadsOwn refs_of value_of IsSound)
+    (old new : Bases V) (m : Blocks) (db : ℕ) (a : IsArranged IsSound old m) (k : KeepsItems old new m db) where
   items_order : InOrder IsSound m old new db
   items_order = record {
     keyed = k.keyed;
     timed = record {
       keyed = k.times_keyed;
-      names = λ i f found. (let n = (a.timed db).names i f (ap (λ items. at_item items i) (sym k.times) ∙ found) in record { at = n.at; element = n.element; found = ap (λ items. at_item items n.at) k.keys ∙ n.found; same = n.same });
+      names = λ i f found.
+          (let n = (a.timed db).names i f (ap (λ items. at_item items i) (sym k.times) ∙ found) in
+          record { at = n.at; element = n.element; found = ap (λ items. at_item items n.at) k.keys ∙ n.found; same = n.same });
       latest = λ i f found. (a.timed db).latest i f (ap (λ items. at_item items i) (sym k.times) ∙ found);
     };
     values = λ at e found. a.values db at e (ap (λ items. at_item items at) (sym k.keys) ∙ found);
@@ -66,7 +72,8 @@ module _ {V : Type 0} {IsSound : Limits → ℕ → Blocks → V → Type 0} (re
   items_means = λ i. record { bases = λ number. each number i; selected = db }
     where
       here_same : base_means value_of m (base_at new db) ≡ base_means value_of m (base_at old db)
-      here_same = λ i. with_deadlines (map_of-items m (value_of m) (table_at old db) (table_at new db) k.keys i) (map_of-items m (λ v. v) (deadlines_at old db).table (deadlines_at new db).table k.times i)
+      here_same = λ i. with_deadlines (map_of-items m (value_of m) (table_at old db) (table_at new db) k.keys i)
+          (map_of-items m (λ v. v) (deadlines_at old db).table (deadlines_at new db).table k.times i)
 
       each : (number : ℕ) → base_means value_of m (base_at new number) ≡ base_means value_of m (base_at old number)
       each number = elim (cases_eq number db) [

@@ -74,7 +74,8 @@ module _ {V : Type 0} where
 
 module _ {V : Type 0} {IsSound : Limits → ℕ → Blocks → V → Type 0} (refs_of : Blocks → V → List BlockRef) (value_of : Blocks → V → Value) (own : ReadsOwn refs_of value_of IsSound) where
   -- a key that is there at a moment is seen with its deadline
-  pub seen_until : (bases : Bases V) (db moment : ℕ) (m : Blocks) → IsArranged IsSound bases m → (key : List ℕ) (at : ℕ) → StandsAt bases m db key moment at → (deadline : Option ℕ) → get (moments m (deadlines_at bases db)) key ≡ deadline → HasUntil (live (means value_of db bases m) moment) key deadline
+  pub seen_until : (bases : Bases V) (db moment : ℕ) (m : Blocks) → IsArranged IsSound bases m → (key : List ℕ) (at : ℕ) → StandsAt bases m db key moment at → (deadline : Option ℕ)
+      → get (moments m (deadlines_at bases db)) key ≡ deadline → HasUntil (live (means value_of db bases m) moment) key deadline
   seen_until bases db moment m a key at there deadline is = record {
     value = value_of m there.stands.element.value;
     stands =
@@ -100,7 +101,9 @@ module _ {V : Type 0} {IsSound : Limits → ℕ → Blocks → V → Type 0} (re
           gone = look_nothing refs_of value_of own bases db moment m key (look_lacks refs_of value_of own bases db m a key lacks);
         }
 
-    module _ (at : ℕ) (is : sought.item ≡ Some at) (timed : Option ℕ) (deadline : Option ℕ) (stands : IfSome timed (λ t. Stands m (deadlines_at bases db).table t key)) (lacks : IfNone timed (Lacks m (deadlines_at bases db).table key)) (value : get (moments m (deadlines_at bases db)) key ≡ deadline) (has : IfSome deadline (λ d. HasDeadline m (deadlines_at bases db).table key d)) where
+    module _ (at : ℕ) (is : sought.item ≡ Some at) (timed : Option ℕ) (deadline : Option ℕ) (stands : IfSome timed (λ t. Stands m (deadlines_at bases db).table t key))
+        (lacks : IfNone timed (Lacks m (deadlines_at bases db).table key)) (value : get (moments m (deadlines_at bases db)) key ≡ deadline)
+        (has : IfSome deadline (λ d. HasDeadline m (deadlines_at bases db).table key d)) where
       lasts_is : deadline ≡ deadline_of (look (means value_of db bases m) key)
       lasts_is = sym value ∙ deadline_seen refs_of value_of own bases db m a key
 

@@ -23,7 +23,8 @@ going_named : {X Y : Type 0} (f : X → Y) (t : Tables X) → is_rehashing (name
 going_named f t = ap (nat_lt 0) (length-map t.newer (map f))
 
 -- a call of `shrink` that begins nothing leaves whether a rehash is going on
-pub going_shrunk : {V E : Type 0} (old new : Table V) (result : Result Bool E) → IfOk result (λ began. began ≡ wants_shrink (tables old)) → ((blocks : Blocks) → OnOk result (key_tables blocks new ≡ shrunk (key_tables blocks old))) → result ≡ Ok false
+pub going_shrunk : {V E : Type 0} (old new : Table V) (result : Result Bool E) → IfOk result (λ began. began ≡ wants_shrink (tables old))
+    → ((blocks : Blocks) → OnOk result (key_tables blocks new ≡ shrunk (key_tables blocks old))) → result ≡ Ok false
     → is_rehashing (tables new) ≡ is_rehashing (tables old)
 going_shrunk {E = E} old new result value tables_are is =
     let none : Blocks = λ r. None in
@@ -46,14 +47,16 @@ module _ {V : Type 0} (old new : Bases V) (db : ℕ) (was base : Base V) (is : n
   at_other : (number : ℕ) → number ≢ db → base_at new number ≡ base_at old number
   at_other number other = ap (λ t. get_or t number (no_base 0)) is ∙ get_or-set_other old.bases db number base (no_base 0) other
 
-  pub still_set : is_rehashing (tables base.keys) ≡ is_rehashing (tables was.keys) → is_rehashing (tables base.deadlines.table) ≡ is_rehashing (tables was.deadlines.table) → AreStill old → AreStill new
+  pub still_set : is_rehashing (tables base.keys) ≡ is_rehashing (tables was.keys) → is_rehashing (tables base.deadlines.table) ≡ is_rehashing (tables was.deadlines.table) → AreStill old
+      → AreStill new
   still_set keys times still = record {
     keys = λ number. elim (cases_eq number db) [
       | inl same ↦ ap (keys_move new) same ∙ ap (λ (b : Base V). is_rehashing (tables b.keys)) at_db ∙ keys ∙ ap (λ (b : Base V). is_rehashing (tables b.keys)) was_db ∙ still.keys db
       | inr other ↦ ap (λ (b : Base V). is_rehashing (tables b.keys)) (at_other number other) ∙ still.keys number
     ];
     deadlines = λ number. elim (cases_eq number db) [
-      | inl same ↦ ap (deadlines_move new) same ∙ ap (λ (b : Base V). is_rehashing (tables b.deadlines.table)) at_db ∙ times ∙ ap (λ (b : Base V). is_rehashing (tables b.deadlines.table)) was_db ∙ still.deadlines db
+      | inl same ↦ ap (deadlines_move new) same ∙ ap (λ (b : Base V). is_rehashing (tables b.deadlines.table)) at_db ∙ times
+          ∙ ap (λ (b : Base V). is_rehashing (tables b.deadlines.table)) was_db ∙ still.deadlines db
       | inr other ↦ ap (λ (b : Base V). is_rehashing (tables b.deadlines.table)) (at_other number other) ∙ still.deadlines number
     ];
   }

@@ -30,7 +30,9 @@ module _ {V : Type 0} where
     where
       in_list : (items : List (Option (Element V))) (at : ℕ) → at_item items at ≡ Some e → times r (e.key ∷ own e.value) ≤ times r (flat_map (own_of own) items)
       in_list [] at found = cc
-      in_list (x ∷ items) zero found = (let here : times r (own_of own x) ≡ times r (e.key ∷ own e.value) = ap (λ o. times r (own_of own o)) found in omega (arith, here, times-append r (own_of own x) (flat_map (own_of own) items)))
+      in_list (x ∷ items) zero found =
+          (let here : times r (own_of own x) ≡ times r (e.key ∷ own e.value) = ap (λ o. times r (own_of own o)) found in
+          omega (arith, here, times-append r (own_of own x) (flat_map (own_of own) items)))
       in_list (x ∷ items) (suc at) found = omega (arith, in_list items at found, times-append r (own_of own x) (flat_map (own_of own) items))
 
   -- a table without a key
@@ -58,7 +60,8 @@ module _ {V : Type 0} where
   }
 
   -- a fact of what stood in a database's place, and what stands there now
-  pub in_place : (list : List (Base V)) (bases : Bases V) (db : ℕ) (was new : Base V) (R : Base V → Base V → Type 0) → list ≡ bases.bases → db < length bases.bases → was ≡ get_or list db was → R was new → R (base_at bases db) (get_or (set list db new) db (no_base 0))
+  pub in_place : (list : List (Base V)) (bases : Bases V) (db : ℕ) (was new : Base V) (R : Base V → Base V → Type 0) → list ≡ bases.bases → db < length bases.bases
+      → was ≡ get_or list db was → R was new → R (base_at bases db) (get_or (set list db new) db (no_base 0))
   in_place list bases db was new R same within here r =
       let inside : db < length list = subst (λ t. db < length t) (sym same) within in
       subst (λ t. R (base_at bases db) t) (sym (get_or-set_same list db new (no_base 0) inside))

@@ -25,7 +25,8 @@ moments_lack m d key k lacks = map_of-lacks m (λ v. v) d.table key k lacks
 
 module _ {V : Type 0} (m : Blocks) where
   -- the keys that have deadlines stay
-  names_kept : (old new : Table V) (d : Timed) → IsTimed m old d → ((at : ℕ) (e : Element V) (i : ℕ) (f : Element ℕ) → item old at ≡ Some e → item d.table i ≡ Some f → e.key ≡ f.key → Names new e.key) → IsTimed m new d
+  names_kept : (old new : Table V) (d : Timed) → IsTimed m old d →
+      ((at : ℕ) (e : Element V) (i : ℕ) (f : Element ℕ) → item old at ≡ Some e → item d.table i ≡ Some f → e.key ≡ f.key → Names new e.key) → IsTimed m new d
   names_kept old new d t stays = record {
     keyed = t.keyed;
     names = λ i f found. (let n = t.names i f found in subst (Names new) n.same (stays n.at n.element i f n.found found n.same));
@@ -61,7 +62,8 @@ module _ {V : Type 0} (m : Blocks) where
   ])
 
   -- a key of the table gets a deadline
-  pub timed_sets : (keys : Table V) (old new : Timed) (key : BlockRef) (deadline : ℕ) → Sets m old.table new.table key deadline → Keyed m new.table → Keyed m keys → IsSome (m key) → Names keys key → deadline < 2 ^ 63 → IsTimed m keys old → IsTimed m keys new
+  pub timed_sets : (keys : Table V) (old new : Timed) (key : BlockRef) (deadline : ℕ) → Sets m old.table new.table key deadline → Keyed m new.table → Keyed m keys → IsSome (m key)
+      → Names keys key → deadline < 2 ^ 63 → IsTimed m keys old → IsTimed m keys new
   timed_sets keys old new key deadline (changes at was stands s _) k _ live named late t = record {
     keyed = k;
     names = λ i f found. elim (cases_eq i at) [
@@ -94,7 +96,8 @@ module _ {V : Type 0} (m : Blocks) where
   }
 
   -- a key loses its deadline, where it has one
-  pub timed_clears : (keys : Table V) (old new : Timed) (key : List ℕ) → Clears m old.table new.table key ⊎ ((new ≡ old) × Lacks m old.table key) → Keyed m new.table → IsTimed m keys old → IsTimed m keys new × Lacks m new.table key
+  pub timed_clears : (keys : Table V) (old new : Timed) (key : List ℕ) → Clears m old.table new.table key ⊎ ((new ≡ old) × Lacks m old.table key) → Keyed m new.table → IsTimed m keys old
+      → IsTimed m keys new × Lacks m new.table key
   timed_clears keys old new key (inl c) k t = (
     record {
       keyed = k;
@@ -114,7 +117,9 @@ module _ {V : Type 0} (m : Blocks) where
   timed_clears keys old new key (inr same) k t = (subst (IsTimed m keys) (sym same.0) t, subst (λ (d : Timed). Lacks m d.table key) (sym same.0) same.1)
 
   -- a key gets a deadline, and loses it again
-  pub sets_then_clears : (keys : Table V) (old mid new : Timed) (name : BlockRef) (key : List ℕ) (deadline : ℕ) → m name ≡ Some key → Lacks m keys key → Sets m old.table mid.table name deadline → Keyed m mid.table → Clears m mid.table new.table key ⊎ ((new ≡ mid) × Lacks m mid.table key) → Keyed m new.table → IsTimed m keys old → IsTimed m keys new
+  pub sets_then_clears : (keys : Table V) (old mid new : Timed) (name : BlockRef) (key : List ℕ) (deadline : ℕ) → m name ≡ Some key → Lacks m keys key
+      → Sets m old.table mid.table name deadline → Keyed m mid.table → Clears m mid.table new.table key ⊎ ((new ≡ mid) × Lacks m mid.table key) → Keyed m new.table → IsTimed m keys old
+      → IsTimed m keys new
   sets_then_clears keys old mid new name key deadline bytes lacks sets mid_keyed cleared k t = record {
     keyed = k;
     names = λ i f found. (let s = before i f found in t.names i f s);
@@ -162,8 +167,10 @@ module _ {V : Type 0} (m : Blocks) where
   timed_none seed number = record { keyed = Keyed-none m number; names = λ i f found. cc; latest = λ i f found. cc }
 
 -- the keys keep their bytes, and so do the deadlines
-pub timed_frame : {V : Type 0} (m after : Blocks) (keys : Table V) (d : Timed) → IsTimed m keys d → ((at : ℕ) (e : Element V) → item keys at ≡ Some e → after e.key ≡ m e.key) → IsTimed after keys d × (moments after d ≡ moments m d)
+pub timed_frame : {V : Type 0} (m after : Blocks) (keys : Table V) (d : Timed) → IsTimed m keys d → ((at : ℕ) (e : Element V) → item keys at ≡ Some e → after e.key ≡ m e.key)
+    → IsTimed after keys d × (moments after d ≡ moments m d)
 timed_frame m after keys d t kept =
-    let same : (at : ℕ) (e : Element ℕ) → item d.table at ≡ Some e → after e.key ≡ m e.key = (λ at e found. (let n = t.names at e found in subst (λ r. after r ≡ m r) n.same (kept n.at n.element n.found))) in
+    let same : (at : ℕ) (e : Element ℕ) → item d.table at ≡ Some e
+    → after e.key ≡ m e.key = (λ at e found. (let n = t.names at e found in subst (λ r. after r ≡ m r) n.same (kept n.at n.element n.found))) in
     let keyed = (Keyed-frame m after d.table t.keyed same).0 in
     (record { keyed = keyed; names = t.names; latest = t.latest }, map_of-frame m after (λ v. v) (λ v. v) d.table t.keyed keyed (λ at e found. (same at e found, refl)))

@@ -27,7 +27,8 @@ use Rattle.held.proofs.Dropping.{stayed_none, stayed_then, thinned_none, thinned
 use Rattle.held.proofs.Finds.{take_next, out_front}
 
 -- what was dropped of a list so far
-pub record IsDropped {V : Type 0} (refs_of : Blocks → V → List BlockRef) (value_of : Blocks → V → Value) (IsSound : Limits → ℕ → Blocks → V → Type 0) (found : List BlockRef) (old now : Bases V) (m after : Blocks) (db moment n : ℕ) : Type 0 where
+pub record IsDropped {V : Type 0} (refs_of : Blocks → V → List BlockRef) (value_of : Blocks → V → Value) (IsSound : Limits → ℕ → Blocks → V → Type 0) (found : List BlockRef)
+    (old now : Bases V) (m after : Blocks) (db moment n : ℕ) : Type 0 where
   pub thins : Thins value_of old now m after db moment n
   pub thinned : Thinned refs_of (take n found) old now m after db
   pub cursor : KeepsCursor (deadlines_at old db) (deadlines_at now db)
@@ -35,7 +36,8 @@ pub record IsDropped {V : Type 0} (refs_of : Blocks → V → List BlockRef) (va
   pub changes : Changes m after (owned (refs_of m) old) (owned (refs_of after) now)
 
 -- what several steps keep
-pub record Outlives {V : Type 0} (refs_of : Blocks → V → List BlockRef) (value_of : Blocks → V → Value) (IsSound : Limits → ℕ → Blocks → V → Type 0) (old new : Bases V) (m after : Blocks) (moment : ℕ) : Type 0 where
+pub record Outlives {V : Type 0} (refs_of : Blocks → V → List BlockRef) (value_of : Blocks → V → Value) (IsSound : Limits → ℕ → Blocks → V → Type 0) (old new : Bases V) (m after : Blocks)
+    (moment : ℕ) : Type 0 where
   pub lives : (number : ℕ) → live (means value_of number new after) moment ≡ live (means value_of number old m) moment
   pub stayed : (db at : ℕ) (e : Element V) → item (table_at new db) at ≡ Some e → Stayed refs_of old m after db at e
   pub arranged : IsArranged IsSound new after
@@ -44,7 +46,8 @@ pub record Outlives {V : Type 0} (refs_of : Blocks → V → List BlockRef) (val
   pub seed : new.seed ≡ old.seed
 
 -- where a key may leave and nothing is written, the search goes on where it stood
-cursor_stays : {V : Type 0} (refs_of : Blocks → V → List BlockRef) (old new : Bases V) (m after : Blocks) (db : ℕ) → Within refs_of (no_key db) old new m after → KeepsCursor (deadlines_at old db) (deadlines_at new db)
+cursor_stays : {V : Type 0} (refs_of : Blocks → V → List BlockRef) (old new : Bases V) (m after : Blocks) (db : ℕ) → Within refs_of (no_key db) old new m after
+    → KeepsCursor (deadlines_at old db) (deadlines_at new db)
 cursor_stays refs_of old new m after db w = elim (w.grew db) [ inl grows ↦ grows.cursor | inr anew ↦ absurd anew.0 ]
 
 module _ {V : Type 0} {IsSound : Limits → ℕ → Blocks → V → Type 0} (refs_of : Blocks → V → List BlockRef) (value_of : Blocks → V → Value) (own : ReadsOwn refs_of value_of IsSound) where
@@ -60,7 +63,8 @@ module _ {V : Type 0} {IsSound : Limits → ℕ → Blocks → V → Type 0} (re
     changes = same_owned refs_of value_of own old m intact;
   }
 
-  module _ (found : List BlockRef) (old now : Bases V) (m mid : Blocks) (db moment n : ℕ) (name : BlockRef) (gone : AreGone (deadlines_at old db).table moment found) (once : (r : BlockRef) → times r found ≤ 1) (at_n : slice_get found n ≡ Some name) (d : IsDropped refs_of value_of IsSound found old now m mid db moment n) where
+  module _ (found : List BlockRef) (old now : Bases V) (m mid : Blocks) (db moment n : ℕ) (name : BlockRef) (gone : AreGone (deadlines_at old db).table moment found)
+      (once : (r : BlockRef) → times r found ≤ 1) (at_n : slice_get found n ≡ Some name) (d : IsDropped refs_of value_of IsSound found old now m mid db moment n) where
     -- the next key that was found is gone at the moment
     is_gone : IsGone (deadlines_at old db).table moment name
     is_gone = gone n name at_n
@@ -83,8 +87,10 @@ module _ {V : Type 0} {IsSound : Limits → ℕ → Blocks → V → Type 0} (re
     drop_intact intact = intact_after refs_of value_of own old now m mid d.changes d.arranged
 
     -- where the next key that was found leaves with its deadline, one key more was dropped
-    pub drop_next : (next : Bases V) (after : Blocks) → means value_of db next after ≡ without (means value_of db now mid) (bytes_at mid name) → Loses mid (deadlines_at now db) (deadlines_at next db) (bytes_at mid name)
-        → Thinned refs_of (name ∷ []) now next mid after db → Within refs_of (no_key db) now next mid after → IsArranged IsSound next after → Changes mid after (owned (refs_of mid) now) (owned (refs_of after) next)
+    pub drop_next : (next : Bases V) (after : Blocks) → means value_of db next after ≡ without (means value_of db now mid) (bytes_at mid name)
+        → Loses mid (deadlines_at now db) (deadlines_at next db) (bytes_at mid name)
+        → Thinned refs_of (name ∷ []) now next mid after db → Within refs_of (no_key db) now next mid after → IsArranged IsSound next after
+        → Changes mid after (owned (refs_of mid) now) (owned (refs_of after) next)
         → IsDropped refs_of value_of IsSound found old next m after db moment (n + 1)
     drop_next next after w l t within a p = record {
       thins = thins_then refs_of value_of own old now next m mid after db moment n 1 d.thins (thins_one refs_of value_of own now next mid after db moment is_gone.at name d.arranged passed w l);
@@ -95,12 +101,14 @@ module _ {V : Type 0} {IsSound : Limits → ℕ → Blocks → V → Type 0} (re
     }
 
   -- where all keys that were found were dropped exactly these have left the database
-  pub drop_ends : (found : List BlockRef) (old now : Bases V) (m after : Blocks) (db moment n : ℕ) → n ≡ length found → IsDropped refs_of value_of IsSound found old now m after db moment n → Thinned refs_of found old now m after db
+  pub drop_ends : (found : List BlockRef) (old now : Bases V) (m after : Blocks) (db moment n : ℕ) → n ≡ length found → IsDropped refs_of value_of IsSound found old now m after db moment n
+      → Thinned refs_of found old now m after db
   drop_ends found old now m after db moment n all d = subst (λ l. Thinned refs_of l old now m after db) (ap (λ k. take k found) all ∙ take-length found) d.thinned
 
   -- ---- one step
 
-  module _ (old mid cycled : Bases V) (m : Blocks) (db moment : ℕ) (a : IsArranged IsSound old m) (here : db ≡ old.turn) (c : ChangesDeadlines old cycled db) (same : (deadlines_at cycled db).table ≡ (deadlines_at old db).table) (passes : mid ≡ record cycled { turn = (cycled.turn + 1) % 16 }) where
+  module _ (old mid cycled : Bases V) (m : Blocks) (db moment : ℕ) (a : IsArranged IsSound old m) (here : db ≡ old.turn) (c : ChangesDeadlines old cycled db)
+      (same : (deadlines_at cycled db).table ≡ (deadlines_at old db).table) (passes : mid ≡ record cycled { turn = (cycled.turn + 1) % 16 }) where
     -- where a cycle leaves the table of deadlines, each deadline is still that of a key
     cycled_timed : IsTimed m (table_at old db) (deadlines_at cycled db)
     cycled_timed = record {
@@ -174,7 +182,8 @@ module _ {V : Type 0} {IsSound : Limits → ℕ → Blocks → V → Type 0} (re
       }
 
       -- where the keys that a cycle finds leave, the databases made one expiry step
-      pub step_expires : found ≡ found_in (deadlines_at old db) moment → (deadlines_at cycled db).cursor ≡ cursor_behind (deadlines_at old db) moment → KeepsCursor (deadlines_at mid db) (deadlines_at new db) → SameSettings mid new → Expires refs_of moment old new m after
+      pub step_expires : found ≡ found_in (deadlines_at old db) moment → (deadlines_at cycled db).cursor ≡ cursor_behind (deadlines_at old db) moment
+          → KeepsCursor (deadlines_at mid db) (deadlines_at new db) → SameSettings mid new → Expires refs_of moment old new m after
       step_expires finds moved stays settings = record {
         thinned = subst (λ d. Thinned refs_of (found_in (deadlines_at old d) moment) old new m after d) here (subst (λ l. Thinned refs_of l old new m after db) finds old_thinned);
         cursor = subst (λ d. (deadlines_at new d).cursor ≡ cursor_behind (deadlines_at old d) moment) here (stays ∙ ap (λ (b : Bases V). (deadlines_at b db).cursor) passes ∙ moved);
@@ -195,7 +204,8 @@ module _ {V : Type 0} {IsSound : Limits → ℕ → Blocks → V → Type 0} (re
         where
           each : (other : ℕ) → live_keys (base_means value_of after (base_at new other)) moment ≡ live_keys (base_means value_of m (base_at old other)) moment
           each other = elim (cases_eq other db) [
-            | inl at_db ↦ subst (λ k. live_keys (base_means value_of after (base_at new k)) moment ≡ live_keys (base_means value_of m (base_at old k)) moment) (sym at_db) (thins.same ∙ ap (λ b. live_keys b moment) (mid_means db))
+            | inl at_db ↦ subst (λ k. live_keys (base_means value_of after (base_at new k)) moment ≡ live_keys (base_means value_of m (base_at old k)) moment) (sym at_db)
+                (thins.same ∙ ap (λ b. live_keys b moment) (mid_means db))
             | inr apart ↦ ap (λ b. live_keys b moment) (ap (λ (w : World). w.bases other) thins.world ∙ cond-false _ _ _ (ne_eqb other db apart) ∙ mid_means other)
           ]
 
@@ -214,7 +224,8 @@ module _ {V : Type 0} {IsSound : Limits → ℕ → Blocks → V → Type 0} (re
 
   -- what several steps keep is kept with one more that leaves what lives at the moment
   pub outlives_next : (a b c : Bases V) (m mid after : Blocks) (moment : ℕ) → Outlives refs_of value_of IsSound a b m mid moment → Expires refs_of moment b c mid after
-      → ((number : ℕ) → live (means value_of number c after) moment ≡ live (means value_of number b mid) moment) → IsArranged IsSound c after → Changes mid after (owned (refs_of mid) b) (owned (refs_of after) c) → Outlives refs_of value_of IsSound a c m after moment
+      → ((number : ℕ) → live (means value_of number c after) moment ≡ live (means value_of number b mid) moment) → IsArranged IsSound c after
+      → Changes mid after (owned (refs_of mid) b) (owned (refs_of after) c) → Outlives refs_of value_of IsSound a c m after moment
   outlives_next a b c m mid after moment o e lives arranged changes = record {
     lives = λ number. lives number ∙ o.lives number;
     stayed = λ db at x found. (let last = e.thinned.stayed db at x found in stayed_then refs_of a b m mid after db at x last (o.stayed db at x last.stood));
@@ -225,6 +236,7 @@ module _ {V : Type 0} {IsSound : Limits → ℕ → Blocks → V → Type 0} (re
   }
 
   -- what lives at a moment decides what lives later
-  pub lives_later : (old new : Bases V) (m after : Blocks) (moment later number : ℕ) → live (means value_of number new after) moment ≡ live (means value_of number old m) moment → moment ≤ later → live (means value_of number new after) later ≡ live (means value_of number old m) later
+  pub lives_later : (old new : Bases V) (m after : Blocks) (moment later number : ℕ) → live (means value_of number new after) moment ≡ live (means value_of number old m) moment
+      → moment ≤ later → live (means value_of number new after) later ≡ live (means value_of number old m) later
   lives_later old new m after moment later number same before =
       sym (live_later (means value_of number new after) moment later before) ∙ ap (λ w. live w later) same ∙ live_later (means value_of number old m) moment later before

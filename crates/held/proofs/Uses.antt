@@ -24,10 +24,17 @@ use Rattle.held.proofs.Calls.{item_owned}
 module _ {V : Type 0} {IsSound : Limits → ℕ → Blocks → V → Type 0} (refs_of : Blocks → V → List BlockRef) (value_of : Blocks → V → Value) (own : ReadsOwn refs_of value_of IsSound) where
   -- ---- what is out of the databases changes: a value is made, changed or released
 
-  module _ (bases : Bases V) (m after : Blocks) (out later xs ys : List BlockRef) (sound : SoundBeside refs_of IsSound bases m out) (p : Changes m after xs ys) (part : (r : BlockRef) → times r xs ≤ times r out) where
+  module _ (bases : Bases V) (m after : Blocks) (out later xs ys : List BlockRef) (sound : SoundBeside refs_of IsSound bases m out) (p : Changes m after xs ys)
+      (part : (r : BlockRef) → times r xs ≤ times r out) where
     pub Changed-sound : ((r : BlockRef) → times r later + times r xs ≡ times r out + times r ys) → SoundBeside refs_of IsSound bases after later
     Changed-sound same = record {
-      owns = λ r. omega (arith, sound.owns r, same r, ap (times r) (owned_out refs_of value_of own bases m after out xs ys (sound_intact refs_of value_of own bases m out sound) p part), (Counts-changed m after xs ys (λ q. omega (arith, sound.owns q, part q)) p).balance r);
+      owns = λ r. omega (
+        arith,
+        sound.owns r,
+        same r,
+        ap (times r) (owned_out refs_of value_of own bases m after out xs ys (sound_intact refs_of value_of own bases m out sound) p part),
+        (Counts-changed m after xs ys (λ q. omega (arith, sound.owns q, part q)) p).balance r,
+      );
       arranged = arranged_out refs_of value_of own bases m after out xs ys (sound_intact refs_of value_of own bases m out sound) p part;
     }
 
@@ -56,11 +63,13 @@ module _ {V : Type 0} {IsSound : Limits → ℕ → Blocks → V → Type 0} (re
       Put-within scope clause = within_then refs_of scope bases bases new m after later (Made-within scope) clause
 
       -- from the clause `sound` of `put`
-      pub Put-sound : ((all out : List BlockRef) → SoundBeside refs_of IsSound bases after all → AreParts all (refs_of after value) out → SoundBeside refs_of IsSound new later out) → Sound refs_of IsSound new later
+      pub Put-sound : ((all out : List BlockRef) → SoundBeside refs_of IsSound bases after all → AreParts all (refs_of after value) out → SoundBeside refs_of IsSound new later out)
+          → Sound refs_of IsSound new later
       Put-sound clause = clause (refs_of after value) [] Made-sound (λ r. omega arith)
 
       -- from the clause `means` of `put`, or its clause `kept`: the world that the step speaks of
-      pub Put-means : (db moment : ℕ) (key : List ℕ) (entry : Entry) → means value_of db new later ≡ put (means value_of db bases after) key entry → model.live (means value_of db new later) moment ≡ stand (model.live (means value_of db bases m) moment) moment key entry
+      pub Put-means : (db moment : ℕ) (key : List ℕ) (entry : Entry) → means value_of db new later ≡ put (means value_of db bases after) key entry
+          → model.live (means value_of db new later) moment ≡ stand (model.live (means value_of db bases m) moment) moment key entry
       Put-means db moment key entry clause = ap (λ w. model.live w moment) (clause ∙ ap (λ w. put w key entry) (Made-means db)) ∙ live_put (means value_of db bases m) moment key entry
 
       pub Put-kept : (db moment : ℕ) → means value_of db new later ≡ means value_of db bases after → model.live (means value_of db new later) moment ≡ model.live (means value_of db bases m) moment
@@ -68,7 +77,8 @@ module _ {V : Type 0} {IsSound : Limits → ℕ → Blocks → V → Type 0} (re
 
   -- ---- a value is lifted, changed and lowered again
 
-  module _ (old mid : Bases V) (m after : Blocks) (db moment : ℕ) (key : List ℕ) (lifted changed : Lifted V) (out : List BlockRef) (empty : V) (lifts : Lifts refs_of value_of empty old mid m db key moment lifted) (sound : SoundBeside refs_of IsSound mid m (refs_of m lifted.value ++ out))
+  module _ (old mid : Bases V) (m after : Blocks) (db moment : ℕ) (key : List ℕ) (lifted changed : Lifted V) (out : List BlockRef) (empty : V)
+      (lifts : Lifts refs_of value_of empty old mid m db key moment lifted) (sound : SoundBeside refs_of IsSound mid m (refs_of m lifted.value ++ out))
       (p : Changes m after (refs_of m lifted.value) (refs_of after changed.value)) (same_db : changed.db ≡ lifted.db) (same_item : changed.item ≡ lifted.item) where
     part : (r : BlockRef) → times r (refs_of m lifted.value) ≤ times r (refs_of m lifted.value ++ out)
     part r = omega (arith, times-append r (refs_of m lifted.value) out)
@@ -90,36 +100,49 @@ module _ {V : Type 0} {IsSound : Limits → ℕ → Blocks → V → Type 0} (re
         subst (λ d. IsPlace mid after d changed.item key lifts.deadline) (sym (same_db ∙ lifts.same_db)) (subst (λ at. IsPlace mid after db at key lifts.deadline) (sym same_item) (record {
           element = lifts.place.element;
           found = lifts.place.found;
-          bytes = kept_inside refs_of value_of own mid m after (refs_of m lifted.value ++ out) (refs_of m lifted.value) (refs_of after changed.value) (sound_intact refs_of value_of own mid m (refs_of m lifted.value ++ out) sound) p part lifts.place.element.key
+          bytes = kept_inside refs_of value_of own mid m after (refs_of m lifted.value ++ out) (refs_of m lifted.value) (refs_of after changed.value)
+              (sound_intact refs_of value_of own mid m (refs_of m lifted.value ++ out) sound) p part lifts.place.element.key
               (omega (arith, key_itself lifts.place.element.key, item_owned (refs_of m) mid db lifted.item lifts.place.element lifts.place.element.key lifts.place.found)) ∙ lifts.place.bytes;
-          lasts = ap (λ t. get t key) (kept_timed refs_of value_of own mid m after (refs_of m lifted.value ++ out) (refs_of m lifted.value) (refs_of after changed.value) (sound_intact refs_of value_of own mid m (refs_of m lifted.value ++ out) sound) p part db).1 ∙ lifts.place.lasts;
+          lasts = ap (λ t. get t key)
+              (kept_timed refs_of value_of own mid m after (refs_of m lifted.value ++ out) (refs_of m lifted.value) (refs_of after changed.value)
+              (sound_intact refs_of value_of own mid m (refs_of m lifted.value ++ out) sound) p part db).1 ∙ lifts.place.lasts;
         }))
 
     module _ (new : Bases V) where
       -- from the clause `sound` of `lower`
-      pub Lower-sound : ((all rest : List BlockRef) → SoundBeside refs_of IsSound mid after all → AreParts all (refs_of after changed.value) rest → SoundBeside refs_of IsSound new after rest) → SoundBeside refs_of IsSound new after out
+      pub Lower-sound :
+          ((all rest : List BlockRef) → SoundBeside refs_of IsSound mid after all → AreParts all (refs_of after changed.value) rest → SoundBeside refs_of IsSound new after rest)
+          → SoundBeside refs_of IsSound new after out
       Lower-sound clause = clause (refs_of after changed.value ++ out) out changed_sound (λ r. times-append r (refs_of after changed.value) out)
 
       -- from the clause `has` of `lower`
-      pub Lower-has : ((k : List ℕ) (deadline : Option ℕ) → IsPlace mid after changed.db changed.item k deadline → HasOnly new after changed.db k changed.value) → HasOnly new after db key changed.value
+      pub Lower-has : ((k : List ℕ) (deadline : Option ℕ) → IsPlace mid after changed.db changed.item k deadline → HasOnly new after changed.db k changed.value)
+          → HasOnly new after db key changed.value
       Lower-has clause = subst (λ d. HasOnly new after d key changed.value) (same_db ∙ lifts.same_db) (clause key lifts.deadline place)
 
       -- from the clauses `within` of `lift` and `lower`
-      pub Lower-within : Within refs_of (one_key db key) old mid m m → ((k : List ℕ) (deadline : Option ℕ) → IsPlace mid after changed.db changed.item k deadline → Within refs_of (one_key changed.db k) mid new after after) → Within refs_of (one_key db key) old new m after
+      pub Lower-within : Within refs_of (one_key db key) old mid m m
+          → ((k : List ℕ) (deadline : Option ℕ) → IsPlace mid after changed.db changed.item k deadline → Within refs_of (one_key changed.db k) mid new after after)
+          → Within refs_of (one_key db key) old new m after
       Lower-within taken clause =
           within_then refs_of (one_key db key) old mid new m m after taken
           (within_then refs_of (one_key db key) mid mid new m after after
-          (within_store refs_of value_of own (one_key db key) mid m after (refs_of m lifted.value ++ out) (refs_of m lifted.value) (refs_of after changed.value) (sound_intact refs_of value_of own mid m (refs_of m lifted.value ++ out) sound) p part)
+          (within_store refs_of value_of own (one_key db key) mid m after (refs_of m lifted.value ++ out) (refs_of m lifted.value) (refs_of after changed.value)
+          (sound_intact refs_of value_of own mid m (refs_of m lifted.value ++ out) sound) p part)
           (subst (λ d. Within refs_of (one_key d key) mid new after after) (same_db ∙ lifts.same_db) (clause key lifts.deadline place)))
 
       -- from the clause `means` of `lower`: the value stands at the key, with the deadline that was there
-      pub Lower-means : ((k : List ℕ) (deadline : Option ℕ) → IsPlace mid after changed.db changed.item k deadline → means value_of changed.db new after ≡ put (means value_of changed.db mid after) k (record { value = value_of after changed.value; deadline = deadline }))
+      pub Lower-means :
+          ((k : List ℕ) (deadline : Option ℕ) → IsPlace mid after changed.db changed.item k deadline
+          → means value_of changed.db new after ≡ put (means value_of changed.db mid after) k (record { value = value_of after changed.value; deadline = deadline }))
           → model.live (means value_of db new after) moment ≡ put (model.live (means value_of db old m) moment) key (record { value = value_of after changed.value; deadline = lifts.deadline })
       Lower-means clause =
           let entry : Entry = record { value = value_of after changed.value; deadline = lifts.deadline } in
           ap (λ w. model.live w moment)
           (subst (λ d. means value_of d new after ≡ put (means value_of d mid after) key entry) (same_db ∙ lifts.same_db) (clause key lifts.deadline place)
-          ∙ ap (λ w. put w key entry) (means_out refs_of value_of own mid m after (refs_of m lifted.value ++ out) (refs_of m lifted.value) (refs_of after changed.value) (sound_intact refs_of value_of own mid m (refs_of m lifted.value ++ out) sound) p part db)
+          ∙ ap (λ w. put w key entry)
+          (means_out refs_of value_of own mid m after (refs_of m lifted.value ++ out) (refs_of m lifted.value) (refs_of after changed.value)
+          (sound_intact refs_of value_of own mid m (refs_of m lifted.value ++ out) sound) p part db)
           ∙ lifts.back entry)
           ∙ live_put_in_time (means value_of db old m) moment key entry (was_in_time (means value_of db old m) moment key _ lifts.stands).1
 
@@ -129,6 +152,8 @@ module _ {V : Type 0} {IsSound : Limits → ℕ → Blocks → V → Type 0} (re
   has_sound bases m db key value a has = subst (IsSound bases.limits bases.seed m) has.is (a.values db has.at has.element has.found)
 
   -- what was lifted is sound over the databases that are left
-  pub lifted_sound : (old mid : Bases V) (m : Blocks) (db moment : ℕ) (key : List ℕ) (lifted : Lifted V) (empty : V) → IsArranged IsSound old m → SameSettings old mid → Lifts refs_of value_of empty old mid m db key moment lifted → IsSound mid.limits mid.seed m lifted.value
+  pub lifted_sound : (old mid : Bases V) (m : Blocks) (db moment : ℕ) (key : List ℕ) (lifted : Lifted V) (empty : V) → IsArranged IsSound old m → SameSettings old mid
+      → Lifts refs_of value_of empty old mid m db key moment lifted → IsSound mid.limits mid.seed m lifted.value
   lifted_sound old mid m db moment key lifted empty a settings lifts =
-      subst (λ limits. IsSound limits mid.seed m lifted.value) (sym settings.limits) (subst (λ seed. IsSound old.limits seed m lifted.value) (sym settings.seed) (has_sound old m db key lifted.value a lifts.had))
+      subst (λ limits. IsSound limits mid.seed m lifted.value) (sym settings.limits)
+      (subst (λ seed. IsSound old.limits seed m lifted.value) (sym settings.seed) (has_sound old m db key lifted.value a lifts.had))

@@ -51,7 +51,8 @@ module _ {V : Type 0} where
   ]
 
   -- tables that come from none go on
-  pub grown_on : (bases new : Bases V) (m after : Blocks) (db : ℕ) → AreGrown bases m → new.seed ≡ bases.seed → {emptied : Type 0} → Grew emptied bases.seed (base_at bases db) (base_at new db) m after → BaseGrows new.seed (no_base new.seed) (base_at new db) after after
+  pub grown_on : (bases new : Bases V) (m after : Blocks) (db : ℕ) → AreGrown bases m → new.seed ≡ bases.seed → {emptied : Type 0}
+      → Grew emptied bases.seed (base_at bases db) (base_at new db) m after → BaseGrows new.seed (no_base new.seed) (base_at new db) after after
   grown_on bases new m after db grown seed grew = subst (λ s. BaseGrows s (no_base s) (base_at new db) after after) (sym seed) (elim grew [
     | inl on ↦ grows_anew bases.seed (base_at new db) after m after (grows_then bases.seed (no_base bases.seed) (base_at bases db) (base_at new db) m m after (grown db) on)
     | inr anew ↦ grows_anew bases.seed (base_at new db) after m after anew.1
@@ -75,7 +76,8 @@ module _ {V : Type 0} (refs_of : Blocks → V → List BlockRef) where
   pub within_then : (scope : Scope) (a b c : Bases V) (m mid after : Blocks) → Within refs_of scope a b m mid → Within refs_of scope b c mid after → Within refs_of scope a c m after
   within_then scope a b c m mid after p q = record {
     same = λ db apart. q.same db apart ∙ p.same db apart;
-    grew = λ db. grew_then (scope.empties db) a.seed (base_at a db) (base_at b db) (base_at c db) m mid after (p.grew db) (subst (λ seed. Grew (scope.empties db) seed (base_at b db) (base_at c db) mid after) p.seed (q.grew db));
+    grew = λ db. grew_then (scope.empties db) a.seed (base_at a db) (base_at b db) (base_at c db) m mid after (p.grew db)
+        (subst (λ seed. Grew (scope.empties db) seed (base_at b db) (base_at c db) mid after) p.seed (q.grew db));
     stayed = λ db at e found apart.
         (let last = q.stayed db at e found apart in
         let itself : one_if (ref_eq e.key e.key) ≡ 1 = cond-true _ _ _ (ref_eq-refl e.key) in
@@ -86,7 +88,8 @@ module _ {V : Type 0} (refs_of : Blocks → V → List BlockRef) where
   }
 
   -- what is within a scope is within a wider one
-  pub within_wider : (scope wider : Scope) → ((db : ℕ) → scope.touches db → wider.touches db) → ((db : ℕ) (key : List ℕ) → scope.writes db key → wider.writes db key) → ((db : ℕ) → scope.empties db → wider.empties db)
+  pub within_wider : (scope wider : Scope) → ((db : ℕ) → scope.touches db → wider.touches db) → ((db : ℕ) (key : List ℕ) → scope.writes db key → wider.writes db key)
+      → ((db : ℕ) → scope.empties db → wider.empties db)
       → (old new : Bases V) (m after : Blocks) → Within refs_of scope old new m after → Within refs_of wider old new m after
   within_wider scope wider touches writes empties old new m after p = record {
     same = λ db apart. p.same db (λ touched. apart (touches db touched));
@@ -125,10 +128,12 @@ module _ {V : Type 0} (refs_of : Blocks → V → List BlockRef) where
     FromOld = (at : ℕ) (e : Element V) → item (table_at new db) at ≡ Some e → (scope.writes db (bytes_at m e.key) → ⊥) → item (table_at old db) at ≡ Some e
 
     -- where the one database that changes has no new element but written ones, each unwritten element stayed
-    from_here : ChangesBase old new db → FromOld → (number at : ℕ) (e : Element V) → item (table_at new number) at ≡ Some e → (scope.writes number (bytes_at m e.key) → ⊥) → Stayed refs_of old m m number at e
+    from_here : ChangesBase old new db → FromOld → (number at : ℕ) (e : Element V) → item (table_at new number) at ≡ Some e → (scope.writes number (bytes_at m e.key) → ⊥)
+        → Stayed refs_of old m m number at e
     from_here c from number at e found apart = record {
       stood = elim (cases_eq number db) [
-        | inl here ↦ subst (λ n. item (table_at old n) at ≡ Some e) (sym here) (from at e (subst (λ n. item (table_at new n) at ≡ Some e) here found) (λ named. apart (subst (λ n. scope.writes n (bytes_at m e.key)) (sym here) named)))
+        | inl here ↦ subst (λ n. item (table_at old n) at ≡ Some e) (sym here)
+            (from at e (subst (λ n. item (table_at new n) at ≡ Some e) here found) (λ named. apart (subst (λ n. scope.writes n (bytes_at m e.key)) (sym here) named)))
         | inr other ↦ ap (λ (b : Base V). item b.keys at) (sym (c.others number other)) ∙ found
       ];
       bytes = λ r owns. refl;
@@ -136,7 +141,8 @@ module _ {V : Type 0} (refs_of : Blocks → V → List BlockRef) where
     }
 
     -- a value takes the place of another, at a key that is written
-    pub within_swaps : (c : ChangesTable old new db) (at : ℕ) (was value : V) (s : Swaps (table_at old db) (table_at new db) at was value) → key_tables m (table_at new db) ≡ key_tables m (table_at old db) → scope.writes db (bytes_at m s.key) → Within refs_of scope old new m m
+    pub within_swaps : (c : ChangesTable old new db) (at : ℕ) (was value : V) (s : Swaps (table_at old db) (table_at new db) at was value)
+        → key_tables m (table_at new db) ≡ key_tables m (table_at old db) → scope.writes db (bytes_at m s.key) → Within refs_of scope old new m m
     within_swaps c at was value s tables named = record {
       same = same_apart c.base;
       grew = here_or_same c.base (record {
@@ -158,7 +164,11 @@ module _ {V : Type 0} (refs_of : Blocks → V → List BlockRef) where
     within_anew c emptied none = record {
       same = same_apart c;
       grew = λ number. elim (cases_eq number db) [
-        | inl here ↦ inr (subst scope.empties (sym here) emptied, subst (λ (b : Base V). BaseGrows old.seed (no_base old.seed) b m m) (sym (ap (base_at new) here ∙ none)) (grows_none old.seed (no_base old.seed) m))
+        | inl here ↦ inr (
+          subst scope.empties (sym here) emptied,
+          subst (λ (b : Base V). BaseGrows old.seed (no_base old.seed) b m m) (sym (ap (base_at new) here ∙ none))
+              (grows_none old.seed (no_base old.seed) m),
+        )
         | inr other ↦ inl (subst (λ (b : Base V). BaseGrows old.seed (base_at old number) b m m) (sym (c.others number other)) (grows_none old.seed (base_at old number) m))
       ];
       stayed = from_here c (λ i e found apart. (let nothing : Some e ≡ None = sym found ∙ ap (λ (b : Base V). item b.keys i) none in absurd cc));
@@ -180,7 +190,8 @@ module _ {V : Type 0} (refs_of : Blocks → V → List BlockRef) where
       }
 
       -- deadlines that come from the old ones and keep the cursor are within a scope that touches the database
-      pub within_times : ChangesDeadlines old new db → Grown (hash_of (deadlines_at old db).table.seed) (key_tables m (deadlines_at old db).table) (key_tables m (deadlines_at new db).table) → KeepsCursor (deadlines_at old db) (deadlines_at new db) → Within refs_of scope old new m m
+      pub within_times : ChangesDeadlines old new db → Grown (hash_of (deadlines_at old db).table.seed) (key_tables m (deadlines_at old db).table)
+          (key_tables m (deadlines_at new db).table) → KeepsCursor (deadlines_at old db) (deadlines_at new db) → Within refs_of scope old new m m
       within_times c grown cursor = record {
         same = same_apart c.base;
         grew = here_or_same c.base (record {
@@ -193,14 +204,16 @@ module _ {V : Type 0} (refs_of : Blocks → V → List BlockRef) where
       }
 
       -- an element leaves
-      pub within_removes : (c : ChangesTable old new db) (key : List ℕ) (ref : BlockRef) (value : V) (l : Removes m (table_at old db) (table_at new db) key ref value) → TableGrows m (table_at old db) (table_at new db) → Within refs_of scope old new m m
+      pub within_removes : (c : ChangesTable old new db) (key : List ℕ) (ref : BlockRef) (value : V) (l : Removes m (table_at old db) (table_at new db) key ref value)
+          → TableGrows m (table_at old db) (table_at new db) → Within refs_of scope old new m m
       within_removes c key ref value l grown = within_table c grown (λ i e found apart. elim (cases_eq i l.at) [
         | inl here ↦ (let none : Some e ≡ None = sym found ∙ ap (item (table_at new db)) here ∙ l.updates.changed in absurd cc)
         | inr other ↦ sym (l.updates.others i other) ∙ found
       ])
 
       -- an element joins with its deadline, under a key that is written
-      pub within_joins : (ref : BlockRef) (key : List ℕ) (value : V) (deadline : Option ℕ) (j : Joins old new m db ref key value deadline) → scope.writes db (bytes_at m ref) → Within refs_of scope old new m m
+      pub within_joins : (ref : BlockRef) (key : List ℕ) (value : V) (deadline : Option ℕ) (j : Joins old new m db ref key value deadline) → scope.writes db (bytes_at m ref)
+          → Within refs_of scope old new m m
       within_joins ref key value deadline j named = record {
         same = same_apart j.base;
         grew = here_or_same j.base (record {
@@ -225,7 +238,8 @@ module _ {V : Type 0} (refs_of : Blocks → V → List BlockRef) where
 
 module _ {V : Type 0} {IsSound : Limits → ℕ → Blocks → V → Type 0} (refs_of : Blocks → V → List BlockRef) (value_of : Blocks → V → Value) (own : ReadsOwn refs_of value_of IsSound) where
   -- a store that changes only blocks that were out leaves the databases within any scope
-  pub within_store : (scope : Scope) (bases : Bases V) (m after : Blocks) (out xs ys : List BlockRef) → IsIntact refs_of IsSound bases m out → Changes m after xs ys → ((r : BlockRef) → times r xs ≤ times r out) → Within refs_of scope bases bases m after
+  pub within_store : (scope : Scope) (bases : Bases V) (m after : Blocks) (out xs ys : List BlockRef) → IsIntact refs_of IsSound bases m out → Changes m after xs ys
+      → ((r : BlockRef) → times r xs ≤ times r out) → Within refs_of scope bases bases m after
   within_store scope bases m after out xs ys intact p part = record {
     same = λ db apart. refl;
     grew = λ db. inl (record {
@@ -239,7 +253,8 @@ module _ {V : Type 0} {IsSound : Limits → ℕ → Blocks → V → Type 0} (re
   }
     where
       kept : (db at : ℕ) (e : Element V) → item (table_at bases db) at ≡ Some e → (r : BlockRef) → 0 < times r (e.key ∷ refs_of m e.value) → after r ≡ m r
-      kept db at e found r owns = kept_inside refs_of value_of own bases m after out xs ys intact p part r (omega (arith, owns, named_in (refs_of m) (table_at bases db) at e r found, table_owned (refs_of m) bases db r))
+      kept db at e found r owns = kept_inside refs_of value_of own bases m after out xs ys intact p part r
+          (omega (arith, owns, named_in (refs_of m) (table_at bases db) at e r found, table_owned (refs_of m) bases db r))
 
       key_kept : (db at : ℕ) (e : Element V) → item (table_at bases db) at ≡ Some e → after e.key ≡ m e.key
       key_kept db at e found = kept db at e found e.key (let itself : one_if (ref_eq e.key e.key) ≡ 1 = cond-true _ _ _ (ref_eq-refl e.key) in omega (arith, itself))

@@ -49,7 +49,8 @@ module _ {V : Type 0} (refs_of : Blocks → V → List BlockRef) (Is : V → Typ
   written_none bases m db at e found = inl (record { stood = found; bytes = λ r owns. refl; refs = refl })
 
   -- no key is written
-  pub written_within : (scope : Scope) → ((db : ℕ) (key : List ℕ) → scope.writes db key → ⊥) → (old new : Bases V) (m after : Blocks) → Within refs_of scope old new m after → Written refs_of Is old new m after
+  pub written_within : (scope : Scope) → ((db : ℕ) (key : List ℕ) → scope.writes db key → ⊥) → (old new : Bases V) (m after : Blocks) → Within refs_of scope old new m after
+      → Written refs_of Is old new m after
   written_within scope none old new m after p db at e found = inl (p.stayed db at e found (none db (bytes_at after e.key)))
 
   -- one step after another
@@ -58,12 +59,15 @@ module _ {V : Type 0} (refs_of : Blocks → V → List BlockRef) (Is : V → Typ
     | inr is ↦ inr is
     | inl last ↦ elim (p db at e last.stood) [
       | inr is ↦ inr is
-      | inl first ↦ inl (record { stood = first.stood; bytes = λ r owns. last.bytes r (subst (λ list. 0 < times r (e.key ∷ list)) (sym first.refs) owns) ∙ first.bytes r owns; refs = last.refs ∙ first.refs })
+      | inl first ↦ inl
+          (record
+          { stood = first.stood; bytes = λ r owns. last.bytes r (subst (λ list. 0 < times r (e.key ∷ list)) (sym first.refs) owns) ∙ first.bytes r owns; refs = last.refs ∙ first.refs })
     ]
   ]
 
   -- what is written within a scope has such values
-  pub written_named : (scope : Scope) → IsSettled scope → (old new : Bases V) (m after : Blocks) → Within refs_of scope old new m after → {IsSound : Limits → ℕ → Blocks → V → Type 0} → IsArranged IsSound new after
+  pub written_named : (scope : Scope) → IsSettled scope → (old new : Bases V) (m after : Blocks) → Within refs_of scope old new m after → {IsSound : Limits → ℕ → Blocks → V → Type 0}
+      → IsArranged IsSound new after
       → ((db at : ℕ) (e : Element V) (key : List ℕ) → item (table_at new db) at ≡ Some e → after e.key ≡ Some key → scope.writes db key → Is e.value) → Written refs_of Is old new m after
   written_named scope settled old new m after p arranged is db at e found = elim (settled db (bytes_at after e.key)) [
     | inl named ↦ inr (is db at e (bytes_at after e.key) found (live_bytes after e.key ((arranged.keyed db).live at e found)) named)
@@ -71,7 +75,8 @@ module _ {V : Type 0} (refs_of : Blocks → V → List BlockRef) (Is : V → Typ
   ]
 
   -- a value stands at a key
-  pub written_key : (db : ℕ) (key : List ℕ) (value : V) → Is value → (old new : Bases V) (m after : Blocks) → Within refs_of (one_key db key) old new m after → {IsSound : Limits → ℕ → Blocks → V → Type 0} → IsArranged IsSound new after → HasOnly new after db key value → Written refs_of Is old new m after
+  pub written_key : (db : ℕ) (key : List ℕ) (value : V) → Is value → (old new : Bases V) (m after : Blocks) → Within refs_of (one_key db key) old new m after
+      → {IsSound : Limits → ℕ → Blocks → V → Type 0} → IsArranged IsSound new after → HasOnly new after db key value → Written refs_of Is old new m after
   written_key db key value is old new m after p arranged only =
       written_named (one_key db key) (one_settled db key) old new m after p arranged
       (λ number at e other found bytes named. subst Is (sym (only at e (subst (λ n. item (table_at new n) at ≡ Some e) named.0 found) (bytes ∙ ap Some named.1))) is)

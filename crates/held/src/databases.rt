@@ -270,7 +270,8 @@ impl<V: Drop> Databases<V> {
         ensures set { OnOk result (Sets (B.blocks store.now) (deadlines_at self.old db).table (deadlines_at self.new db).table key deadline) }
         ensures grown { Grows (B.blocks store.now) (deadlines_at self.old db) (deadlines_at self.new db) }
         ensures cursor { KeepsCursor (deadlines_at self.old db) (deadlines_at self.new db) }
-        ensures moments { OnOk result (moments (B.blocks store.now) (deadlines_at self.new db) ≡ insert (moments (B.blocks store.now) (deadlines_at self.old db)) (bytes_at (B.blocks store.now) key) deadline) }
+        ensures moments { OnOk result
+            (moments (B.blocks store.now) (deadlines_at self.new db) ≡ insert (moments (B.blocks store.now) (deadlines_at self.old db)) (bytes_at (B.blocks store.now) key) deadline) }
         ensures keyed { Keyed (B.blocks store.now) (deadlines_at self.new db).table }
         ensures err { OnErr result (self.new ≡ self.old) }
     {
@@ -295,7 +296,8 @@ impl<V: Drop> Databases<V> {
         ensures grown { Grows (B.blocks store.now) (deadlines_at self.old db) (deadlines_at self.new db) }
         ensures cursor { KeepsCursor (deadlines_at self.old db) (deadlines_at self.new db) }
         ensures moments { moments (B.blocks store.now) (deadlines_at self.new db) ≡ remove (moments (B.blocks store.now) (deadlines_at self.old db)) key.now }
-        ensures cleared { Clears (B.blocks store.now) (deadlines_at self.old db).table (deadlines_at self.new db).table key.now ⊎ ((self.new ≡ self.old) × Lacks (B.blocks store.now) (deadlines_at self.old db).table key.now) }
+        ensures cleared { Clears (B.blocks store.now) (deadlines_at self.old db).table (deadlines_at self.new db).table key.now
+            ⊎ ((self.new ≡ self.old) × Lacks (B.blocks store.now) (deadlines_at self.old db).table key.now) }
         ensures keyed { Keyed (B.blocks store.now) (deadlines_at self.new db).table }
     {
         if !self.has_no_deadline(db) {

@@ -27,7 +27,8 @@ impl<V: Stored, B: BlockStore> Keyspace<V, B> {
         ensures thinned { Thinned V.refs_of found.now self.old.bases self.new.bases (B.blocks self.old.store) (B.blocks self.new.store) db }
         ensures cursor { KeepsCursor (deadlines_at self.old.bases db) (deadlines_at self.new.bases db) }
         ensures arranged { IsArranged V.IsSound self.new.bases (B.blocks self.new.store) }
-        ensures changes { Changes (B.blocks self.old.store) (B.blocks self.new.store) (owned (V.refs_of (B.blocks self.old.store)) self.old.bases) (owned (V.refs_of (B.blocks self.new.store)) self.new.bases) }
+        ensures changes { Changes (B.blocks self.old.store) (B.blocks self.new.store) (owned (V.refs_of (B.blocks self.old.store)) self.old.bases)
+            (owned (V.refs_of (B.blocks self.new.store)) self.new.bases) }
         ensures served { Served B.step self.old.store self.new.store }
         ensures settings { SameSettings self.old.bases self.new.bases }
     {
@@ -45,7 +46,8 @@ impl<V: Stored, B: BlockStore> Keyspace<V, B> {
         ensures few { result ≤ 16 }
         ensures lives { (number : ℕ) → live (means V.value_of number self.new.bases (B.blocks self.new.store)) moment ≡ live (means V.value_of number self.old.bases (B.blocks self.old.store)) moment }
         ensures arranged { IsArranged V.IsSound self.new.bases (B.blocks self.new.store) }
-        ensures changes { Changes (B.blocks self.old.store) (B.blocks self.new.store) (owned (V.refs_of (B.blocks self.old.store)) self.old.bases) (owned (V.refs_of (B.blocks self.new.store)) self.new.bases) }
+        ensures changes { Changes (B.blocks self.old.store) (B.blocks self.new.store) (owned (V.refs_of (B.blocks self.old.store)) self.old.bases)
+            (owned (V.refs_of (B.blocks self.new.store)) self.new.bases) }
         ensures served { Served B.step self.old.store self.new.store }
     {
         let db = self.bases.turn();
@@ -65,10 +67,13 @@ impl<V: Stored, B: BlockStore> Keyspace<V, B> {
         requires intact { IsIntact V.refs_of V.IsSound self.old.bases (B.blocks self.old.store) [] }
         ensures steps { Expired V.refs_of moment self.old.bases (B.blocks self.old.store) steps result self.new.bases (B.blocks self.new.store) }
         ensures none { steps ≡ 0 → self.new ≡ self.old }
-        ensures lives { (number later : ℕ) → moment ≤ later → live (means V.value_of number self.new.bases (B.blocks self.new.store)) later ≡ live (means V.value_of number self.old.bases (B.blocks self.old.store)) later }
+        ensures lives { (number later : ℕ) → moment ≤ later → live (means V.value_of number self.new.bases (B.blocks self.new.store)) later ≡ live
+            (means V.value_of number self.old.bases (B.blocks self.old.store)) later }
         ensures stayed { (db at : ℕ) (e : Element V) → item (table_at self.new.bases db) at ≡ Some e → Stayed V.refs_of self.old.bases (B.blocks self.old.store) (B.blocks self.new.store) db at e }
-        ensures sound { (out : List BlockRef) → SoundBeside V.refs_of V.IsSound self.old.bases (B.blocks self.old.store) out → SoundBeside V.refs_of V.IsSound self.new.bases (B.blocks self.new.store) out }
-        ensures changes { Changes (B.blocks self.old.store) (B.blocks self.new.store) (owned (V.refs_of (B.blocks self.old.store)) self.old.bases) (owned (V.refs_of (B.blocks self.new.store)) self.new.bases) }
+        ensures sound { (out : List BlockRef) → SoundBeside V.refs_of V.IsSound self.old.bases (B.blocks self.old.store) out
+            → SoundBeside V.refs_of V.IsSound self.new.bases (B.blocks self.new.store) out }
+        ensures changes { Changes (B.blocks self.old.store) (B.blocks self.new.store) (owned (V.refs_of (B.blocks self.old.store)) self.old.bases)
+            (owned (V.refs_of (B.blocks self.new.store)) self.new.bases) }
         ensures served { Served B.step self.old.store self.new.store }
         ensures limits { self.new.bases.limits ≡ self.old.bases.limits }
         ensures seed { self.new.bases.seed ≡ self.old.bases.seed }

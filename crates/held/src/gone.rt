@@ -23,11 +23,13 @@ impl<V: Stored, B: BlockStore> Keyspace<V, B> {
         requires db { db < 16 }
         requires intact { IsIntact V.refs_of V.IsSound self.old.bases (B.blocks self.old.store) [] }
         requires named { Names (table_at self.old.bases db) name }
-        ensures means { means V.value_of db self.new.bases (B.blocks self.new.store) ≡ without (means V.value_of db self.old.bases (B.blocks self.old.store)) (bytes_at (B.blocks self.old.store) name) }
+        ensures means { means V.value_of db self.new.bases (B.blocks self.new.store) ≡ without (means V.value_of db self.old.bases (B.blocks self.old.store))
+            (bytes_at (B.blocks self.old.store) name) }
         ensures thinned { Thinned V.refs_of (name ∷ []) self.old.bases self.new.bases (B.blocks self.old.store) (B.blocks self.new.store) db }
         ensures loses { Loses (B.blocks self.old.store) (deadlines_at self.old.bases db) (deadlines_at self.new.bases db) (bytes_at (B.blocks self.old.store) name) }
         ensures arranged { IsArranged V.IsSound self.new.bases (B.blocks self.new.store) }
-        ensures changes { Changes (B.blocks self.old.store) (B.blocks self.new.store) (owned (V.refs_of (B.blocks self.old.store)) self.old.bases) (owned (V.refs_of (B.blocks self.new.store)) self.new.bases) }
+        ensures changes { Changes (B.blocks self.old.store) (B.blocks self.new.store) (owned (V.refs_of (B.blocks self.old.store)) self.old.bases)
+            (owned (V.refs_of (B.blocks self.new.store)) self.new.bases) }
         ensures served { Served B.step self.old.store self.new.store }
         ensures settings { SameSettings self.old.bases self.new.bases }
         ensures within { Within V.refs_of (no_key db) self.old.bases self.new.bases (B.blocks self.old.store) (B.blocks self.new.store) }
@@ -48,7 +50,8 @@ impl<V: Stored, B: BlockStore> Keyspace<V, B> {
         ensures thins { Thins V.value_of self.old.bases self.new.bases (B.blocks self.old.store) (B.blocks self.new.store) db moment (if result then 1 else 0) }
         ensures in_time { (e : Element ℕ) → item (deadlines_at self.new.bases db).table at ≡ Some e → moment ≤ e.value }
         ensures arranged { IsArranged V.IsSound self.new.bases (B.blocks self.new.store) }
-        ensures changes { Changes (B.blocks self.old.store) (B.blocks self.new.store) (owned (V.refs_of (B.blocks self.old.store)) self.old.bases) (owned (V.refs_of (B.blocks self.new.store)) self.new.bases) }
+        ensures changes { Changes (B.blocks self.old.store) (B.blocks self.new.store) (owned (V.refs_of (B.blocks self.old.store)) self.old.bases)
+            (owned (V.refs_of (B.blocks self.new.store)) self.new.bases) }
         ensures served { Served B.step self.old.store self.new.store }
         ensures settings { SameSettings self.old.bases self.new.bases }
         ensures within { Within V.refs_of (no_key db) self.old.bases self.new.bases (B.blocks self.old.store) (B.blocks self.new.store) }
@@ -65,10 +68,13 @@ impl<V: Stored, B: BlockStore> Keyspace<V, B> {
     pub fn purge(&mut self, db: usize, moment: u64) -> u64
         requires db { db < 16 }
         requires intact { IsIntact V.refs_of V.IsSound self.old.bases (B.blocks self.old.store) [] }
-        ensures means { means V.value_of db self.new.bases (B.blocks self.new.store) ≡ with_base (means V.value_of db self.old.bases (B.blocks self.old.store)) (live_keys ((means V.value_of db self.old.bases (B.blocks self.old.store)).bases db) moment) }
+        ensures means { means V.value_of db self.new.bases (B.blocks self.new.store) ≡ with_base (means V.value_of db self.old.bases (B.blocks self.old.store))
+            (live_keys ((means V.value_of db self.old.bases (B.blocks self.old.store)).bases db) moment) }
         ensures answer { map.len ((means V.value_of db self.old.bases (B.blocks self.old.store)).bases db) ≡ result + map.len ((means V.value_of db self.new.bases (B.blocks self.new.store)).bases db) }
-        ensures sound { (out : List BlockRef) → SoundBeside V.refs_of V.IsSound self.old.bases (B.blocks self.old.store) out → SoundBeside V.refs_of V.IsSound self.new.bases (B.blocks self.new.store) out }
-        ensures changes { Changes (B.blocks self.old.store) (B.blocks self.new.store) (owned (V.refs_of (B.blocks self.old.store)) self.old.bases) (owned (V.refs_of (B.blocks self.new.store)) self.new.bases) }
+        ensures sound { (out : List BlockRef) → SoundBeside V.refs_of V.IsSound self.old.bases (B.blocks self.old.store) out
+            → SoundBeside V.refs_of V.IsSound self.new.bases (B.blocks self.new.store) out }
+        ensures changes { Changes (B.blocks self.old.store) (B.blocks self.new.store) (owned (V.refs_of (B.blocks self.old.store)) self.old.bases)
+            (owned (V.refs_of (B.blocks self.new.store)) self.new.bases) }
         ensures served { Served B.step self.old.store self.new.store }
         ensures settings { SameSettings self.old.bases self.new.bases }
         ensures within { Within V.refs_of (no_key db) self.old.bases self.new.bases (B.blocks self.old.store) (B.blocks self.new.store) }

@@ -183,7 +183,8 @@ impl<V: Stored, B: BlockStore> Keyspace<V, B> {
         requires latest { IsDeadline deadline }
         ensures changes { ChangesDeadlines self.old.bases self.new.bases db }
         ensures arranged { IsArranged V.IsSound self.new.bases (B.blocks self.old.store) }
-        ensures times { OnOk result (moments (B.blocks self.old.store) (deadlines_at self.new.bases db) ≡ with_deadline (moments (B.blocks self.old.store) (deadlines_at self.old.bases db)) key.now deadline) }
+        ensures times { OnOk result
+            (moments (B.blocks self.old.store) (deadlines_at self.new.bases db) ≡ with_deadline (moments (B.blocks self.old.store) (deadlines_at self.old.bases db)) key.now deadline) }
         ensures err { OnErr result (self.new.bases ≡ self.old.bases) }
         ensures store { self.new.store ≡ self.old.store }
         ensures within { Within V.refs_of (no_key db) self.old.bases self.new.bases (B.blocks self.old.store) (B.blocks self.old.store) }
@@ -208,7 +209,9 @@ impl<V: Stored, B: BlockStore> Keyspace<V, B> {
         requires db { db < 16 }
         requires intact { IsIntact V.refs_of V.IsSound self.old.bases (B.blocks self.old.store) [] }
         ensures lifts { IfSome result (λ lifted. Lifts V.refs_of V.value_of V.vacant self.old.bases self.new.bases (B.blocks self.old.store) db key.now moment lifted) }
-        ensures sound { IfSome result (λ lifted. (out : List BlockRef) → SoundBeside V.refs_of V.IsSound self.old.bases (B.blocks self.old.store) out → SoundBeside V.refs_of V.IsSound self.new.bases (B.blocks self.old.store) (V.refs_of (B.blocks self.old.store) lifted.value ++ out)) }
+        ensures sound { IfSome result
+            (λ lifted. (out : List BlockRef) → SoundBeside V.refs_of V.IsSound self.old.bases (B.blocks self.old.store) out
+            → SoundBeside V.refs_of V.IsSound self.new.bases (B.blocks self.old.store) (V.refs_of (B.blocks self.old.store) lifted.value ++ out)) }
         ensures none { IfNone result (look (live (means V.value_of db self.old.bases (B.blocks self.old.store)) moment) key.now ≡ None) }
         ensures same { IfNone result (self.new.bases ≡ self.old.bases) }
         ensures store { self.new.store ≡ self.old.store }
@@ -224,12 +227,16 @@ impl<V: Stored, B: BlockStore> Keyspace<V, B> {
         requires intact { IsIntactWith V.refs_of V.IsSound self.old.bases (B.blocks self.old.store) lifted.value }
         requires vacant { IsVacant V.vacant self.old.bases lifted.db lifted.item }
         ensures means { (key : List ℕ) (deadline : Option ℕ) → IsPlace self.old.bases (B.blocks self.old.store) lifted.db lifted.item key deadline →
-            means V.value_of lifted.db self.new.bases (B.blocks self.old.store) ≡ put (means V.value_of lifted.db self.old.bases (B.blocks self.old.store)) key (record { value = V.value_of (B.blocks self.old.store) lifted.value; deadline = deadline }) }
-        ensures sound { (all out : List BlockRef) → SoundBeside V.refs_of V.IsSound self.old.bases (B.blocks self.old.store) all → AreParts all (V.refs_of (B.blocks self.old.store) lifted.value) out → SoundBeside V.refs_of V.IsSound self.new.bases (B.blocks self.old.store) out }
-        ensures has { (key : List ℕ) (deadline : Option ℕ) → IsPlace self.old.bases (B.blocks self.old.store) lifted.db lifted.item key deadline → HasOnly self.new.bases (B.blocks self.old.store) lifted.db key lifted.value }
+            means V.value_of lifted.db self.new.bases (B.blocks self.old.store) ≡ put (means V.value_of lifted.db self.old.bases (B.blocks self.old.store)) key
+            (record { value = V.value_of (B.blocks self.old.store) lifted.value; deadline = deadline }) }
+        ensures sound { (all out : List BlockRef) → SoundBeside V.refs_of V.IsSound self.old.bases (B.blocks self.old.store) all → AreParts all (V.refs_of (B.blocks self.old.store) lifted.value) out
+            → SoundBeside V.refs_of V.IsSound self.new.bases (B.blocks self.old.store) out }
+        ensures has { (key : List ℕ) (deadline : Option ℕ) → IsPlace self.old.bases (B.blocks self.old.store) lifted.db lifted.item key deadline
+            → HasOnly self.new.bases (B.blocks self.old.store) lifted.db key lifted.value }
         ensures store { self.new.store ≡ self.old.store }
         ensures settings { SameSettings self.old.bases self.new.bases }
-        ensures within { (key : List ℕ) (deadline : Option ℕ) → IsPlace self.old.bases (B.blocks self.old.store) lifted.db lifted.item key deadline → Within V.refs_of (one_key lifted.db key) self.old.bases self.new.bases (B.blocks self.old.store) (B.blocks self.old.store) }
+        ensures within { (key : List ℕ) (deadline : Option ℕ) → IsPlace self.old.bases (B.blocks self.old.store) lifted.db lifted.item key deadline
+            → Within V.refs_of (one_key lifted.db key) self.old.bases self.new.bases (B.blocks self.old.store) (B.blocks self.old.store) }
     {
         let Lifted { db, item, value } = lifted;
         let _zero = self.bases.swap_value(db, item, value);
@@ -249,11 +256,15 @@ impl<V: Stored, B: BlockStore> Keyspace<V, B> {
         requires db { db < 16 }
         requires latest { IsDeadline deadline }
         requires intact { IsIntactWith V.refs_of V.IsSound self.old.bases (B.blocks self.old.store) value }
-        ensures means { OnOk result (means V.value_of db self.new.bases (B.blocks self.new.store) ≡ put (means V.value_of db self.old.bases (B.blocks self.old.store)) key.now (record { value = V.value_of (B.blocks self.old.store) value; deadline = deadline })) }
+        ensures means { OnOk result
+            (means V.value_of db self.new.bases (B.blocks self.new.store) ≡ put (means V.value_of db self.old.bases (B.blocks self.old.store)) key.now
+            (record { value = V.value_of (B.blocks self.old.store) value; deadline = deadline })) }
         ensures has { OnOk result (HasOnly self.new.bases (B.blocks self.new.store) db key.now value) }
         ensures kept { OnErr result (means V.value_of db self.new.bases (B.blocks self.new.store) ≡ means V.value_of db self.old.bases (B.blocks self.old.store)) }
-        ensures sound { (all out : List BlockRef) → SoundBeside V.refs_of V.IsSound self.old.bases (B.blocks self.old.store) all → AreParts all (V.refs_of (B.blocks self.old.store) value) out → SoundBeside V.refs_of V.IsSound self.new.bases (B.blocks self.new.store) out }
-        ensures changes { Changes (B.blocks self.old.store) (B.blocks self.new.store) (owned (V.refs_of (B.blocks self.old.store)) self.old.bases ++ V.refs_of (B.blocks self.old.store) value) (owned (V.refs_of (B.blocks self.new.store)) self.new.bases) }
+        ensures sound { (all out : List BlockRef) → SoundBeside V.refs_of V.IsSound self.old.bases (B.blocks self.old.store) all → AreParts all (V.refs_of (B.blocks self.old.store) value) out
+            → SoundBeside V.refs_of V.IsSound self.new.bases (B.blocks self.new.store) out }
+        ensures changes { Changes (B.blocks self.old.store) (B.blocks self.new.store) (owned (V.refs_of (B.blocks self.old.store)) self.old.bases ++ V.refs_of (B.blocks self.old.store) value)
+            (owned (V.refs_of (B.blocks self.new.store)) self.new.bases) }
         ensures err_keys { OnErr result ((number : ℕ) → table_at self.new.bases number ≡ table_at self.old.bases number) }
         ensures err_blocks { OnErr result (Changes (B.blocks self.old.store) (B.blocks self.new.store) (V.refs_of (B.blocks self.old.store) value) []) }
         ensures served { Served B.step self.old.store self.new.store }
@@ -270,8 +281,10 @@ impl<V: Stored, B: BlockStore> Keyspace<V, B> {
         requires intact { IsIntact V.refs_of V.IsSound self.old.bases (B.blocks self.old.store) [] }
         ensures answer { result ≡ is_some (look (means V.value_of db self.old.bases (B.blocks self.old.store)) key.now) }
         ensures means { means V.value_of db self.new.bases (B.blocks self.new.store) ≡ without (means V.value_of db self.old.bases (B.blocks self.old.store)) key.now }
-        ensures sound { (out : List BlockRef) → SoundBeside V.refs_of V.IsSound self.old.bases (B.blocks self.old.store) out → SoundBeside V.refs_of V.IsSound self.new.bases (B.blocks self.new.store) out }
-        ensures changes { Changes (B.blocks self.old.store) (B.blocks self.new.store) (owned (V.refs_of (B.blocks self.old.store)) self.old.bases) (owned (V.refs_of (B.blocks self.new.store)) self.new.bases) }
+        ensures sound { (out : List BlockRef) → SoundBeside V.refs_of V.IsSound self.old.bases (B.blocks self.old.store) out
+            → SoundBeside V.refs_of V.IsSound self.new.bases (B.blocks self.new.store) out }
+        ensures changes { Changes (B.blocks self.old.store) (B.blocks self.new.store) (owned (V.refs_of (B.blocks self.old.store)) self.old.bases)
+            (owned (V.refs_of (B.blocks self.new.store)) self.new.bases) }
         ensures served { Served B.step self.old.store self.new.store }
         ensures settings { SameSettings self.old.bases self.new.bases }
         ensures within { Within V.refs_of (no_key db) self.old.bases self.new.bases (B.blocks self.old.store) (B.blocks self.new.store) }
@@ -287,8 +300,10 @@ impl<V: Stored, B: BlockStore> Keyspace<V, B> {
         requires hashed { hash ≡ hash_of (table_at self.old.bases db).seed key.now }
         ensures answer { result ≡ is_some (look (means V.value_of db self.old.bases (B.blocks self.old.store)) key.now) }
         ensures means { means V.value_of db self.new.bases (B.blocks self.new.store) ≡ without (means V.value_of db self.old.bases (B.blocks self.old.store)) key.now }
-        ensures sound { (out : List BlockRef) → SoundBeside V.refs_of V.IsSound self.old.bases (B.blocks self.old.store) out → SoundBeside V.refs_of V.IsSound self.new.bases (B.blocks self.new.store) out }
-        ensures changes { Changes (B.blocks self.old.store) (B.blocks self.new.store) (owned (V.refs_of (B.blocks self.old.store)) self.old.bases) (owned (V.refs_of (B.blocks self.new.store)) self.new.bases) }
+        ensures sound { (out : List BlockRef) → SoundBeside V.refs_of V.IsSound self.old.bases (B.blocks self.old.store) out
+            → SoundBeside V.refs_of V.IsSound self.new.bases (B.blocks self.new.store) out }
+        ensures changes { Changes (B.blocks self.old.store) (B.blocks self.new.store) (owned (V.refs_of (B.blocks self.old.store)) self.old.bases)
+            (owned (V.refs_of (B.blocks self.new.store)) self.new.bases) }
         ensures served { Served B.step self.old.store self.new.store }
         ensures settings { SameSettings self.old.bases self.new.bases }
         ensures within { Within V.refs_of (no_key db) self.old.bases self.new.bases (B.blocks self.old.store) (B.blocks self.new.store) }
@@ -306,8 +321,10 @@ impl<V: Stored, B: BlockStore> Keyspace<V, B> {
         requires db { db < 16 }
         requires intact { IsIntact V.refs_of V.IsSound self.old.bases (B.blocks self.old.store) [] }
         ensures means { means V.value_of db self.new.bases (B.blocks self.new.store) ≡ emptied (means V.value_of db self.old.bases (B.blocks self.old.store)) }
-        ensures sound { (out : List BlockRef) → SoundBeside V.refs_of V.IsSound self.old.bases (B.blocks self.old.store) out → SoundBeside V.refs_of V.IsSound self.new.bases (B.blocks self.new.store) out }
-        ensures changes { Changes (B.blocks self.old.store) (B.blocks self.new.store) (owned (V.refs_of (B.blocks self.old.store)) self.old.bases) (owned (V.refs_of (B.blocks self.new.store)) self.new.bases) }
+        ensures sound { (out : List BlockRef) → SoundBeside V.refs_of V.IsSound self.old.bases (B.blocks self.old.store) out
+            → SoundBeside V.refs_of V.IsSound self.new.bases (B.blocks self.new.store) out }
+        ensures changes { Changes (B.blocks self.old.store) (B.blocks self.new.store) (owned (V.refs_of (B.blocks self.old.store)) self.old.bases)
+            (owned (V.refs_of (B.blocks self.new.store)) self.new.bases) }
         ensures served { Served B.step self.old.store self.new.store }
         ensures settings { SameSettings self.old.bases self.new.bases }
         ensures within { Within V.refs_of (all_keys db) self.old.bases self.new.bases (B.blocks self.old.store) (B.blocks self.new.store) }
@@ -325,7 +342,8 @@ impl<V: Stored, B: BlockStore> Keyspace<V, B> {
         requires db { db < 16 }
         requires intact { IsIntact V.refs_of V.IsSound self.old.bases (B.blocks self.old.store) [] }
         ensures means { means V.value_of db self.new.bases (B.blocks self.old.store) ≡ means V.value_of db self.old.bases (B.blocks self.old.store) }
-        ensures sound { (out : List BlockRef) → SoundBeside V.refs_of V.IsSound self.old.bases (B.blocks self.old.store) out → SoundBeside V.refs_of V.IsSound self.new.bases (B.blocks self.old.store) out }
+        ensures sound { (out : List BlockRef) → SoundBeside V.refs_of V.IsSound self.old.bases (B.blocks self.old.store) out
+            → SoundBeside V.refs_of V.IsSound self.new.bases (B.blocks self.old.store) out }
         ensures store { self.new.store ≡ self.old.store }
         ensures settings { SameSettings self.old.bases self.new.bases }
         ensures within { Within V.refs_of (no_key db) self.old.bases self.new.bases (B.blocks self.old.store) (B.blocks self.old.store) }

@@ -27,15 +27,21 @@ impl<V: Stored, B: BlockStore> Keyspace<V, B> {
         requires to_db { to_db < 16 }
         requires intact { IsIntact V.refs_of V.IsSound self.old.bases (B.blocks self.old.store) [] }
         ensures answer { IfOk result (λ there. there ≡ is_some (look (means V.value_of db self.old.bases (B.blocks self.old.store)) from.now)) }
-        ensures means { OnOk result (((db ≡ to_db) × (from.now ≡ to.now) → ⊥) → (entry : Entry) → look (means V.value_of db self.old.bases (B.blocks self.old.store)) from.now ≡ Some entry → means V.value_of db self.new.bases (B.blocks self.new.store) ≡ put_in (remove (means V.value_of db self.old.bases (B.blocks self.old.store)) from.now) to_db to.now entry) }
+        ensures means { OnOk result
+            (((db ≡ to_db) × (from.now ≡ to.now) → ⊥) → (entry : Entry) → look (means V.value_of db self.old.bases (B.blocks self.old.store)) from.now ≡ Some entry
+            → means V.value_of db self.new.bases (B.blocks self.new.store) ≡ put_in (remove (means V.value_of db self.old.bases (B.blocks self.old.store)) from.now) to_db to.now entry) }
         ensures same { db ≡ to_db → from.now ≡ to.now → (self.new.bases ≡ self.old.bases) × (self.new.store ≡ self.old.store) }
-        ensures writes { OnOk result ((out : List BlockRef) → SoundBeside V.refs_of V.IsSound self.old.bases (B.blocks self.old.store) out → Written V.refs_of (HasValue self.old.bases (B.blocks self.old.store) db from.now) self.old.bases self.new.bases (B.blocks self.old.store) (B.blocks self.new.store)) }
+        ensures writes { OnOk result
+            ((out : List BlockRef) → SoundBeside V.refs_of V.IsSound self.old.bases (B.blocks self.old.store) out
+            → Written V.refs_of (HasValue self.old.bases (B.blocks self.old.store) db from.now) self.old.bases self.new.bases (B.blocks self.old.store) (B.blocks self.new.store)) }
         ensures absent { look (means V.value_of db self.old.bases (B.blocks self.old.store)) from.now ≡ None → (self.new.bases ≡ self.old.bases) × (self.new.store ≡ self.old.store) }
         ensures err { OnErr result (means V.value_of db self.new.bases (B.blocks self.new.store) ≡ means V.value_of db self.old.bases (B.blocks self.old.store)) }
         ensures err_blocks { OnErr result (B.blocks self.new.store ≡ B.blocks self.old.store) }
         ensures err_owned { OnErr result ((r : BlockRef) → times r (owned (V.refs_of (B.blocks self.new.store)) self.new.bases) ≡ times r (owned (V.refs_of (B.blocks self.old.store)) self.old.bases)) }
-        ensures sound { (out : List BlockRef) → SoundBeside V.refs_of V.IsSound self.old.bases (B.blocks self.old.store) out → SoundBeside V.refs_of V.IsSound self.new.bases (B.blocks self.new.store) out }
-        ensures changes { Changes (B.blocks self.old.store) (B.blocks self.new.store) (owned (V.refs_of (B.blocks self.old.store)) self.old.bases) (owned (V.refs_of (B.blocks self.new.store)) self.new.bases) }
+        ensures sound { (out : List BlockRef) → SoundBeside V.refs_of V.IsSound self.old.bases (B.blocks self.old.store) out
+            → SoundBeside V.refs_of V.IsSound self.new.bases (B.blocks self.new.store) out }
+        ensures changes { Changes (B.blocks self.old.store) (B.blocks self.new.store) (owned (V.refs_of (B.blocks self.old.store)) self.old.bases)
+            (owned (V.refs_of (B.blocks self.new.store)) self.new.bases) }
         ensures served { Served B.step self.old.store self.new.store }
         ensures settings { SameSettings self.old.bases self.new.bases }
         ensures within { Within V.refs_of (two_keys db from.now to_db to.now) self.old.bases self.new.bases (B.blocks self.old.store) (B.blocks self.new.store) }
@@ -66,15 +72,21 @@ impl<V: Stored, B: BlockStore> Keyspace<V, B> {
         requires place { Seeks self.old.bases (B.blocks self.old.store) to_db to.now place }
         requires lasts { found.deadline ≡ deadline_of (look (means V.value_of db self.old.bases (B.blocks self.old.store)) from.now) }
         ensures answer { IfOk result (λ there. there ≡ is_some (look (means V.value_of db self.old.bases (B.blocks self.old.store)) from.now)) }
-        ensures means { OnOk result (((db ≡ to_db) × (from.now ≡ to.now) → ⊥) → (entry : Entry) → look (means V.value_of db self.old.bases (B.blocks self.old.store)) from.now ≡ Some entry → means V.value_of db self.new.bases (B.blocks self.new.store) ≡ put_in (remove (means V.value_of db self.old.bases (B.blocks self.old.store)) from.now) to_db to.now entry) }
+        ensures means { OnOk result
+            (((db ≡ to_db) × (from.now ≡ to.now) → ⊥) → (entry : Entry) → look (means V.value_of db self.old.bases (B.blocks self.old.store)) from.now ≡ Some entry
+            → means V.value_of db self.new.bases (B.blocks self.new.store) ≡ put_in (remove (means V.value_of db self.old.bases (B.blocks self.old.store)) from.now) to_db to.now entry) }
         ensures same { db ≡ to_db → from.now ≡ to.now → (self.new.bases ≡ self.old.bases) × (self.new.store ≡ self.old.store) }
-        ensures writes { OnOk result ((out : List BlockRef) → SoundBeside V.refs_of V.IsSound self.old.bases (B.blocks self.old.store) out → Written V.refs_of (HasValue self.old.bases (B.blocks self.old.store) db from.now) self.old.bases self.new.bases (B.blocks self.old.store) (B.blocks self.new.store)) }
+        ensures writes { OnOk result
+            ((out : List BlockRef) → SoundBeside V.refs_of V.IsSound self.old.bases (B.blocks self.old.store) out
+            → Written V.refs_of (HasValue self.old.bases (B.blocks self.old.store) db from.now) self.old.bases self.new.bases (B.blocks self.old.store) (B.blocks self.new.store)) }
         ensures absent { look (means V.value_of db self.old.bases (B.blocks self.old.store)) from.now ≡ None → (self.new.bases ≡ self.old.bases) × (self.new.store ≡ self.old.store) }
         ensures err { OnErr result (means V.value_of db self.new.bases (B.blocks self.new.store) ≡ means V.value_of db self.old.bases (B.blocks self.old.store)) }
         ensures err_blocks { OnErr result (B.blocks self.new.store ≡ B.blocks self.old.store) }
         ensures err_owned { OnErr result ((r : BlockRef) → times r (owned (V.refs_of (B.blocks self.new.store)) self.new.bases) ≡ times r (owned (V.refs_of (B.blocks self.old.store)) self.old.bases)) }
-        ensures sound { (out : List BlockRef) → SoundBeside V.refs_of V.IsSound self.old.bases (B.blocks self.old.store) out → SoundBeside V.refs_of V.IsSound self.new.bases (B.blocks self.new.store) out }
-        ensures changes { Changes (B.blocks self.old.store) (B.blocks self.new.store) (owned (V.refs_of (B.blocks self.old.store)) self.old.bases) (owned (V.refs_of (B.blocks self.new.store)) self.new.bases) }
+        ensures sound { (out : List BlockRef) → SoundBeside V.refs_of V.IsSound self.old.bases (B.blocks self.old.store) out
+            → SoundBeside V.refs_of V.IsSound self.new.bases (B.blocks self.new.store) out }
+        ensures changes { Changes (B.blocks self.old.store) (B.blocks self.new.store) (owned (V.refs_of (B.blocks self.old.store)) self.old.bases)
+            (owned (V.refs_of (B.blocks self.new.store)) self.new.bases) }
         ensures served { Served B.step self.old.store self.new.store }
         ensures settings { SameSettings self.old.bases self.new.bases }
         ensures within { Within V.refs_of (two_keys db from.now to_db to.now) self.old.bases self.new.bases (B.blocks self.old.store) (B.blocks self.new.store) }

@@ -75,7 +75,8 @@ impl<V: Stored, B: BlockStore> Keyspace<V, B> {
         requires intact { IsIntact V.refs_of V.IsSound self.old.bases (B.blocks self.old.store) [] }
         ensures steps { Rehashed (B.blocks self.old.store) steps result self.old.bases self.new.bases }
         ensures means { (number : ℕ) → means V.value_of number self.new.bases (B.blocks self.old.store) ≡ means V.value_of number self.old.bases (B.blocks self.old.store) }
-        ensures sound { (out : List BlockRef) → SoundBeside V.refs_of V.IsSound self.old.bases (B.blocks self.old.store) out → SoundBeside V.refs_of V.IsSound self.new.bases (B.blocks self.old.store) out }
+        ensures sound { (out : List BlockRef) → SoundBeside V.refs_of V.IsSound self.old.bases (B.blocks self.old.store) out
+            → SoundBeside V.refs_of V.IsSound self.new.bases (B.blocks self.old.store) out }
         ensures store { self.new.store ≡ self.old.store }
         ensures settings { SameSettings self.old.bases self.new.bases }
     {

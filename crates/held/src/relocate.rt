@@ -55,7 +55,8 @@ impl<V: Stored, B: BlockStore> Keyspace<V, B> {
         requires room { 32 ≤ room }
         requires intact { IsIntact V.refs_of V.IsSound self.old.bases (B.blocks self.old.store) [] }
         ensures relocates { Relocates V.refs_of V.value_of V.IsSound self.old.bases self.new.bases (B.blocks self.old.store) (B.blocks self.new.store) }
-        ensures passes { PassesElement V.refs_of V.marks V.tables V.encoding (B.blocks self.old.store) (B.blocks self.new.store) (B.heap self.new.store) self.old.bases self.new.bases db at (Some from) room result }
+        ensures passes { PassesElement V.refs_of V.marks V.tables V.encoding (B.blocks self.old.store) (B.blocks self.new.store) (B.heap self.new.store) self.old.bases self.new.bases db at
+            (Some from) room result }
         ensures calmer { Calmer (B.heap self.old.store) (B.heap self.new.store) }
     {
         let mut value = self.bases.swap_value(db, at, V::zero());
@@ -80,8 +81,10 @@ impl<V: Stored, B: BlockStore> Keyspace<V, B> {
         requires room { 33 ≤ room }
         requires intact { IsIntact V.refs_of V.IsSound self.old.bases (B.blocks self.old.store) [] }
         ensures relocates { Relocates V.refs_of V.value_of V.IsSound self.old.bases self.new.bases (B.blocks self.old.store) (B.blocks self.new.store) }
-        ensures sound { (out : List BlockRef) → SoundBeside V.refs_of V.IsSound self.old.bases (B.blocks self.old.store) out → SoundBeside V.refs_of V.IsSound self.new.bases (B.blocks self.new.store) out }
-        ensures passes { PassesElement V.refs_of V.marks V.tables V.encoding (B.blocks self.old.store) (B.blocks self.new.store) (B.heap self.new.store) self.old.bases self.new.bases db at mark room result }
+        ensures sound { (out : List BlockRef) → SoundBeside V.refs_of V.IsSound self.old.bases (B.blocks self.old.store) out
+            → SoundBeside V.refs_of V.IsSound self.new.bases (B.blocks self.new.store) out }
+        ensures passes { PassesElement V.refs_of V.marks V.tables V.encoding (B.blocks self.old.store) (B.blocks self.new.store) (B.heap self.new.store) self.old.bases self.new.bases db at mark room
+            result }
         ensures calmer { Calmer (B.heap self.old.store) (B.heap self.new.store) }
     {
         let Some(from) = mark else {

@@ -89,7 +89,8 @@ impl<V: Stored, B: BlockStore> Keyspace<V, B> {
         requires db { db < 16 }
         requires intact { IsIntact V.refs_of V.IsSound self.now.bases (B.blocks self.now.store) [] }
         requires item { IsSome (item (table_at self.now.bases db) at) }
-        ensures { (key : List ℕ) (moment : ℕ) → StandsAt self.now.bases (B.blocks self.now.store) db key moment at → Found V.refs_of V.value_of self.now.bases (B.blocks self.now.store) db key moment result.now }
+        ensures { (key : List ℕ) (moment : ℕ) → StandsAt self.now.bases (B.blocks self.now.store) db key moment at
+            → Found V.refs_of V.value_of self.now.bases (B.blocks self.now.store) db key moment result.now }
     {
         self.bases.value(db, at)
     }
@@ -99,9 +100,13 @@ impl<V: Stored, B: BlockStore> Keyspace<V, B> {
         requires db { db < 16 }
         requires intact { IsIntact V.refs_of V.IsSound self.old.bases (B.blocks self.old.store) [] }
         requires item { IsSome (item (table_at self.old.bases db) at) }
-        ensures lifts { (key : List ℕ) (moment : ℕ) → StandsAt self.old.bases (B.blocks self.old.store) db key moment at → Lifts V.refs_of V.value_of V.vacant self.old.bases self.new.bases (B.blocks self.old.store) db key moment result }
-        ensures sound { (key : List ℕ) (moment : ℕ) → StandsAt self.old.bases (B.blocks self.old.store) db key moment at → (out : List BlockRef) → SoundBeside V.refs_of V.IsSound self.old.bases (B.blocks self.old.store) out → SoundBeside V.refs_of V.IsSound self.new.bases (B.blocks self.old.store) (V.refs_of (B.blocks self.old.store) result.value ++ out) }
-        ensures within { (key : List ℕ) (moment : ℕ) → StandsAt self.old.bases (B.blocks self.old.store) db key moment at → Within V.refs_of (one_key db key) self.old.bases self.new.bases (B.blocks self.old.store) (B.blocks self.old.store) }
+        ensures lifts { (key : List ℕ) (moment : ℕ) → StandsAt self.old.bases (B.blocks self.old.store) db key moment at
+            → Lifts V.refs_of V.value_of V.vacant self.old.bases self.new.bases (B.blocks self.old.store) db key moment result }
+        ensures sound { (key : List ℕ) (moment : ℕ) → StandsAt self.old.bases (B.blocks self.old.store) db key moment at → (out : List BlockRef)
+            → SoundBeside V.refs_of V.IsSound self.old.bases (B.blocks self.old.store) out
+            → SoundBeside V.refs_of V.IsSound self.new.bases (B.blocks self.old.store) (V.refs_of (B.blocks self.old.store) result.value ++ out) }
+        ensures within { (key : List ℕ) (moment : ℕ) → StandsAt self.old.bases (B.blocks self.old.store) db key moment at
+            → Within V.refs_of (one_key db key) self.old.bases self.new.bases (B.blocks self.old.store) (B.blocks self.old.store) }
         ensures store { self.new.store ≡ self.old.store }
         ensures settings { SameSettings self.old.bases self.new.bases }
     {
@@ -119,10 +124,14 @@ impl<V: Stored, B: BlockStore> Keyspace<V, B> {
         requires intact { IsIntact V.refs_of V.IsSound self.old.bases (B.blocks self.old.store) [] }
         requires latest { IsDeadline to }
         ensures answer { IfOk result (λ there. there ≡ is_some (look (means V.value_of db self.old.bases (B.blocks self.old.store)) key.now)) }
-        ensures means { OnOk result ((entry : Entry) → look (means V.value_of db self.old.bases (B.blocks self.old.store)) key.now ≡ Some entry → means V.value_of db self.new.bases (B.blocks self.old.store) ≡ put (means V.value_of db self.old.bases (B.blocks self.old.store)) key.now (record { value = entry.value; deadline = to })) }
+        ensures means { OnOk result
+            ((entry : Entry) → look (means V.value_of db self.old.bases (B.blocks self.old.store)) key.now ≡ Some entry
+            → means V.value_of db self.new.bases (B.blocks self.old.store) ≡ put (means V.value_of db self.old.bases (B.blocks self.old.store)) key.now
+            (record { value = entry.value; deadline = to })) }
         ensures absent { look (means V.value_of db self.old.bases (B.blocks self.old.store)) key.now ≡ None → self.new.bases ≡ self.old.bases }
         ensures err { OnErr result (self.new.bases ≡ self.old.bases) }
-        ensures sound { (out : List BlockRef) → SoundBeside V.refs_of V.IsSound self.old.bases (B.blocks self.old.store) out → SoundBeside V.refs_of V.IsSound self.new.bases (B.blocks self.old.store) out }
+        ensures sound { (out : List BlockRef) → SoundBeside V.refs_of V.IsSound self.old.bases (B.blocks self.old.store) out
+            → SoundBeside V.refs_of V.IsSound self.new.bases (B.blocks self.old.store) out }
         ensures store { self.new.store ≡ self.old.store }
         ensures settings { SameSettings self.old.bases self.new.bases }
         ensures within { Within V.refs_of (no_key db) self.old.bases self.new.bases (B.blocks self.old.store) (B.blocks self.old.store) }
@@ -149,10 +158,14 @@ impl<V: Stored, B: BlockStore> Keyspace<V, B> {
         requires untimed { IfNone found.timed (Lacks (B.blocks self.old.store) (deadlines_at self.old.bases db).table key.now) }
         requires latest { IsDeadline to }
         ensures answer { IfOk result (λ there. there ≡ is_some (look (means V.value_of db self.old.bases (B.blocks self.old.store)) key.now)) }
-        ensures means { OnOk result ((entry : Entry) → look (means V.value_of db self.old.bases (B.blocks self.old.store)) key.now ≡ Some entry → means V.value_of db self.new.bases (B.blocks self.old.store) ≡ put (means V.value_of db self.old.bases (B.blocks self.old.store)) key.now (record { value = entry.value; deadline = to })) }
+        ensures means { OnOk result
+            ((entry : Entry) → look (means V.value_of db self.old.bases (B.blocks self.old.store)) key.now ≡ Some entry
+            → means V.value_of db self.new.bases (B.blocks self.old.store) ≡ put (means V.value_of db self.old.bases (B.blocks self.old.store)) key.now
+            (record { value = entry.value; deadline = to })) }
         ensures absent { look (means V.value_of db self.old.bases (B.blocks self.old.store)) key.now ≡ None → self.new.bases ≡ self.old.bases }
         ensures err { OnErr result (self.new.bases ≡ self.old.bases) }
-        ensures sound { (out : List BlockRef) → SoundBeside V.refs_of V.IsSound self.old.bases (B.blocks self.old.store) out → SoundBeside V.refs_of V.IsSound self.new.bases (B.blocks self.old.store) out }
+        ensures sound { (out : List BlockRef) → SoundBeside V.refs_of V.IsSound self.old.bases (B.blocks self.old.store) out
+            → SoundBeside V.refs_of V.IsSound self.new.bases (B.blocks self.old.store) out }
         ensures store { self.new.store ≡ self.old.store }
         ensures settings { SameSettings self.old.bases self.new.bases }
         ensures within { Within V.refs_of (no_key db) self.old.bases self.new.bases (B.blocks self.old.store) (B.blocks self.old.store) }
@@ -186,7 +199,8 @@ impl<V: Stored, B: BlockStore> Keyspace<V, B> {
         requires latest { IsDeadline deadline }
         ensures changes { ChangesDeadlines self.old.bases self.new.bases db }
         ensures arranged { IsArranged V.IsSound self.new.bases (B.blocks self.old.store) }
-        ensures times { OnOk result (moments (B.blocks self.old.store) (deadlines_at self.new.bases db) ≡ with_deadline (moments (B.blocks self.old.store) (deadlines_at self.old.bases db)) key.now deadline) }
+        ensures times { OnOk result
+            (moments (B.blocks self.old.store) (deadlines_at self.new.bases db) ≡ with_deadline (moments (B.blocks self.old.store) (deadlines_at self.old.bases db)) key.now deadline) }
         ensures err { OnErr result (self.new.bases ≡ self.old.bases) }
         ensures store { self.new.store ≡ self.old.store }
         ensures within { Within V.refs_of (no_key db) self.old.bases self.new.bases (B.blocks self.old.store) (B.blocks self.old.store) }
@@ -221,11 +235,15 @@ impl<V: Stored, B: BlockStore> Keyspace<V, B> {
         requires latest { IsDeadline deadline }
         requires intact { IsIntactWith V.refs_of V.IsSound self.old.bases (B.blocks self.old.store) value }
         requires seeks { Seeks self.old.bases (B.blocks self.old.store) db key.now sought }
-        ensures means { OnOk result (means V.value_of db self.new.bases (B.blocks self.new.store) ≡ put (means V.value_of db self.old.bases (B.blocks self.old.store)) key.now (record { value = V.value_of (B.blocks self.old.store) value; deadline = deadline })) }
+        ensures means { OnOk result
+            (means V.value_of db self.new.bases (B.blocks self.new.store) ≡ put (means V.value_of db self.old.bases (B.blocks self.old.store)) key.now
+            (record { value = V.value_of (B.blocks self.old.store) value; deadline = deadline })) }
         ensures has { OnOk result (HasOnly self.new.bases (B.blocks self.new.store) db key.now value) }
         ensures kept { OnErr result (means V.value_of db self.new.bases (B.blocks self.new.store) ≡ means V.value_of db self.old.bases (B.blocks self.old.store)) }
         ensures arranged { IsArranged V.IsSound self.new.bases (B.blocks self.new.store) }
-        ensures changes { OnOk result (Changes (B.blocks self.old.store) (B.blocks self.new.store) (owned (V.refs_of (B.blocks self.old.store)) self.old.bases ++ V.refs_of (B.blocks self.old.store) value) (owned (V.refs_of (B.blocks self.new.store)) self.new.bases)) }
+        ensures changes { OnOk result
+            (Changes (B.blocks self.old.store) (B.blocks self.new.store) (owned (V.refs_of (B.blocks self.old.store)) self.old.bases ++ V.refs_of (B.blocks self.old.store) value)
+            (owned (V.refs_of (B.blocks self.new.store)) self.new.bases)) }
         ensures err_blocks { OnErr result (B.blocks self.new.store ≡ B.blocks self.old.store) }
         ensures err_keys { OnErr result ((number : ℕ) → table_at self.new.bases number ≡ table_at self.old.bases number) }
         ensures err_owned { OnErr result ((r : BlockRef) → times r (owned (V.refs_of (B.blocks self.new.store)) self.new.bases) ≡ times r (owned (V.refs_of (B.blocks self.old.store)) self.old.bases)) }
@@ -261,11 +279,15 @@ impl<V: Stored, B: BlockStore> Keyspace<V, B> {
         requires intact { IsIntactWith V.refs_of V.IsSound self.old.bases (B.blocks self.old.store) value }
         requires hashed { hash ≡ hash_of (table_at self.old.bases db).seed key.now }
         requires lacks { Lacks (B.blocks self.old.store) (table_at self.old.bases db) key.now }
-        ensures means { OnOk result (means V.value_of db self.new.bases (B.blocks self.new.store) ≡ put (means V.value_of db self.old.bases (B.blocks self.old.store)) key.now (record { value = V.value_of (B.blocks self.old.store) value; deadline = deadline })) }
+        ensures means { OnOk result
+            (means V.value_of db self.new.bases (B.blocks self.new.store) ≡ put (means V.value_of db self.old.bases (B.blocks self.old.store)) key.now
+            (record { value = V.value_of (B.blocks self.old.store) value; deadline = deadline })) }
         ensures has { OnOk result (HasOnly self.new.bases (B.blocks self.new.store) db key.now value) }
         ensures kept { OnErr result (means V.value_of db self.new.bases (B.blocks self.new.store) ≡ means V.value_of db self.old.bases (B.blocks self.old.store)) }
         ensures arranged { IsArranged V.IsSound self.new.bases (B.blocks self.new.store) }
-        ensures changes { OnOk result (Changes (B.blocks self.old.store) (B.blocks self.new.store) (owned (V.refs_of (B.blocks self.old.store)) self.old.bases ++ V.refs_of (B.blocks self.old.store) value) (owned (V.refs_of (B.blocks self.new.store)) self.new.bases)) }
+        ensures changes { OnOk result
+            (Changes (B.blocks self.old.store) (B.blocks self.new.store) (owned (V.refs_of (B.blocks self.old.store)) self.old.bases ++ V.refs_of (B.blocks self.old.store) value)
+            (owned (V.refs_of (B.blocks self.new.store)) self.new.bases)) }
         ensures err_blocks { OnErr result (B.blocks self.new.store ≡ B.blocks self.old.store) }
         ensures err_keys { OnErr result ((number : ℕ) → table_at self.new.bases number ≡ table_at self.old.bases number) }
         ensures err_owned { OnErr result ((r : BlockRef) → times r (owned (V.refs_of (B.blocks self.new.store)) self.new.bases) ≡ times r (owned (V.refs_of (B.blocks self.old.store)) self.old.bases)) }
@@ -302,11 +324,15 @@ impl<V: Stored, B: BlockStore> Keyspace<V, B> {
         requires latest { IsDeadline deadline }
         requires intact { IsIntactWith V.refs_of V.IsSound self.old.bases (B.blocks self.old.store) value }
         requires seeks { Seeks self.old.bases (B.blocks self.old.store) db key.now sought }
-        ensures means { OnOk result (means V.value_of db self.new.bases (B.blocks self.new.store) ≡ put (means V.value_of db self.old.bases (B.blocks self.old.store)) key.now (record { value = V.value_of (B.blocks self.old.store) value; deadline = deadline })) }
+        ensures means { OnOk result
+            (means V.value_of db self.new.bases (B.blocks self.new.store) ≡ put (means V.value_of db self.old.bases (B.blocks self.old.store)) key.now
+            (record { value = V.value_of (B.blocks self.old.store) value; deadline = deadline })) }
         ensures has { OnOk result (HasOnly self.new.bases (B.blocks self.new.store) db key.now value) }
         ensures kept { OnErr result (means V.value_of db self.new.bases (B.blocks self.new.store) ≡ means V.value_of db self.old.bases (B.blocks self.old.store)) }
-        ensures sound { (all out : List BlockRef) → SoundBeside V.refs_of V.IsSound self.old.bases (B.blocks self.old.store) all → AreParts all (V.refs_of (B.blocks self.old.store) value) out → SoundBeside V.refs_of V.IsSound self.new.bases (B.blocks self.new.store) out }
-        ensures changes { Changes (B.blocks self.old.store) (B.blocks self.new.store) (owned (V.refs_of (B.blocks self.old.store)) self.old.bases ++ V.refs_of (B.blocks self.old.store) value) (owned (V.refs_of (B.blocks self.new.store)) self.new.bases) }
+        ensures sound { (all out : List BlockRef) → SoundBeside V.refs_of V.IsSound self.old.bases (B.blocks self.old.store) all → AreParts all (V.refs_of (B.blocks self.old.store) value) out
+            → SoundBeside V.refs_of V.IsSound self.new.bases (B.blocks self.new.store) out }
+        ensures changes { Changes (B.blocks self.old.store) (B.blocks self.new.store) (owned (V.refs_of (B.blocks self.old.store)) self.old.bases ++ V.refs_of (B.blocks self.old.store) value)
+            (owned (V.refs_of (B.blocks self.new.store)) self.new.bases) }
         ensures err_keys { OnErr result ((number : ℕ) → table_at self.new.bases number ≡ table_at self.old.bases number) }
         ensures err_blocks { OnErr result (Changes (B.blocks self.old.store) (B.blocks self.new.store) (V.refs_of (B.blocks self.old.store) value) []) }
         ensures served { Served B.step self.old.store self.new.store }

@@ -41,7 +41,8 @@ pub signed_plus : (rest : List ℕ) (r : Option Exponent) → IsPowerRead false 
 signed_plus rest None h = signed_plus_none rest h
 signed_plus rest (Some x) h = (43 ∷ [], rest, subst (IsSign (43 ∷ [])) (sym h.1) plus, refl, h.0, h.2)
 
-unsigned_none : (text : List ℕ) → get_or text 0 0 ≢ 45 → get_or text 0 0 ≢ 43 → ¬ (IsNumeral 10 text) → (sign digits : List ℕ) (divides : Bool) → IsSign sign divides → text ≡ sign ++ digits → ¬ (IsNumeral 10 digits)
+unsigned_none : (text : List ℕ) → get_or text 0 0 ≢ 45 → get_or text 0 0 ≢ 43 → ¬ (IsNumeral 10 text) → (sign digits : List ℕ) (divides : Bool) → IsSign sign divides → text ≡ sign
+    ++ digits → ¬ (IsNumeral 10 digits)
 unsigned_none text no_minus no_plus h _ digits _ no_sign e numeral = h (subst (IsNumeral 10) (sym e) numeral)
 unsigned_none text no_minus no_plus h _ digits _ plus e numeral = no_plus (ap (λ l. get_or l 0 0) e)
 unsigned_none text no_minus no_plus h _ digits _ minus e numeral = no_minus (ap (λ l. get_or l 0 0) e)

@@ -46,7 +46,8 @@ number_back n fits =
 
 -- a text is that of a number, or of none
 cases_by : (text : List ℕ) (n : ℤ) (a b : Bool) → bytes_eq (canonical n) text ≡ a → is_i64 n ≡ b
-    → ((if bytes_eq (canonical n) text && is_i64 n then Some n else None) ≡ None) ⊎ (((if bytes_eq (canonical n) text && is_i64 n then Some n else None) ≡ Some n) × FitsSigned w64 n × (text ≡ canonical n))
+    → ((if bytes_eq (canonical n) text && is_i64 n then Some n else None) ≡ None)
+    ⊎ (((if bytes_eq (canonical n) text && is_i64 n then Some n else None) ≡ Some n) × FitsSigned w64 n × (text ≡ canonical n))
 cases_by text n true true e f = inr (rw (e, f) refl, fits_from n f, sym ((bytes_eq-Decides (canonical n) text).0 e))
 cases_by text n true false e f = inl (rw (e, f) refl)
 cases_by text n false b e f = inl (rw e refl)

@@ -8,7 +8,8 @@ use Rattle.std.proofs.lemmas.Str.Parse.{digit_from_value}
 use Rattle.std.proofs.Math.Nat.{eq_of_mul-eq-mul_right}
 use Rattle.int_text.specs.declared.score.ScoreFault.{ScoreFault}
 use Rattle.int_text.specs.declared.score.ScoreFault.TheVariants.{Malformed, NotWhole, TooLarge}
-use Rattle.int_text.specs.Score.{IsSign, no_sign, plus, minus, Number, IsNumber, IsFraction, no_point, point, IsExponent, no_exponent, exponent, IsWhole, IsInfinityWord, IsInfinity, IsScoreText, IsScoreOf}
+use Rattle.int_text.specs.Score.{IsSign, no_sign, plus, minus, Number, IsNumber, IsFraction, no_point, point, IsExponent, no_exponent, exponent, IsWhole, IsInfinityWord, IsInfinity}
+use Rattle.int_text.specs.Score.{IsScoreText, IsScoreOf}
 use Rattle.int_text.proofs.Numbers.{prefix_one, exponent_stops, fraction_stops, with_point, without_point}
 use Rattle.int_text.proofs.Scores.{IsUnsigned, number_unsigned, word_unsigned}
 use Rattle.int_text.proofs.Wholes.{ten_pos}
@@ -60,7 +61,8 @@ number_one body m n a b =
     let stops_b = exponent_stops b.exponent_text n.divides n.power b.is_exponent in
     let whole = prefix_one m.whole (a.point_text ++ a.exponent_text) n.whole (b.point_text ++ b.exponent_text) a.digits b.digits
     (fraction_stops a.point_text m.fraction a.exponent_text a.is_fraction stops_a) (fraction_stops b.point_text n.fraction b.exponent_text b.is_fraction stops_b) (sym a.body_is ∙ b.body_is) in
-    let fraction = fraction_one a.point_text b.point_text m.fraction n.fraction a.exponent_text b.exponent_text m.divides n.divides m.power n.power a.is_fraction b.is_fraction a.is_exponent b.is_exponent whole.1 in
+    let fraction = fraction_one a.point_text b.point_text m.fraction n.fraction a.exponent_text b.exponent_text m.divides n.divides m.power n.power a.is_fraction b.is_fraction
+    a.is_exponent b.is_exponent whole.1 in
     let power = exponent_one a.exponent_text b.exponent_text m.divides n.divides m.power n.power a.is_exponent b.is_exponent fraction.1 in
     same_number m n whole.0 fraction.0 power.0 power.1
   where

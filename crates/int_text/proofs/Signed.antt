@@ -17,7 +17,11 @@ canonical_injective m n fits_m fits_n e = signed_decimal_injective m n fits_m.sf
 
 -- a text has one byte at least, and 20 at most
 pub canonical_length : (n : ℤ) → FitsSigned w64 n → (1 ≤ length (canonical n)) × (length (canonical n) ≤ 20)
-canonical_length (pos n) fits = (omega (arith, fits.sfits, decimal_nonempty n (omega (arith, fits.sfits))), omega (arith, fits.sfits, length-decimal-le 19 n (lit< tt) (omega (arith, fits.sfits)) (omega (arith, fits.sfits))))
+canonical_length (pos n) fits = (
+  omega (arith, fits.sfits, decimal_nonempty n (omega (arith, fits.sfits))),
+  omega
+      (arith, fits.sfits, length-decimal-le 19 n (lit< tt) (omega (arith, fits.sfits)) (omega (arith, fits.sfits))),
+)
 canonical_length (negsuc n) fits = (omega arith, omega (arith, length-decimal-le 19 (suc n) (lit< tt) (omega (arith, fits.sfits)) (omega (arith, fits.sfits))))
 
 read_back : (n : ℤ) → FitsSigned w64 n → (answer : Option ℤ) → Reads (canonical n) answer → answer ≡ Some n

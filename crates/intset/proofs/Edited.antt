@@ -77,7 +77,8 @@ packed_cut width count place packed long within =
     ∙ packed-append width place (count - place) (take (width * place) packed) (drop (width * place) packed) front
 
 -- a number put in among packed numbers
-packed_insert : (width count place : ℕ) (packed piece : List ℕ) (n : ℤ) → length packed ≡ width * count → place ≤ count → length piece ≡ width → ((rest : List ℕ) → first_number width (piece ++ rest) ≡ n)
+packed_insert : (width count place : ℕ) (packed piece : List ℕ) (n : ℤ) → length packed ≡ width * count → place ≤ count → length piece ≡ width
+    → ((rest : List ℕ) → first_number width (piece ++ rest) ≡ n)
     → packed_numbers width (count + 1) (take (width * place) packed ++ (piece ++ drop (width * place) packed)) ≡ insert (packed_numbers width count packed) place n
 packed_insert width count place packed piece n long within sized reads =
     let low : width * place ≤ width * count = mul-le-mul_left width within in
@@ -152,7 +153,15 @@ put_edits old new piece width place n has long told within room sized reads midd
     ∙ inserted ∙ ap (λ xs. insert xs place n) (sym old_numbers) in
     let step : width * (count + 1) ≡ width * count + width = omega arith in
     let grown : length new ≡ 8 + (width * place + (width + (length old - (8 + width * place)))) =
-    head.long ∙ omega (arith, length-append (take (width * place) packed) tail, length-take-le (width * place) packed (omega arith), length-append piece (drop (8 + width * place) old), length-drop (8 + width * place) old, sized) in
+    head.long ∙ omega (
+      arith,
+      length-append (take (width * place) packed) tail,
+      length-take-le (width * place) packed (omega arith),
+      length-append piece (drop (8 + width * place) old),
+      length-drop
+          (8 + width * place) old,
+      sized,
+    ) in
     let whole : length new ≡ 8 + width_of new * count_of new = rw (head.width_is, head.count_is, ← told) (omega (arith, length-drop 8 old)) in
     record {
       kept = head.width_is;

@@ -9,7 +9,8 @@ use Rattle.intset.specs.Intset.{IsRising}
 use Rattle.intset.specs.Places.{IsBetween, IsPlace, RisesBelow}
 
 -- the number at the middle is less than n, so n comes after it
-pub between-upper : (numbers : List ℤ) (n : ℤ) (low high middle : ℕ) (x : ℤ) → IsRising numbers → IsBetween numbers n low high → middle < high → slice_get numbers middle ≡ Some x → x <ℤ n → IsBetween numbers n (middle + 1) high
+pub between-upper : (numbers : List ℤ) (n : ℤ) (low high middle : ℕ) (x : ℤ) → IsRising numbers → IsBetween numbers n low high → middle < high → slice_get numbers middle ≡ Some x → x <ℤ n
+    → IsBetween numbers n (middle + 1) high
 between-upper numbers n low high middle x rising between under found less = record {
   ordered = omega arith;
   within = between.within;
@@ -28,7 +29,8 @@ between-upper numbers n low high middle x rising between under found less = reco
 }
 
 -- the number at the middle is greater than n, so n comes before it
-pub between-lower : (numbers : List ℤ) (n : ℤ) (low high middle : ℕ) (x : ℤ) → IsRising numbers → IsBetween numbers n low high → low ≤ middle → middle < high → slice_get numbers middle ≡ Some x → n <ℤ x → IsBetween numbers n low middle
+pub between-lower : (numbers : List ℤ) (n : ℤ) (low high middle : ℕ) (x : ℤ) → IsRising numbers → IsBetween numbers n low high → low ≤ middle → middle < high
+    → slice_get numbers middle ≡ Some x → n <ℤ x → IsBetween numbers n low middle
 between-lower numbers n low high middle x rising between over under found more = record {
   ordered = over;
   within = let w = between.within in omega arith;
@@ -102,7 +104,8 @@ not_both : (a b : ℤ) → a <ℤ b → int_le b a ≡ true → ⊥
 not_both a b less most = grind (arith, ints)
 
 -- a number that is not greater than the one before it
-pub rising-refuted : (numbers : List ℤ) (index : ℕ) (before here : ℤ) → 0 < index → index < length numbers → get_or numbers (index - 1) here ≡ before → get_or numbers index here ≡ here → int_le here before ≡ true → IsRising numbers → ⊥
+pub rising-refuted : (numbers : List ℤ) (index : ℕ) (before here : ℤ) → 0 < index → index < length numbers → get_or numbers (index - 1) here ≡ before → get_or numbers index here ≡ here
+    → int_le here before ≡ true → IsRising numbers → ⊥
 rising-refuted numbers index before here above within left right most rising =
     let up = rising (index - 1) index here (omega arith) within in
     let up' : before <ℤ here = rw (left, right) at up in

@@ -26,7 +26,8 @@ filter_place (x ∷ numbers) n zero at =
 filter_place (x ∷ numbers) n (suc place) at =
     let yes : int_lt x n ≡ true = lt_true x n (at.before 0 x (omega arith)) in
     let w = at.within in
-    let rest = filter_place numbers n place (record { within = omega arith; before = λ k d h. at.before (suc k) d (omega arith); after = λ k d from upto. at.after (suc k) d (omega arith) (omega arith) }) in
+    let rest = filter_place numbers n place
+    (record { within = omega arith; before = λ k d h. at.before (suc k) d (omega arith); after = λ k d from upto. at.after (suc k) d (omega arith) (omega arith) }) in
     rw (yes, rest) refl
 
 -- a number put in at its place
@@ -34,13 +35,15 @@ pub insert_place : (numbers : List ℤ) (n : ℤ) (place : ℕ) → IsPlace numb
 insert_place numbers n place at =
     ap (λ k. insert numbers k n) (sym (sym (length-filter (λ x. int_lt x n) numbers) ∙ filter_place numbers n place at))
 
-rising-insert_last : (numbers : List ℤ) (n : ℤ) (place : ℕ) → IsRising numbers → IsPlace numbers n place → (i j : ℕ) (d : ℤ) → i ≤ j → place ≤ j → j < length numbers → get_or (insert numbers place n) i d <ℤ get_or numbers j d
+rising-insert_last : (numbers : List ℤ) (n : ℤ) (place : ℕ) → IsRising numbers → IsPlace numbers n place → (i j : ℕ) (d : ℤ) → i ≤ j → place ≤ j → j < length numbers
+    → get_or (insert numbers place n) i d <ℤ get_or numbers j d
 rising-insert_last numbers n place rising at i j d below from within = elim (cases_lt i place) [
   | inl front ↦ rw (get_or-insert_below numbers place n d i front at.within) (rising i j d (omega arith) within)
   | inr back ↦ elim (cases_lt place i) [
     | inl after ↦
         let up : (i - 1) + 1 ≡ i = omega arith in
-        let left : get_or (insert numbers place n) i d ≡ get_or numbers (i - 1) d = ap (λ m. get_or (insert numbers place n) m d) (sym up) ∙ get_or-insert_above numbers place n d (i - 1) (omega arith) at.within in
+        let left : get_or (insert numbers place n) i d ≡ get_or numbers (i - 1) d = ap (λ m. get_or (insert numbers place n) m d) (sym up)
+        ∙ get_or-insert_above numbers place n d (i - 1) (omega arith) at.within in
         rw left (rising (i - 1) j d (omega arith) within)
     | inr here ↦
         let same : i ≡ place = omega arith in
@@ -59,7 +62,8 @@ rising-insert numbers n place rising at i (suc j) d below within =
           (rising i (suc j) d below (let w = at.within in omega arith))
       | inr back ↦ elim (cases_lt place (suc j)) [
         | inl after ↦
-            let right : get_or (insert numbers place n) (suc j) d ≡ get_or numbers j d = ap (λ m. get_or (insert numbers place n) m d) (sym up) ∙ get_or-insert_above numbers place n d j (omega arith) at.within in
+            let right : get_or (insert numbers place n) (suc j) d ≡ get_or numbers j d = ap (λ m. get_or (insert numbers place n) m d) (sym up)
+            ∙ get_or-insert_above numbers place n d j (omega arith) at.within in
             rw right (rising-insert_last numbers n place rising at i j d (omega arith) (omega arith) (omega arith))
         | inr here ↦
             let same : suc j ≡ place = omega arith in

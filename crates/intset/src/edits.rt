@@ -1,6 +1,7 @@
 //! Editing an intset in place.
 
-ghost use Rattle.std.specs.Prelude.{◌≡◌, ◌≢◌, true, false, ℕ, suc, ◌+◌, ◌-◌, ◌*◌, ◌^◌, ◌<◌, ◌≤◌, ◌↔◌, ℤ, List, [], ◌∷◌, ◌++◌, length, take, drop, IsTrue, IsFalse, IfOk, IfErr, OnOk, OnErr, max, slice_get};
+ghost use Rattle.std.specs.Prelude.{◌≡◌, ◌≢◌, true, false, ℕ, suc, ◌+◌, ◌-◌, ◌*◌, ◌^◌, ◌<◌, ◌≤◌, ◌↔◌, ℤ, List, [], ◌∷◌, ◌++◌, length, take, drop, IsTrue, IsFalse, IfOk, IfErr, OnOk};
+ghost use Rattle.std.specs.Prelude.{OnErr, max, slice_get};
 ghost use Rattle.std.specs.List.{Contains, insert, remove as without_place};
 ghost use Rattle.byteorder.specs.Endian.{little_bytes};
 ghost use Rattle.intset.specs.Intset.{IsIntset, IsWidth, HasWidth, HasLength, numbers_of, width_of, count_of, width_for as width_needed, with_number, without_number};

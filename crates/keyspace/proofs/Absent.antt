@@ -27,7 +27,8 @@ look_removed w key =
 -- a database from whose world a key was removed has no element of it
 pub none_stands : (bases new : Bases) (m after : Blocks) (db : ℕ) (key : List ℕ) → IsArranged new after → means db new after ≡ remove (means db bases m) key → AllAt (λ value. ⊥) new after db key
 none_stands bases new m after db key arranged means_is at e found bytes =
-    some_none (look (means db new after) key) _ (look_stands value_refs value_of value_own new db after arranged key at e found bytes _ refl) (ap (λ (w : World). look w key) means_is ∙ look_removed (means db bases m) key)
+    some_none (look (means db new after) key) _ (look_stands value_refs value_of value_own new db after arranged key at e found bytes _ refl)
+    (ap (λ (w : World). look w key) means_is ∙ look_removed (means db bases m) key)
 
 remove_over : (m : Database) (q : List ℕ) (a : Entry) → map.remove (insert m q a) q ≡ map.remove m q
 remove_over m q a =

@@ -15,7 +15,8 @@ use Rattle.keyspace.specs.Commands.{seen}
 use Rattle.keyspace.proofs.Uses.{Lower-intact, Lower-sound, Lower-has, Lower-within, Lower-means}
 
 module _ (at : Ctx) (old mid : Bases) (m own after : Blocks) (key : List ℕ) (lifted : Lifted) (value : Value) (same : own ≡ m)
-    (lifts : Lifts old mid m at.db key at.moment lifted) (sound : SoundBeside mid m (value_refs m lifted.value ++ [])) (p : Changes own after (value_refs own lifted.value) (value_refs after value)) where
+    (lifts : Lifts old mid m at.db key at.moment lifted) (sound : SoundBeside mid m (value_refs m lifted.value ++ []))
+    (p : Changes own after (value_refs own lifted.value) (value_refs after value)) where
   abbrev lowered : Lifted
   lowered = record { db = lifted.db; item = lifted.item; value = value }
 
@@ -30,15 +31,20 @@ module _ (at : Ctx) (old mid : Bases) (m own after : Blocks) (key : List ℕ) (l
     edit_sound clause = subst (λ b. Sound new b) (sym stays) (Lower-sound old mid m after at.db at.moment key lifted lowered [] lifts sound changes refl refl new clause)
 
     -- from the clauses `within` of `lift` and `lower`
-    pub edit_within : Within (one_key at.db key) old mid m m → ((k : List ℕ) (deadline : Option ℕ) → IsPlace mid after lifted.db lifted.item k deadline → Within (one_key lifted.db k) mid new after after) → Within (one_key at.db key) old new m later
-    edit_within taken clause = subst (Within (one_key at.db key) old new m) (sym stays) (Lower-within old mid m after at.db at.moment key lifted lowered [] lifts sound changes refl refl new taken clause)
+    pub edit_within : Within (one_key at.db key) old mid m m →
+        ((k : List ℕ) (deadline : Option ℕ) → IsPlace mid after lifted.db lifted.item k deadline → Within (one_key lifted.db k) mid new after after)
+        → Within (one_key at.db key) old new m later
+    edit_within taken clause = subst (Within (one_key at.db key) old new m) (sym stays)
+        (Lower-within old mid m after at.db at.moment key lifted lowered [] lifts sound changes refl refl new taken clause)
 
     -- from the clause `has` of `lower`
     pub edit_has : ((k : List ℕ) (deadline : Option ℕ) → IsPlace mid after lifted.db lifted.item k deadline → HasOnly new after lifted.db k value) → HasOnly new later at.db key value
     edit_has clause = subst (λ b. HasOnly new b at.db key value) (sym stays) (Lower-has old mid m after at.db at.moment key lifted lowered [] lifts sound changes refl refl new clause)
 
     -- from the clause `means` of `lower`
-    pub edit_means : ((k : List ℕ) (deadline : Option ℕ) → IsPlace mid after lifted.db lifted.item k deadline → means lifted.db new after ≡ put (means lifted.db mid after) k (record { value = value_of after value; deadline = deadline }))
+    pub edit_means :
+        ((k : List ℕ) (deadline : Option ℕ) → IsPlace mid after lifted.db lifted.item k deadline
+        → means lifted.db new after ≡ put (means lifted.db mid after) k (record { value = value_of after value; deadline = deadline }))
         → seen at new later ≡ put (seen at old m) key (record { value = value_of later value; deadline = lifts.deadline })
     edit_means clause =
         ap (λ b. live (means at.db new b) at.moment) stays

@@ -48,17 +48,20 @@ pub formed_none : {S : Type 0} (blocks : S → Blocks) (form : Form) (keyspace :
 formed_none blocks form keyspace = written_none value_refs (HasForm form keyspace.bases (blocks keyspace.store)) keyspace.bases (blocks keyspace.store)
 
 -- no key is written
-pub formed_scope : (form : Form) (scope : Scope) → ((db : ℕ) (key : List ℕ) → scope.writes db key → ⊥) → (old new : Bases) (m after : Blocks) → Within scope old new m after → Forms form old new m after
+pub formed_scope : (form : Form) (scope : Scope) → ((db : ℕ) (key : List ℕ) → scope.writes db key → ⊥) → (old new : Bases) (m after : Blocks) → Within scope old new m after
+    → Forms form old new m after
 formed_scope form scope none old new m after within = written_within value_refs (HasForm form old m) scope none old new m after within
 
 -- what stands at the one key that may be written has the form
-pub formed_key : (form : Form) (db : ℕ) (key : List ℕ) (old new : Bases) (m after : Blocks) → Within (one_key db key) old new m after → IsArranged new after → AllAt (HasForm form old m) new after db key → Forms form old new m after
+pub formed_key : (form : Form) (db : ℕ) (key : List ℕ) (old new : Bases) (m after : Blocks) → Within (one_key db key) old new m after → IsArranged new after
+    → AllAt (HasForm form old m) new after db key → Forms form old new m after
 formed_key form db key old new m after within arranged all =
     written_named value_refs (HasForm form old m) (one_key db key) (one_settled db key) old new m after within arranged
     (λ number at e other found bytes named. all at e (subst (λ n. item (table_at new n) at ≡ Some e) named.0 found) (bytes ∙ ap Some named.1))
 
 -- a value is put that has the form
-pub formed_put : {E : Type 0} (form : Form) (db : ℕ) (key : List ℕ) (value : Value) (old new : Bases) (m after : Blocks) → HasForm form old m value → Within (one_key db key) old new m after → IsArranged new after
+pub formed_put : {E : Type 0} (form : Form) (db : ℕ) (key : List ℕ) (value : Value) (old new : Bases) (m after : Blocks) → HasForm form old m value
+    → Within (one_key db key) old new m after → IsArranged new after
     → (result : Result (Unit {0}) E) → OnOk result (HasOnly new after db key value) → OnOk result (Forms form old new m after)
 formed_put form db key value old new m after is within arranged (Ok u) only = written_key value_refs (HasForm form old m) db key value is old new m after within arranged only
 formed_put form db key value old new m after is within arranged (Err e) only = tt
@@ -87,18 +90,22 @@ formed_moved db key old new m after written number at e found = elim (written nu
 ]
 
 -- a value that was made is put at another key
-pub formed_copied : {E : Type 0} (form : Form) (db : ℕ) (key : List ℕ) (value : Value) (old mid new : Bases) (m own after : Blocks) → HasForm form old m value → Forms form old mid m own → Within (one_key db key) mid new own after → IsArranged new after
+pub formed_copied : {E : Type 0} (form : Form) (db : ℕ) (key : List ℕ) (value : Value) (old mid new : Bases) (m own after : Blocks) → HasForm form old m value → Forms form old mid m own
+    → Within (one_key db key) mid new own after → IsArranged new after
     → (result : Result (Unit {0}) E) → OnOk result (HasOnly new after db key value) → OnOk result (Forms form old new m after)
 formed_copied form db key value old mid new m own after is made within arranged (Ok u) only =
     written_then value_refs (HasForm form old m) old mid new m own after made (written_key value_refs (HasForm form old m) db key value is mid new own after within arranged only)
 formed_copied form db key value old mid new m own after is made within arranged (Err e) only = tt
 
 -- the elements stay over the same store, whatever the tables do
-pub formed_items : {S : Type 0} (blocks : S → Blocks) (old new : Keyspace S) → ((db : ℕ) → (table_at new.bases db).items ≡ (table_at old.bases db).items) → new.store ≡ old.store → Formed blocks Unwritten old new
-formed_items blocks old new items same db at e found = inl (record { stood = ap (λ list. at_item list at) (sym (items db)) ∙ found; bytes = λ r owns. ap (λ s. blocks s r) same; refs = ap (λ s. value_refs (blocks s) e.value) same })
+pub formed_items : {S : Type 0} (blocks : S → Blocks) (old new : Keyspace S) → ((db : ℕ) → (table_at new.bases db).items ≡ (table_at old.bases db).items) → new.store ≡ old.store
+    → Formed blocks Unwritten old new
+formed_items blocks old new items same db at e found = inl
+    (record { stood = ap (λ list. at_item list at) (sym (items db)) ∙ found; bytes = λ r owns. ap (λ s. blocks s r) same; refs = ap (λ s. value_refs (blocks s) e.value) same })
 
 -- and then no key is written
-pub formed_on : {S : Type 0} (blocks : S → Blocks) (form : Form) (scope : Scope) (old mid new : Keyspace S) → ((db : ℕ) (key : List ℕ) → scope.writes db key → ⊥) → Formed blocks form old mid → Within scope mid.bases new.bases (blocks mid.store) (blocks new.store) → Formed blocks form old new
+pub formed_on : {S : Type 0} (blocks : S → Blocks) (form : Form) (scope : Scope) (old mid new : Keyspace S) → ((db : ℕ) (key : List ℕ) → scope.writes db key → ⊥)
+    → Formed blocks form old mid → Within scope mid.bases new.bases (blocks mid.store) (blocks new.store) → Formed blocks form old new
 formed_on blocks form scope old mid new none formed within =
     written_then value_refs (HasForm form old.bases (blocks old.store)) old.bases mid.bases new.bases (blocks old.store) (blocks mid.store) (blocks new.store) formed
     (written_within value_refs (HasForm form old.bases (blocks old.store)) scope none mid.bases new.bases (blocks mid.store) (blocks new.store) within)

@@ -24,7 +24,8 @@ use Rattle.keyspace.specs.Edits.{Shape, shape, MakesNew}
 use Rattle.keyspace.proofs.Uses.{sound_is_intact, Changed-sound, Made-intact, Put-sound, Put-within, Put-means}
 
 -- what was found of a key stands over a store where a value was made
-pub kept_seeks : (bases : Bases) (m after : Blocks) (db : ℕ) (key : List ℕ) (sought : Sought) (ys : List BlockRef) → Sound bases m → Changes m after [] ys → Seeks bases m db key sought → Seeks bases after db key sought
+pub kept_seeks : (bases : Bases) (m after : Blocks) (db : ℕ) (key : List ℕ) (sought : Sought) (ys : List BlockRef) → Sound bases m → Changes m after [] ys → Seeks bases m db key sought
+    → Seeks bases after db key sought
 kept_seeks bases m after db key sought ys sound p s = record {
   hashed = s.hashed;
   stands = stands sought.item s.stands;
@@ -34,7 +35,8 @@ kept_seeks bases m after db key sought ys sound p s = record {
     same : (at : ℕ) (e : Element Value) → item (table_at bases db) at ≡ Some e → after e.key ≡ m e.key
     same at e found =
         kept_inside value_refs value_of value_own bases m after [] [] ys (sound_is_intact bases m [] sound) p (λ r. omega arith) e.key
-        (let itself : one_if (ref_eq e.key e.key) ≡ 1 = cond-true _ _ _ (ref_eq-refl e.key) in omega (arith, itself, named_in (value_refs m) (table_at bases db) at e e.key found, table_owned (value_refs m) bases db e.key))
+        (let itself : one_if (ref_eq e.key e.key) ≡ 1 = cond-true _ _ _ (ref_eq-refl e.key) in
+        omega (arith, itself, named_in (value_refs m) (table_at bases db) at e e.key found, table_owned (value_refs m) bases db e.key))
 
     stands : (o : Option ℕ) → IfSome o (λ at. Stands m (table_at bases db) at key) → IfSome o (λ at. Stands after (table_at bases db) at key)
     stands None h = tt
@@ -44,7 +46,8 @@ kept_seeks bases m after db key sought ys sound p s = record {
     lacks None h = record { each = λ at e found is. h.each at e found (sym (same at e found) ∙ is) }
     lacks (Some at) h = tt
 
-module _ (at : Ctx) (old : Bases) (m after : Blocks) (key : List ℕ) (fresh value : Value) (sound : Sound old m) (blank : value_refs m fresh ≡ []) (p : Changes m after (value_refs m fresh) (value_refs after value)) where
+module _ (at : Ctx) (old : Bases) (m after : Blocks) (key : List ℕ) (fresh value : Value) (sound : Sound old m) (blank : value_refs m fresh ≡ [])
+    (p : Changes m after (value_refs m fresh) (value_refs after value)) where
   made : Changes m after [] (value_refs after value)
   made = subst (λ xs. Changes m after xs (value_refs after value)) blank p
 
@@ -61,7 +64,8 @@ module _ (at : Ctx) (old : Bases) (m after : Blocks) (key : List ℕ) (fresh val
     pub new_within : (scope : Scope) → Within scope old new after later → Within scope old new m later
     new_within scope clause = Put-within old m after value sound made new later scope clause
 
-    pub new_means : means at.db new later ≡ put (means at.db old after) key (record { value = value_of after value; deadline = None }) → seen at new later ≡ put (seen at old m) key (record { value = value_of after value; deadline = None })
+    pub new_means : means at.db new later ≡ put (means at.db old after) key (record { value = value_of after value; deadline = None })
+        → seen at new later ≡ put (seen at old m) key (record { value = value_of after value; deadline = None })
     new_means clause = Put-means old m after value sound made new later at.db at.moment key _ clause
 
   -- the value is released again
@@ -77,9 +81,11 @@ module _ (at : Ctx) (old : Bases) (m after : Blocks) (key : List ℕ) (fresh val
 
 -- from the clauses of `put_sought`
 pub makes_new : {S E F : Type 0} (makes : E → E → Shape → Shape → Type 0) (first last : E) (blocks : S → Blocks) (old new : Keyspace S) (at : Ctx) (key : List ℕ) (fresh value : Value) (after : Blocks)
-    → (sound : Sound old.bases (blocks old.store)) → (blank : value_refs (blocks old.store) fresh ≡ []) → (p : Changes (blocks old.store) after (value_refs (blocks old.store) fresh) (value_refs after value))
+    → (sound : Sound old.bases (blocks old.store)) → (blank : value_refs (blocks old.store) fresh ≡ [])
+    → (p : Changes (blocks old.store) after (value_refs (blocks old.store) fresh) (value_refs after value))
     → makes first last (shape (blocks old.store) fresh) (shape after value) → (result : Result (Unit {0}) F)
-    → OnOk result (means at.db new.bases (blocks new.store) ≡ put (means at.db old.bases after) key (record { value = value_of after value; deadline = None })) → OnOk result (HasOnly new.bases (blocks new.store) at.db key value)
+    → OnOk result (means at.db new.bases (blocks new.store) ≡ put (means at.db old.bases after) key (record { value = value_of after value; deadline = None }))
+    → OnOk result (HasOnly new.bases (blocks new.store) at.db key value)
     → OnOk result (MakesNew makes first last blocks old new at key fresh)
 makes_new makes first last blocks old new at key fresh value after sound blank p makes_it (Ok u) clause only = record {
   now = value;

@@ -1,5 +1,6 @@
 -- A page of a value lists what it has to of the value's members or fields.
-use Rattle.std.proofs.Common.{◌≡◌, ℕ, zero, suc, ◌<◌, ◌≤◌, ◌*◌, ◌-◌, ◌^◌, true, false, Bool, List, [], ◌∷◌, length, map, Option, Some, None, IsSome, Result, Ok, Err, IfOk, is_some, slice_get, refl, sym, ap, ◌∙◌, subst, arith}
+use Rattle.std.proofs.Common.{◌≡◌, ℕ, zero, suc, ◌<◌, ◌≤◌, ◌*◌, ◌-◌, ◌^◌, true, false, Bool, List, [], ◌∷◌, length, map, Option, Some, None, IsSome, Result, Ok, Err, IfOk, is_some}
+use Rattle.std.proofs.Common.{slice_get, refl, sym, ap, ◌∙◌, subst, arith}
 use Rattle.std.specs.Prelude.{ℤ}
 use Rattle.std.specs.List.{flat_map}
 use Rattle.std.proofs.lemmas.List.{length-map}
@@ -85,7 +86,8 @@ unfolding hash_of
 hash_is seed key = refl
 
 -- the places of so many elements that are there
-have_places : (seed count : ℕ) (element_of : ℕ → Option (List ℕ)) → ((i : ℕ) → IsSome (element_of i) → i < count) → ((i : ℕ) → element_of i ≡ None → count ≤ i) → HavePlaces count (λ i. placed seed (element_of i))
+have_places : (seed count : ℕ) (element_of : ℕ → Option (List ℕ)) → ((i : ℕ) → IsSome (element_of i) → i < count) → ((i : ℕ) → element_of i ≡ None → count ≤ i)
+    → HavePlaces count (λ i. placed seed (element_of i))
 have_places seed count element_of below all = record {
   real = λ i at is. real_of i at (element_of i) refl is;
   all = λ i is. all i (gone i (element_of i) refl is);
@@ -103,7 +105,8 @@ have_places seed count element_of below all = record {
     gone i (Some element) same is = cc
 
 -- the place of a dictionary's element is that of its key
-module _ {V : Type 0} (m : Blocks) (seed : ℕ) (t : Table V) (keyed : Keyed m t) (seeded : t.seed ≡ seed) (element_of : ℕ → Option (List ℕ)) (none : (i : ℕ) → item t i ≡ None → element_of i ≡ None) (some : (i : ℕ) (e : Element V) → item t i ≡ Some e → element_of i ≡ Some (bytes_at m e.key)) where
+module _ {V : Type 0} (m : Blocks) (seed : ℕ) (t : Table V) (keyed : Keyed m t) (seeded : t.seed ≡ seed) (element_of : ℕ → Option (List ℕ))
+    (none : (i : ℕ) → item t i ≡ None → element_of i ≡ None) (some : (i : ℕ) (e : Element V) → item t i ≡ Some e → element_of i ≡ Some (bytes_at m e.key)) where
   table_places : dict.CanStand t (λ i. placed seed (element_of i))
   table_places = record { placed = keyed.placed; places = λ i. at_item i (item t i) refl }
     where
@@ -123,8 +126,11 @@ packed_places : (seed count : ℕ) (list : List (List ℕ)) → count ≡ length
 packed_places seed count list counted = have_places seed count (slice_get list) (λ i some. omega (arith, counted, get_below list i some)) (λ i none. omega (arith, counted, none_past list i none))
 
 -- the same where they stand with more
-pair_places : {X : Type 0} (seed count : ℕ) (list : List X) (name_of : Option X → Option (List ℕ)) (name : X → List ℕ) → name_of None ≡ None → ((x : X) → name_of (Some x) ≡ Some (name x)) → count ≡ length list → HavePlaces count (λ i. placed seed (name_of (slice_get list i)))
-pair_places {X = X} seed count list name_of name none_has one_has counted = have_places seed count (λ i. name_of (slice_get list i)) (λ i some. omega (arith, counted, get_below list i (there (slice_get list i) some))) (λ i none. omega (arith, counted, none_past list i (gone (slice_get list i) none)))
+pair_places : {X : Type 0} (seed count : ℕ) (list : List X) (name_of : Option X → Option (List ℕ)) (name : X → List ℕ) → name_of None ≡ None → ((x : X) → name_of (Some x) ≡ Some (name x))
+    → count ≡ length list → HavePlaces count (λ i. placed seed (name_of (slice_get list i)))
+pair_places {X = X} seed count list name_of name none_has one_has counted =
+    have_places seed count (λ i. name_of (slice_get list i)) (λ i some. omega (arith, counted, get_below list i (there (slice_get list i) some)))
+    (λ i none. omega (arith, counted, none_past list i (gone (slice_get list i) none)))
   where
     there : (o : Option X) → IsSome (name_of o) → IsSome o
     there None some = rw none_has at some
@@ -139,17 +145,21 @@ module _ (m : Blocks) (limits : Limits) (seed : ℕ) where
   set_places set_bodies.Empty is = have_places seed 0 (λ i. None) (λ i some. cc) (λ i none. omega arith)
   set_places (set_bodies.Numbers p) is = packed_places seed p.len (set.number_texts (bytes_at m p.at)) (is.counted ∙ sym (length-map (numbers_of (bytes_at m p.at)) canonical))
   set_places (set_bodies.Pack p) is = packed_places seed p.len (texts (bytes_at m p.at)) is.counted
-  set_places (set_bodies.Table t) is = table_places m seed t is.keyed is.seed_is (λ i. set_items.key_at m (item t i)) (λ i none. ap (set_items.key_at m) none) (λ i e some. ap (set_items.key_at m) some)
+  set_places (set_bodies.Table t) is = table_places m seed t is.keyed is.seed_is (λ i. set_items.key_at m (item t i)) (λ i none. ap (set_items.key_at m) none)
+      (λ i e some. ap (set_items.key_at m) some)
 
   hash_places : (body : hash_body.Body) → hash.IsBody m limits seed body → hash_scan.CanStand body (λ i. placed seed (field_of (hash_items.pair_in m body i)))
   hash_places hash_bodies.Empty is = have_places seed 0 (λ i. None) (λ i some. cc) (λ i none. omega arith)
   hash_places (hash_bodies.Pack p) is = pair_places seed p.len (pairs (bytes_at m p.at)) field_of (λ pair. pair.0) refl (λ pair. refl) is.counted
-  hash_places (hash_bodies.Table t) is = table_places m seed t is.keyed is.seed_is (λ i. field_of (hash_items.entry_at m (item t i))) (λ i none. ap (λ o. field_of (hash_items.entry_at m o)) none) (λ i e some. ap (λ o. field_of (hash_items.entry_at m o)) some)
+  hash_places (hash_bodies.Table t) is = table_places m seed t is.keyed is.seed_is (λ i. field_of (hash_items.entry_at m (item t i)))
+      (λ i none. ap (λ o. field_of (hash_items.entry_at m o)) none) (λ i e some. ap (λ o. field_of (hash_items.entry_at m o)) some)
 
   zset_places : (body : zset_body.Body) → zset.IsBody m limits seed body → zset_scan.CanStand body (λ i. placed seed (member_of (zset_items.pair_in m body i)))
   zset_places zset_bodies.Empty is = have_places seed 0 (λ i. None) (λ i some. cc) (λ i none. omega arith)
-  zset_places (zset_bodies.Pack p) is = pair_places seed p.len (keys_in (bytes_at m p.at)) member_of (λ key. key.1) refl (λ key. refl) (is.counted ∙ sym (length-map (pairs (bytes_at m p.at)) key_of_pair))
-  zset_places (zset_bodies.Table t) is = table_places m seed t.table is.sound.keyed is.seed_is (λ i. member_of (score_table.pair_of m (item t.table i))) (λ i none. ap (λ o. member_of (score_table.pair_of m o)) none) (λ i e some. ap (λ o. member_of (score_table.pair_of m o)) some)
+  zset_places (zset_bodies.Pack p) is = pair_places seed p.len (keys_in (bytes_at m p.at)) member_of (λ key. key.1) refl (λ key. refl)
+      (is.counted ∙ sym (length-map (pairs (bytes_at m p.at)) key_of_pair))
+  zset_places (zset_bodies.Table t) is = table_places m seed t.table is.sound.keyed is.seed_is (λ i. member_of (score_table.pair_of m (item t.table i)))
+      (λ i none. ap (λ o. member_of (score_table.pair_of m o)) none) (λ i e some. ap (λ o. member_of (score_table.pair_of m o)) some)
 
 -- ---- the elements of a value
 
@@ -188,7 +198,8 @@ standing m limits seed (kinds.Set b) sound =
 standing m limits seed (kinds.Hash b) sound =
     let a = fields_laws_hold.arranged m b.value sound.0 in
     record {
-      apart = λ i j element h k. (let p = field_pair (hash_items.pair_at m b.value i) element h in let q = field_pair (hash_items.pair_at m b.value j) element k in a.apart i j element p.0 q.0 p.1 q.1);
+      apart = λ i j element h k.
+          (let p = field_pair (hash_items.pair_at m b.value i) element h in let q = field_pair (hash_items.pair_at m b.value j) element k in a.apart i j element p.0 q.0 p.1 q.1);
       there = λ i element h. (let p = field_pair (hash_items.pair_at m b.value i) element h in ap is_some (a.pair i element p.0 p.1));
       found = λ element h. (let v = some_there (get (hash.fields m b.value) element) h in let f = a.found element v.0 v.1 in (f.0, ap field_of f.1));
       stand = subst (λ s. hash_scan.CanStand b.value.body (λ i. placed s (field_of (hash_items.pair_at m b.value i)))) sound.2 (hash_places m b.value.limits b.value.seed b.value.body sound.0.body);
@@ -196,7 +207,8 @@ standing m limits seed (kinds.Hash b) sound =
 standing m limits seed (kinds.Zset b) sound =
     let a = scored_laws_hold.arranged m b.value sound.0 in
     record {
-      apart = λ i j element h k. (let p = member_pair (zset_items.pair_at m b.value i) element h in let q = member_pair (zset_items.pair_at m b.value j) element k in a.apart i j p.0 q.0 element p.1 q.1);
+      apart = λ i j element h k.
+          (let p = member_pair (zset_items.pair_at m b.value i) element h in let q = member_pair (zset_items.pair_at m b.value j) element k in a.apart i j p.0 q.0 element p.1 q.1);
       there = λ i element h. (let p = member_pair (zset_items.pair_at m b.value i) element h in ap is_some (a.pair i p.0 element p.1));
       found = λ element h. (let v = some_there (get (zset.scores m b.value) element) h in let f = a.found v.0 element v.1 in (f.0, ap member_of f.1));
       stand = subst (λ s. zset_scan.CanStand b.value.body (λ i. placed s (member_of (zset_items.pair_at m b.value i)))) sound.2 (zset_places m b.value.limits b.value.seed b.value.body sound.0.body);
@@ -265,7 +277,8 @@ module _ {A : Type 0} (in_value : model.Value → Option A) (tells : Option A �
         nothing none (telling None 0 [] reply told),
       )
 
-  pub tells_other : {E : Type 0} (result : Result (List Part) E) (entry : Entry) → look world key ≡ Some entry → in_value entry.value ≡ None → IfOk result (λ reply. reply ≡ Refused WrongType ∷ []) → IfOk result Tells
+  pub tells_other : {E : Type 0} (result : Result (List Part) E) (entry : Entry) → look world key ≡ Some entry → in_value entry.value ≡ None
+      → IfOk result (λ reply. reply ≡ Refused WrongType ∷ []) → IfOk result Tells
   tells_other (Err x) entry stands other is = tt
   tells_other (Ok reply) entry stands other is =
       let R : List Part → Type 0 = IsRefusal in (
@@ -276,7 +289,8 @@ module _ {A : Type 0} (in_value : model.Value → Option A) (tells : Option A �
 
   -- those of a value that was found
   module _ (value : Value) (own : A) (is_own : in_value (value_of m value) ≡ Some own) (found : Found bases m at.db key at.moment value) (sound : Sound bases m) (words_of : List ℕ → List (List ℕ))
-      (told_all : (next : ℕ) (items : List ℕ) (elements : List (List ℕ)) → Sifted (PassesIn m value options.pattern) items elements → paged next (flat_map words_of elements) ≡ paged_as next (tells (Some own) elements)) where
+      (told_all : (next : ℕ) (items : List ℕ) (elements : List (List ℕ)) → Sifted (PassesIn m value options.pattern) items elements
+      → paged next (flat_map words_of elements) ≡ paged_as next (tells (Some own) elements)) where
     facts : Standing m bases.seed value
     facts = standing m bases.limits bases.seed value (has_sound bases m at.db key value sound.arranged found.has)
 
@@ -286,11 +300,13 @@ module _ {A : Type 0} (in_value : model.Value → Option A) (tells : Option A �
     holds_is : (element : List ℕ) → holds_at (look world key) element ≡ holds (value_of m value) element
     holds_is element = ap (λ o. holds_at o element) found.stands
 
-    page_listed : (next : ℕ) (items : List ℕ) (elements : List (List ℕ)) → next < 2 ^ 64 → Span (λ i. placed bases.seed (element_at m value i)) cursor next items → Sifted P items elements → Page bases.seed world (held_sought at.db key options) cursor next elements
+    page_listed : (next : ℕ) (items : List ℕ) (elements : List (List ℕ)) → next < 2 ^ 64 → Span (λ i. placed bases.seed (element_at m value i)) cursor next items → Sifted P items elements
+        → Page bases.seed world (held_sought at.db key options) cursor next elements
     page_listed next items elements fits span s = record {
       on = span.on;
       fits = fits;
-      lists = sifted_lists P (λ i k other p q. some_same (element_at m value i) k other p.stands q.stands) (λ i j k p q. facts.apart i j k p.stands q.stands) (Passes world (held_sought at.db key options)) (IsDue bases.seed world (held_sought at.db key options) cursor next) items elements s span.once
+      lists = sifted_lists P (λ i k other p q. some_same (element_at m value i) k other p.stands q.stands) (λ i j k p q. facts.apart i j k p.stands q.stands)
+          (Passes world (held_sought at.db key options)) (IsDue bases.seed world (held_sought at.db key options) cursor next) items elements s span.once
           (λ i element p. record { there = holds_is element ∙ facts.there i element p.stands; like = p.like; typed = refl })
           (λ element due.
           (let w = facts.found element (sym (holds_is element) ∙ due.passes.there) in
@@ -298,13 +314,15 @@ module _ {A : Type 0} (in_value : model.Value → Option A) (tells : Option A �
           (w.0, record { stands = w.1; like = due.passes.like }, omega (arith, met))));
     }
 
-    pub tells_page : {E : Type 0} (result : Result (List Part) E) → IfOk result (λ reply. IsPageOf (can_stand value) (λ c. (moved value c).0) (λ c. (moved value c).1) (element_at m value) words_of cursor options reply) → IfOk result Tells
+    pub tells_page : {E : Type 0} (result : Result (List Part) E) → IfOk result
+        (λ reply. IsPageOf (can_stand value) (λ c. (moved value c).0) (λ c. (moved value c).1) (element_at m value) words_of cursor options reply) → IfOk result Tells
     tells_page (Err x) p = tt
     tells_page (Ok reply) p =
         let told : reply ≡ paged_as p.next (tells (Some own) p.elements) = p.is ∙ told_all p.next p.items p.elements p.sifted in
         let page = page_listed p.next p.items p.elements p.fits (p.span (λ i. placed bases.seed (element_at m value i)) facts.stand) p.sifted in (
           subst (λ o. may_tell in_value world o (λ before. IsHeldPage bases.seed world key cursor options (tells before)) reply world) (sym found.stands)
-              (subst (λ (o : Option A). may_tell_of world o (λ before. IsHeldPage bases.seed world key cursor options (tells before)) reply world) (sym is_own) ((p.next, p.elements, page, told), refl)),
+              (subst (λ (o : Option A). may_tell_of world o (λ before. IsHeldPage bases.seed world key cursor options (tells before)) reply world) (sym is_own)
+              ((p.next, p.elements, page, told), refl)),
           paged_value value p.items p.next p.elements found p.moves p.sifted (telling (Some own) p.next p.elements reply told),
         )
 

@@ -1,5 +1,6 @@
 -- Values whose blocks move: what a bounded call passes, a lemma for each type of value.
-use Rattle.std.proofs.Common.{◌≡◌, ℕ, zero, suc, ◌+◌, ◌-◌, ◌<◌, ◌≤◌, inl, inr, Bool, true, false, cond, eqb, ◌&&◌, List, [], ◌∷◌, length, map, count_by, Option, Some, None, refl, sym, ap, ◌∙◌, subst, arith}
+use Rattle.std.proofs.Common.{◌≡◌, ℕ, zero, suc, ◌+◌, ◌-◌, ◌<◌, ◌≤◌, inl, inr, Bool, true, false, cond, eqb, ◌&&◌, List, [], ◌∷◌, length, map, count_by, Option, Some, None, refl, sym, ap}
+use Rattle.std.proofs.Common.{◌∙◌, subst, arith}
 use Rattle.std.specs.Prelude.{IfSome, nat_le}
 use Rattle.std.specs.List.{All, slice_get, range_with_len}
 use Rattle.std.proofs.lemmas.List.FromFn.{length-range_with_len, get_or-range_with_len}
@@ -103,7 +104,8 @@ stays_there zero mark is passed = (let both : true ≡ false = subst (λ k. is_p
 stays_there (suc n) mark is passed = omega arith
 
 -- what `relocate_part` of a string says, as a part that was passed
-pub text_passes : (m after : Blocks) (heap later : Heap) (old new : string.Text) (from room : ℕ) (answer : Moved) → text_bytes after new ≡ text_bytes m old → is_raw new ≡ is_raw old → Changes m after (text_refs old) (text_refs new) → Calmer heap later → length (text_refs new) ≡ length (text_refs old)
+pub text_passes : (m after : Blocks) (heap later : Heap) (old new : string.Text) (from room : ℕ) (answer : Moved) → text_bytes after new ≡ text_bytes m old → is_raw new ≡ is_raw old
+    → Changes m after (text_refs old) (text_refs new) → Calmer heap later → length (text_refs new) ≡ length (text_refs old)
     → (from ≡ 0 → All (λ r. wants later r ≡ false) (text_refs new)) → (0 < from → new ≡ old) → answer.next ≡ None → answer.used ≡ cond (eqb from 0) (length (text_refs old)) 0 → 32 ≤ room
     → PassesPart value_refs value_of IsSound value_marks value_tables encoding_of m after heap later (Text old) (Text new) from room answer
 text_passes m after heap later old new from room answer bytes raw changes calmer many passed stays next used wide = record {
@@ -168,7 +170,8 @@ module _ (from : ℕ) (next : Option ℕ) (all : ℕ) where
   count_marks inside start zero whole = omega (arith, whole, inside)
   count_marks inside start (suc n) whole = by_test (is_passed from next start) refl (count_marks inside (start + 1) n (omega (arith, whole)))
     where
-      by_test : (b : Bool) → is_passed from next start ≡ b → count_by (is_passed from next) (range_with_len (start + 1) n) ≡ (passed_to all next - from) - ((start + 1) - from) → count_by (is_passed from next) (range_with_len start (suc n)) ≡ (passed_to all next - from) - (start - from)
+      by_test : (b : Bool) → is_passed from next start ≡ b → count_by (is_passed from next) (range_with_len (start + 1) n) ≡ (passed_to all next - from) - ((start + 1) - from)
+          → count_by (is_passed from next) (range_with_len start (suc n)) ≡ (passed_to all next - from) - (start - from)
       by_test true is more =
           let one : cond {A = ℕ} (is_passed from next start) 1 0 ≡ 1 = ap (λ b. cond b 1 0) is in
           let inside' = below start (omega (arith, whole)) is in
@@ -192,7 +195,8 @@ abbrev no_ref : BlockRef
 no_ref = record { slab = 0; slot = 0 }
 
 -- what `relocate_part` of a list says, as a part that was passed
-pub list_passes : (m after : Blocks) (heap later : Heap) (box : Box Chain) (new : Chain) (from room : ℕ) (answer : Moved) → IsQuick after new → elements after new ≡ elements m box.value → new.form ≡ box.value.form → Changes m after (refs box.value) (refs new) → Calmer heap later → IsPassed later (refs box.value) (refs new) from room answer
+pub list_passes : (m after : Blocks) (heap later : Heap) (box : Box Chain) (new : Chain) (from room : ℕ) (answer : Moved) → IsQuick after new → elements after new ≡ elements m box.value
+    → new.form ≡ box.value.form → Changes m after (refs box.value) (refs new) → Calmer heap later → IsPassed later (refs box.value) (refs new) from room answer
     → PassesPart value_refs value_of IsSound value_marks value_tables encoding_of m after heap later (kinds.List box) (kinds.List (with_value box new)) from room answer
 list_passes m after heap later box new from room answer quick list form changes calmer p = record {
   means = ap ListOf list;
@@ -210,7 +214,8 @@ list_passes m after heap later box new from room answer quick list form changes 
     stays = λ index mark marked apart.
         (let i = index_is (length (refs new)) index mark marked in
         let out = outside from answer.next (length (refs new)) index (subst (λ k. is_passed from answer.next k ≡ false) i.0 apart) in
-        slice_get-get_or (refs new) index no_ref i.1 ∙ ap Some (p.stays index (subst (λ n. IsOutside from (passed_to n answer.next) index) p.same_count out)) ∙ sym (slice_get-get_or (refs box.value) index no_ref (omega (arith, i.1, p.same_count))));
+        slice_get-get_or (refs new) index no_ref i.1 ∙ ap Some (p.stays index (subst (λ n. IsOutside from (passed_to n answer.next) index) p.same_count out))
+        ∙ sym (slice_get-get_or (refs box.value) index no_ref (omega (arith, i.1, p.same_count))));
   };
   bounded = record {
     used = (let counted = count_marks from answer.next (length (refs new)) (inside answer.next p.on) 0 (length (refs new)) (omega arith) in
@@ -232,7 +237,8 @@ list_passes m after heap later box new from room answer quick list form changes 
 -- ---- sets, hashes and sorted sets: marks by item numbers
 
 -- what was counted of the old marks is counted of the same new ones
-counted_bounded : (named vacant named' vacant' : List ℕ) (end from room : ℕ) (answer : Moved) → named' ≡ named → vacant' ≡ vacant → IsCounted named vacant end from room answer → IsBounded (passed_of (record { named = named'; vacant = vacant' }) from answer.next) from room answer
+counted_bounded : (named vacant named' vacant' : List ℕ) (end from room : ℕ) (answer : Moved) → named' ≡ named → vacant' ≡ vacant → IsCounted named vacant end from room answer
+    → IsBounded (passed_of (record { named = named'; vacant = vacant' }) from answer.next) from room answer
 counted_bounded named vacant named' vacant' end from room answer same gaps c = record {
   used = c.used ∙ sym (λ i. count_by (is_passed from answer.next) (same i) + count_by (is_passed from answer.next) (gaps i));
   within = c.within;
@@ -246,7 +252,8 @@ counted_bounded named vacant named' vacant' end from room answer same gaps c = r
 both_marks : (named vacant named' vacant' : List ℕ) → named' ≡ named → vacant' ≡ vacant → ◌≡◌ {A = Marks} (record { named = named'; vacant = vacant' }) (record { named = named; vacant = vacant })
 both_marks named vacant named' vacant' same gaps = λ i. record { named = same i; vacant = gaps i }
 
-pub set_passes : (m after : Blocks) (heap later : Heap) (box : Box Members) (new : Members) (from room : ℕ) (answer : Moved) → set_marks.IsRelocated m after box.value new → set_marks.PassesPart later box.value new from room answer → Calmer heap later
+pub set_passes : (m after : Blocks) (heap later : Heap) (box : Box Members) (new : Members) (from room : ℕ) (answer : Moved) → set_marks.IsRelocated m after box.value new
+    → set_marks.PassesPart later box.value new from room answer → Calmer heap later
     → PassesPart value_refs value_of IsSound value_marks value_tables encoding_of m after heap later (Set box) (Set (with_value box new)) from room answer
 set_passes m after heap later box new from room answer r p calmer = record {
   means = ap SetOf r.members_are;
@@ -257,10 +264,12 @@ set_passes m after heap later box new from room answer r p calmer = record {
   changes = r.changes;
   calmer = calmer;
   passed = p.passed;
-  bounded = counted_bounded (set_marks.marks box.value) (set_marks.vacant_marks box.value) (set_marks.marks new) (set_marks.vacant_marks new) (set_marks.marks_end box.value) from room answer p.same_marks p.same_vacant p.counted;
+  bounded = counted_bounded (set_marks.marks box.value) (set_marks.vacant_marks box.value) (set_marks.marks new) (set_marks.vacant_marks new) (set_marks.marks_end box.value) from room
+      answer p.same_marks p.same_vacant p.counted;
 }
 
-pub hash_passes : (m after : Blocks) (heap later : Heap) (box : Box Fields) (new : Fields) (from room : ℕ) (answer : Moved) → hash_marks.IsRelocated m after box.value new → hash_marks.PassesPart later box.value new from room answer → Calmer heap later
+pub hash_passes : (m after : Blocks) (heap later : Heap) (box : Box Fields) (new : Fields) (from room : ℕ) (answer : Moved) → hash_marks.IsRelocated m after box.value new
+    → hash_marks.PassesPart later box.value new from room answer → Calmer heap later
     → PassesPart value_refs value_of IsSound value_marks value_tables encoding_of m after heap later (Hash box) (Hash (with_value box new)) from room answer
 hash_passes m after heap later box new from room answer r p calmer = record {
   means = ap HashOf r.fields_are;
@@ -271,10 +280,12 @@ hash_passes m after heap later box new from room answer r p calmer = record {
   changes = r.changes;
   calmer = calmer;
   passed = p.passed;
-  bounded = counted_bounded (hash_marks.marks box.value) (hash_marks.vacant_marks box.value) (hash_marks.marks new) (hash_marks.vacant_marks new) (hash_marks.marks_end box.value) from room answer p.same_marks p.same_vacant p.counted;
+  bounded = counted_bounded (hash_marks.marks box.value) (hash_marks.vacant_marks box.value) (hash_marks.marks new) (hash_marks.vacant_marks new) (hash_marks.marks_end box.value) from room
+      answer p.same_marks p.same_vacant p.counted;
 }
 
-pub zset_passes : (m after : Blocks) (heap later : Heap) (box : Box Scored) (new : Scored) (from room : ℕ) (answer : Moved) → zset_marks.IsRelocated m after box.value new → zset_marks.PassesPart later box.value new from room answer → Calmer heap later
+pub zset_passes : (m after : Blocks) (heap later : Heap) (box : Box Scored) (new : Scored) (from room : ℕ) (answer : Moved) → zset_marks.IsRelocated m after box.value new
+    → zset_marks.PassesPart later box.value new from room answer → Calmer heap later
     → PassesPart value_refs value_of IsSound value_marks value_tables encoding_of m after heap later (Zset box) (Zset (with_value box new)) from room answer
 zset_passes m after heap later box new from room answer r p calmer = record {
   means = ap SortedOf r.scores_are;
@@ -285,13 +296,16 @@ zset_passes m after heap later box new from room answer r p calmer = record {
   changes = r.changes;
   calmer = calmer;
   passed = p.passed;
-  bounded = counted_bounded (zset_marks.marks box.value) (zset_marks.vacant_marks box.value) (zset_marks.marks new) (zset_marks.vacant_marks new) (zset_marks.marks_end box.value) from room answer p.same_marks p.same_vacant p.counted;
+  bounded = counted_bounded (zset_marks.marks box.value) (zset_marks.vacant_marks box.value) (zset_marks.marks new) (zset_marks.vacant_marks new) (zset_marks.marks_end box.value) from room
+      answer p.same_marks p.same_vacant p.counted;
 }
 
 -- ---- streams: the mark of a node's block is its key as a number
 
 -- what `relocate_part` of a stream says, as a part that was passed
-pub stream_passes : (m after : Blocks) (heap later : Heap) (box : Box Log) (new : Log) (from room : ℕ) (answer : Moved) → stream_marks.IsRelocated m after box.value new → ArePassed later (is_passed from answer.next) (stream.marks m box.value) (stream.refs m box.value) (stream.refs after new) → stream_marks.IsBounded (stream.marks m box.value) from room answer → Calmer heap later
+pub stream_passes : (m after : Blocks) (heap later : Heap) (box : Box Log) (new : Log) (from room : ℕ) (answer : Moved) → stream_marks.IsRelocated m after box.value new
+    → ArePassed later (is_passed from answer.next) (stream.marks m box.value) (stream.refs m box.value) (stream.refs after new)
+    → stream_marks.IsBounded (stream.marks m box.value) from room answer → Calmer heap later
     → PassesPart value_refs value_of IsSound value_marks value_tables encoding_of m after heap later (kinds.Stream box) (kinds.Stream (with_value box new)) from room answer
 stream_passes m after heap later box new from room answer r passed bounded calmer = record {
   means = ap StreamOf r.value_is;

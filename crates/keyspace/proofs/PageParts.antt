@@ -20,7 +20,8 @@ listed_reply names first new none is =
     subst P (sym (is ∙ ap (λ l. l ++ listed names) none)) (listed_is_one (0 + length names) names (omega arith))
 
 -- what a page's parts are together
-pub paged_parts : (next : ℕ) (text : List ℕ) (names : List (List ℕ)) (first second third new : List Part) → first ≡ [] → second ≡ first ++ Array 2 ∷ [] → text ≡ decimal next → third ≡ second ++ Bulk text ∷ [] → new ≡ third ++ listed names → new ≡ paged next names
+pub paged_parts : (next : ℕ) (text : List ℕ) (names : List (List ℕ)) (first second third new : List Part) → first ≡ [] → second ≡ first ++ Array 2 ∷ [] → text ≡ decimal next
+    → third ≡ second ++ Bulk text ∷ [] → new ≡ third ++ listed names → new ≡ paged next names
 paged_parts next text names first second third new none two is three last =
     let head : second ≡ Array 2 ∷ [] = two ∙ ap (λ l. l ++ Array 2 ∷ []) none in
     last ∙ ap (λ l. l ++ listed names) (three ∙ ap (λ l. l ++ Bulk text ∷ []) head) ∙ ap (λ t. Array 2 ∷ Bulk t ∷ listed names) is

@@ -25,11 +25,13 @@ outcome_is outcome reply new e = (sym (ap (λ o. o.reply) e), sym (ap (λ o. o.w
 pub same_settings : (bases : Bases) → SameSettings bases bases
 same_settings bases = record { limits = refl; seed = refl; turn = refl }
 
-pub same_held : {S : Type 0} (blocks : S → Blocks) (step : S → S → Type 0) (scope : Scope) (keyspace : Keyspace S) → Sound keyspace.bases (blocks keyspace.store) → Held blocks step scope keyspace keyspace
+pub same_held : {S : Type 0} (blocks : S → Blocks) (step : S → S → Type 0) (scope : Scope) (keyspace : Keyspace S) → Sound keyspace.bases (blocks keyspace.store)
+    → Held blocks step scope keyspace keyspace
 same_held blocks step scope keyspace sound = record { sound = sound; served = Served.no_step; settings = same_settings keyspace.bases; within = unmoved scope keyspace.bases (blocks keyspace.store) }
 
 -- nothing is changed
-pub unchanged : {S E : Type 0} (blocks : S → Blocks) (step : S → S → Type 0) (scope : Scope) (keyspace : Keyspace S) (result : Result (List Part) E) → Sound keyspace.bases (blocks keyspace.store) → Kept blocks step scope keyspace keyspace result
+pub unchanged : {S E : Type 0} (blocks : S → Blocks) (step : S → S → Type 0) (scope : Scope) (keyspace : Keyspace S) (result : Result (List Part) E)
+    → Sound keyspace.bases (blocks keyspace.store) → Kept blocks step scope keyspace keyspace result
 unchanged blocks step scope keyspace (Ok reply) sound = record { refusals = λ refused. refl; held = same_held blocks step scope keyspace sound }
 unchanged blocks step scope keyspace (Err e) sound = record { refusals = tt; held = same_held blocks step scope keyspace sound }
 
@@ -43,7 +45,8 @@ held_then blocks step scope a b c p q = record {
 }
 
 -- no refusal: what the parts hold is kept
-pub calm : {S E : Type 0} (blocks : S → Blocks) (step : S → S → Type 0) (scope : Scope) (old new : Keyspace S) (result : Result (List Part) E) → IfOk result (λ reply. IsRefusal reply → ⊥) → Held blocks step scope old new → Kept blocks step scope old new result
+pub calm : {S E : Type 0} (blocks : S → Blocks) (step : S → S → Type 0) (scope : Scope) (old new : Keyspace S) (result : Result (List Part) E) → IfOk result (λ reply. IsRefusal reply → ⊥)
+    → Held blocks step scope old new → Kept blocks step scope old new result
 calm blocks step scope old new (Ok reply) f held = record { refusals = λ refused. absurd (f refused); held = held }
 calm blocks step scope old new (Err e) f held = record { refusals = tt; held = held }
 
@@ -61,13 +64,17 @@ told outcome new (Err e) given = tt
 
 module _ {S E : Type 0} (blocks : S → Blocks) (step : S → S → Type 0) where
   -- by what the model lets it answer, where the command is this one
-  pub ran : (old new : Keyspace S) (at : Ctx) (command same : Command) (result : Result (List Part) E) → command ≡ same → IfOk result (λ reply. may old.bases.seed (sight blocks old at) at.moment same reply (sight blocks new at))
-      → Kept blocks step (scope_of at.db same) old new result → IfOk result (λ reply. Shows blocks old new at same reply) → IfOk result (λ reply. Formed blocks (form_of at.db (sight blocks old at) same) old new) → Runs blocks step old new at command result
+  pub ran : (old new : Keyspace S) (at : Ctx) (command same : Command) (result : Result (List Part) E) → command ≡ same
+      → IfOk result (λ reply. may old.bases.seed (sight blocks old at) at.moment same reply (sight blocks new at))
+      → Kept blocks step (scope_of at.db same) old new result → IfOk result (λ reply. Shows blocks old new at same reply)
+      → IfOk result (λ reply. Formed blocks (form_of at.db (sight blocks old at) same) old new) → Runs blocks step old new at command result
   ran old new at command same result is answers kept shows forms =
       subst (λ c. Runs blocks step old new at c result) (sym is) (record { answers = answers; kept = kept; shows = shows; forms = forms })
 
   -- the same of a command that only looked
-  pub looked : (keyspace : Keyspace S) (at : Ctx) (command same : Command) (result : Result (List Part) E) → command ≡ same → IfOk result (λ reply. may keyspace.bases.seed (sight blocks keyspace at) at.moment same reply (sight blocks keyspace at))
+  pub looked : (keyspace : Keyspace S) (at : Ctx) (command same : Command) (result : Result (List Part) E) → command ≡ same
+      → IfOk result (λ reply. may keyspace.bases.seed (sight blocks keyspace at) at.moment same reply (sight blocks keyspace at))
       → IfOk result (λ reply. Shows blocks keyspace keyspace at same reply) → Ready blocks keyspace at → Runs blocks step keyspace keyspace at command result
   looked keyspace at command same result is answers shows ready =
-      ran keyspace keyspace at command same result is answers (unchanged blocks step (scope_of at.db same) keyspace result ready.sound) shows (unformed blocks (form_of at.db (sight blocks keyspace at) same) keyspace result)
+      ran keyspace keyspace at command same result is answers (unchanged blocks step (scope_of at.db same) keyspace result ready.sound) shows
+      (unformed blocks (form_of at.db (sight blocks keyspace at) same) keyspace result)

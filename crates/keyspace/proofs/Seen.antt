@@ -23,13 +23,15 @@ seen_deadline w moment key d is = ap (λ x. cond (in_time moment x) x None) is �
     told (Some e) = chosen e (in_time moment e.deadline)
 
 -- a key that is seen gets a deadline that isn't past, or loses it
-pub timed : (old new : World) (moment : ℕ) (key : List ℕ) (entry : Entry) (to : Option ℕ) → look (live old moment) key ≡ Some entry → ((e : Entry) → look old key ≡ Some e → new ≡ put old key (record { value = e.value; deadline = to })) → in_time moment to ≡ true
+pub timed : (old new : World) (moment : ℕ) (key : List ℕ) (entry : Entry) (to : Option ℕ) → look (live old moment) key ≡ Some entry
+    → ((e : Entry) → look old key ≡ Some e → new ≡ put old key (record { value = e.value; deadline = to })) → in_time moment to ≡ true
     → live new moment ≡ put (live old moment) key (record { value = entry.value; deadline = to })
 timed old new moment key entry to seen clause late = ap (λ w. live w moment) (clause entry (was_in_time old moment key entry seen).0) ∙ live_put_in_time old moment key _ late
 
 -- what is expired: the deadline is set, or the key is removed
 module _ (old new : World) (moment : ℕ) (key : List ℕ) (due : ℤ) where
-  pub expire_now : (entry : Entry) → look (live old moment) key ≡ Some entry → int_lt (pos moment) due ≡ false → new ≡ remove old key → live new moment ≡ expire (live old moment) moment key due (look (live old moment) key)
+  pub expire_now : (entry : Entry) → look (live old moment) key ≡ Some entry → int_lt (pos moment) due ≡ false → new ≡ remove old key
+      → live new moment ≡ expire (live old moment) moment key due (look (live old moment) key)
   expire_now entry seen past clause =
       ap (λ w. live w moment) clause ∙ live_remove old moment key
       ∙ sym (cond-false (int_lt (pos moment) due) (put (live old moment) key (lasts_until entry.value (from_zero due))) (remove (live old moment) key) past)

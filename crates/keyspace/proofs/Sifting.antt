@@ -1,5 +1,6 @@
 -- The names that are sifted out of item numbers.
-use Rattle.std.proofs.Common.{◌≡◌, inl, inr, ℕ, suc, ◌+◌, ◌<◌, ◌≤◌, true, false, Bool, List, [], ◌∷◌, ◌++◌, length, refl, sym, ap, ◌∙◌, subst, arith, cond, append_assoc, drop, drop-cons, get_or, length-drop}
+use Rattle.std.proofs.Common.{◌≡◌, inl, inr, ℕ, suc, ◌+◌, ◌<◌, ◌≤◌, true, false, Bool, List, [], ◌∷◌, ◌++◌, length, refl, sym, ap, ◌∙◌, subst, arith, cond, append_assoc, drop, drop-cons}
+use Rattle.std.proofs.Common.{get_or, length-drop}
 use Rattle.std.proofs.lemmas.List.{append-nil, nil_from_length}
 use Rattle.std.proofs.lemmas.List.Sums.{sum_by-cons}
 use Rattle.std.specs.Prelude.{bytes_eq}
@@ -83,7 +84,8 @@ module _ (P : ℕ → List ℕ → Type 0) where
     named_once _ _ (drops other items names none rest) few key = named_once items names rest (λ item. omega (arith, few item, met_more item other items)) key
 
     -- The names list what has to be, where the item number of each such key is met, and none twice.
-    pub sifted_lists : (May Must : List ℕ → Type 0) (items : List ℕ) (names : List (List ℕ)) → Sifted P items names → ((item : ℕ) → times item items ≤ 1) → ((item : ℕ) (key : List ℕ) → P item key → May key)
+    pub sifted_lists : (May Must : List ℕ → Type 0) (items : List ℕ) (names : List (List ℕ)) → Sifted P items names → ((item : ℕ) → times item items ≤ 1)
+        → ((item : ℕ) (key : List ℕ) → P item key → May key)
         → ((key : List ℕ) → Must key → (item : ℕ) × P item key × (0 < times item items)) → Lists May Must names
     sifted_lists May Must items names s few may must = record {
       once = named_once items names s few;
@@ -121,7 +123,8 @@ pub record SoFar (P : ℕ → List ℕ → Type 0) (words_of : List ℕ → List
 
 told_more : (words_of : List ℕ → List (List ℕ)) (names : List (List ℕ)) (name : List ℕ) → flat_map words_of (names ++ name ∷ []) ≡ flat_map words_of names ++ words_of name
 told_more words_of [] name = append-nil (words_of name)
-told_more words_of (first ∷ names) name = ap (λ (l : List (List ℕ)). words_of first ++ l) (told_more words_of names name) ∙ sym (append_assoc (words_of first) (flat_map words_of names) (words_of name))
+told_more words_of (first ∷ names) name = ap (λ (l : List (List ℕ)). words_of first ++ l) (told_more words_of names name)
+    ∙ sym (append_assoc (words_of first) (flat_map words_of names) (words_of name))
 
 module _ (P : ℕ → List ℕ → Type 0) (words_of : List ℕ → List (List ℕ)) (all : List ℕ) where
   pub words_first : (words : List (List ℕ)) → words ≡ [] → SoFar P words_of all all words

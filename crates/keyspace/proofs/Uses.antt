@@ -81,7 +81,8 @@ module _ (bases : Bases) (m after : Blocks) (value : Value) (sound : Sound bases
     Put-sound = held.Put-sound value_refs value_of value_own bases m after value sound p new later
 
     -- from the clause `means` of `put`, or its clause `kept`: the world that the step speaks of
-    pub Put-means : (db moment : ℕ) (key : List ℕ) (entry : Entry) → means db new later ≡ put (means db bases after) key entry → model.live (means db new later) moment ≡ stand (model.live (means db bases m) moment) moment key entry
+    pub Put-means : (db moment : ℕ) (key : List ℕ) (entry : Entry) → means db new later ≡ put (means db bases after) key entry
+        → model.live (means db new later) moment ≡ stand (model.live (means db bases m) moment) moment key entry
     Put-means = held.Put-means value_refs value_of value_own bases m after value sound p new later
 
     pub Put-kept : (db moment : ℕ) → means db new later ≡ means db bases after → model.live (means db new later) moment ≡ model.live (means db bases m) moment
@@ -89,7 +90,9 @@ module _ (bases : Bases) (m after : Blocks) (value : Value) (sound : Sound bases
 
 -- ---- a value is lifted, changed and lowered again
 
-module _ (old mid : Bases) (m after : Blocks) (db moment : ℕ) (key : List ℕ) (lifted changed : Lifted) (out : List BlockRef) (lifts : Lifts old mid m db key moment lifted) (sound : SoundBeside mid m (value_refs m lifted.value ++ out)) (p : Changes m after (value_refs m lifted.value) (value_refs after changed.value)) (same_db : changed.db ≡ lifted.db) (same_item : changed.item ≡ lifted.item) where
+module _ (old mid : Bases) (m after : Blocks) (db moment : ℕ) (key : List ℕ) (lifted changed : Lifted) (out : List BlockRef) (lifts : Lifts old mid m db key moment lifted)
+    (sound : SoundBeside mid m (value_refs m lifted.value ++ out)) (p : Changes m after (value_refs m lifted.value) (value_refs after changed.value)) (same_db : changed.db ≡ lifted.db)
+    (same_item : changed.item ≡ lifted.item) where
   -- what `lower` asks
   pub Lower-intact : IsSound mid.limits mid.seed after changed.value → IsIntactWith mid after changed.value
   Lower-intact = held.Lower-intact value_refs value_of value_own old mid m after db moment key lifted changed out vacant lifts sound p same_db same_item
@@ -107,11 +110,15 @@ module _ (old mid : Bases) (m after : Blocks) (db moment : ℕ) (key : List ℕ)
     Lower-has = held.Lower-has value_refs value_of value_own old mid m after db moment key lifted changed out vacant lifts sound p same_db same_item new
 
     -- from the clauses `within` of `lift` and `lower`
-    pub Lower-within : Within (one_key db key) old mid m m → ((k : List ℕ) (deadline : Option ℕ) → IsPlace mid after changed.db changed.item k deadline → Within (one_key changed.db k) mid new after after) → Within (one_key db key) old new m after
+    pub Lower-within : Within (one_key db key) old mid m m →
+        ((k : List ℕ) (deadline : Option ℕ) → IsPlace mid after changed.db changed.item k deadline → Within (one_key changed.db k) mid new after after)
+        → Within (one_key db key) old new m after
     Lower-within = held.Lower-within value_refs value_of value_own old mid m after db moment key lifted changed out vacant lifts sound p same_db same_item new
 
     -- from the clause `means` of `lower`: the value stands at the key, with the deadline that was there
-    pub Lower-means : ((k : List ℕ) (deadline : Option ℕ) → IsPlace mid after changed.db changed.item k deadline → means changed.db new after ≡ put (means changed.db mid after) k (record { value = value_of after changed.value; deadline = deadline }))
+    pub Lower-means :
+        ((k : List ℕ) (deadline : Option ℕ) → IsPlace mid after changed.db changed.item k deadline
+        → means changed.db new after ≡ put (means changed.db mid after) k (record { value = value_of after changed.value; deadline = deadline }))
         → model.live (means db new after) moment ≡ put (model.live (means db old m) moment) key (record { value = value_of after changed.value; deadline = lifts.deadline })
     Lower-means = held.Lower-means value_refs value_of value_own old mid m after db moment key lifted changed out vacant lifts sound p same_db same_item new
 
@@ -132,7 +139,8 @@ module _ (m mid : Blocks) (value : Value) (text : texts.Text) (same : mid ≡ m)
 pub has_sound : (bases : Bases) (m : Blocks) (db : ℕ) (key : List ℕ) (value : Value) → IsArranged bases m → HasValue bases m db key value → IsSound bases.limits bases.seed m value
 has_sound = held.has_sound value_refs value_of value_own
 
-pub lifted_sound : (old mid : Bases) (m : Blocks) (db moment : ℕ) (key : List ℕ) (lifted : Lifted) → IsArranged old m → SameSettings old mid → Lifts old mid m db key moment lifted → IsSound mid.limits mid.seed m lifted.value
+pub lifted_sound : (old mid : Bases) (m : Blocks) (db moment : ℕ) (key : List ℕ) (lifted : Lifted) → IsArranged old m → SameSettings old mid → Lifts old mid m db key moment lifted
+    → IsSound mid.limits mid.seed m lifted.value
 lifted_sound old mid m db moment key lifted = held.lifted_sound value_refs value_of value_own old mid m db moment key lifted vacant
 
 -- ---- encodings
@@ -173,7 +181,8 @@ stream_known m log = (0, lit< tt, refl)
 -- the name of a value's encoding is one of those of its type
 pub encoding_known : (limits : Limits) (seed : ℕ) (m : Blocks) (value : Value) (name : List ℕ) → IsSound limits seed m value → IsEncodedAs m value name → Contains (encodings (value_of m value)) name
 encoding_known limits seed m (Text text) name sound is = subst (Contains (encodings (model.Str (text_bytes m text)))) (sym is.2) (name_known (text_bytes m text) is.0)
-encoding_known limits seed m (kinds.List b) name sound is = subst (Contains (encodings (model.ListOf (elements m b.value)))) (sym is) (form_known b.value.form (map container_of b.value.nodes) (elements m b.value) sound.formed)
+encoding_known limits seed m (kinds.List b) name sound is = subst (Contains (encodings (model.ListOf (elements m b.value)))) (sym is)
+    (form_known b.value.form (map container_of b.value.nodes) (elements m b.value) sound.formed)
 encoding_known limits seed m (Set b) name sound is = subst (Contains (encodings (model.SetOf (set.members m b.value)))) (sym is) (set_known (set.members m b.value) b.value.body)
 encoding_known limits seed m (Hash b) name sound is = subst (Contains (encodings (model.HashOf (hash.fields m b.value)))) (sym is) (hash_known (hash.fields m b.value) b.value.body)
 encoding_known limits seed m (Zset b) name sound is = subst (Contains (encodings (model.SortedOf (zset.scores m b.value)))) (sym is) (zset_known (zset.scores m b.value) b.value.body)

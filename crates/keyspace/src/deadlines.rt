@@ -50,7 +50,9 @@ fn retime<B: BlockStore>(
     requires sees { Sees B.blocks keyspace.old at.now key.now found }
     requires latest { IsDeadline to }
     requires late { in_time at.now.moment to ≡ true }
-    ensures world { OnOk result ((entry : Entry) → look (sight B.blocks keyspace.old at.now) key.now ≡ Some entry → sight B.blocks keyspace.new at.now ≡ put (sight B.blocks keyspace.old at.now) key.now (record { value = entry.value; deadline = to })) }
+    ensures world { OnOk result
+        ((entry : Entry) → look (sight B.blocks keyspace.old at.now) key.now ≡ Some entry
+        → sight B.blocks keyspace.new at.now ≡ put (sight B.blocks keyspace.old at.now) key.now (record { value = entry.value; deadline = to })) }
     ensures held { Held B.blocks B.step (no_key at.now.db) keyspace.old keyspace.new }
     ensures err { OnErr result ((keyspace.new.bases ≡ keyspace.old.bases) × (keyspace.new.store ≡ keyspace.old.store)) }
 {

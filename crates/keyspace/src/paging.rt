@@ -205,7 +205,9 @@ pub fn page_of<P: Paged, B: BlockStore>(
 ) -> Result<Reply, Memory>
     requires sound { P.is_sound (B.blocks keyspace.now.store) target.now }
     requires count { 0 < options.now.count }
-    ensures { IfOk result (λ reply. IsPageOf (P.can_stand target.now) (P.move_at target.now) (P.after target.now) (P.name_at (B.blocks keyspace.now.store) target.now) (P.words_of (B.blocks keyspace.now.store) target.now) cursor options.now reply) }
+    ensures { IfOk result
+        (λ reply. IsPageOf (P.can_stand target.now) (P.move_at target.now) (P.after target.now) (P.name_at (B.blocks keyspace.now.store) target.now)
+        (P.words_of (B.blocks keyspace.now.store) target.now) cursor options.now reply) }
 {
     let alloc = keyspace.alloc();
     let met = page(alloc, target, cursor, options.count)?;

@@ -65,7 +65,8 @@ ends front bytes n e = elim (cases_lt n 128) [
         | inl h ↦ let b = n / 128 ^ 3 ∷ seven_bits (n / 128 ^ 2) ∷ seven_bits (n / 128) ∷ seven_bits n ∷ [] in let t = ends_as front b bytes n e (back_four n l3 h) in
             four l3 h (at_end front b bytes 1 3 t.0 refl) (at_end front b bytes 2 2 t.0 refl) (at_end front b bytes 3 1 t.0 refl) (at_end front b bytes 4 0 t.0 refl) t.1 t.2
         | inr l4 ↦ let b = n / 128 ^ 4 ∷ seven_bits (n / 128 ^ 3) ∷ seven_bits (n / 128 ^ 2) ∷ seven_bits (n / 128) ∷ seven_bits n ∷ [] in let t = ends_as front b bytes n e (back_five n l4) in
-            five l4 (at_end front b bytes 1 4 t.0 refl) (at_end front b bytes 2 3 t.0 refl) (at_end front b bytes 3 2 t.0 refl) (at_end front b bytes 4 1 t.0 refl) (at_end front b bytes 5 0 t.0 refl) t.1 t.2
+            five l4 (at_end front b bytes 1 4 t.0 refl) (at_end front b bytes 2 3 t.0 refl) (at_end front b bytes 3 2 t.0 refl) (at_end front b bytes 4 1 t.0 refl)
+            (at_end front b bytes 5 0 t.0 refl) t.1 t.2
       ]
     ]
   ]

@@ -7,7 +7,8 @@ use Rattle.std.proofs.lemmas.List.{append-nil, length-take, length-drop}
 use Rattle.listpack.specs.declared.fault.PackFault.{PackFault}
 use Rattle.listpack.specs.declared.fault.PackFault.TheVariants as faults
 use Rattle.listpack.specs.Entry.{needed, text_of}
-use Rattle.listpack.specs.Pack.{entries, total, told, region, last_byte, HasSpellings, Packs, Begins, IsSized, IsCutShort, LacksBackLength, IsEntryFault, IsRegionFault, IsFault, spellings_of, IsPack, texts, ExactlyOne}
+use Rattle.listpack.specs.Pack.{entries, total, told, region, last_byte, HasSpellings, Packs, Begins, IsSized, IsCutShort, LacksBackLength, IsEntryFault, IsRegionFault, IsFault}
+use Rattle.listpack.specs.Pack.{spellings_of, IsPack, texts, ExactlyOne}
 use Rattle.listpack.proofs.Spellings.{needed-append}
 use Rattle.listpack.proofs.Regions.{scan, Stop, at_end, at_fault, one_stop, fault_there, cut-entries}
 

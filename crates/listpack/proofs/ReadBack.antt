@@ -11,7 +11,8 @@ use Rattle.std.proofs.lemmas.List.{append-nil, drop_at}
 use Rattle.byteorder.specs.Endian.{little_bytes, little_number, low_bytes, twos_complement}
 use Rattle.byteorder.specs.Numbers.{length-bytes_low_first, little_number-reads_back}
 use Rattle.listpack.specs.Entry.{Signed, encoding_of, IsSpelling, text_of, thirteen_bits}
-use Rattle.listpack.proofs.Encodings.{needed_small_number, needed_short_text, needed_thirteen_bits, needed_medium_text, needed_long_text, needed_signed, text_by_encoding, text_small_number, text_short_text, text_thirteen_bits, text_medium_text, text_long_text}
+use Rattle.listpack.proofs.Encodings.{needed_small_number, needed_short_text, needed_thirteen_bits, needed_medium_text, needed_long_text, needed_signed, text_by_encoding}
+use Rattle.listpack.proofs.Encodings.{text_small_number, text_short_text, text_thirteen_bits, text_medium_text, text_long_text}
 use Rattle.int_text.specs.Decimal.{canonical}
 use Rattle.listpack.specs.Writing.{magnitude, is_small, thirteen_low, number_spelling, text_head, spelling}
 use Rattle.listpack.proofs.Writings.{number_thirteen, number_two, number_three, number_four, number_eight, head_short, head_medium, head_long, number_cases, spelling_as}

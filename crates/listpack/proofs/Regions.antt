@@ -62,7 +62,10 @@ first_scanned w s n front own some h ih t = elim t [
       let e : w ≡ entry_of s ++ x.0 = parted w s (back_length (length s)) x.0 (needed w) front x.1 in
       let longer = length-entry s x.0 own in
       scanned_more s w x.0 own e (ih x.0 (omega (arith, longer, ap length e)))
-  | inr lacks ↦ inr (faults.BackLength, ([], w, (refl, All-nil IsSpelling), (s, drop (needed w) w, sym (take-append-drop (needed w) w) ∙ ap (λ (x : List ℕ). x ++ drop (needed w) w) (sym front), own, lacks)))
+  | inr lacks ↦ inr (
+    faults.BackLength,
+    ([], w, (refl, All-nil IsSpelling), (s, drop (needed w) w, sym (take-append-drop (needed w) w) ∙ ap (λ (x : List ℕ). x ++ drop (needed w) w) (sym front), own, lacks)),
+  )
 ]
 
 -- any bytes are filled by whole entries, or one entry has a fault
@@ -99,7 +102,8 @@ no_fault faults.BackLength s rest more own e f =
     let n = front_needed s rest (back_length (length s) ++ more) own e2 in
     let m = front_needed f.0 rest f.1 f.3 f.2 in
     let same : s ≡ f.0 = sym (take_at s (back_length (length s) ++ more) (needed rest) (sym n)) ∙ ap (take (needed rest)) (sym e2 ∙ f.2) ∙ take_at f.0 f.1 (needed rest) (sym m) in
-    let behind : f.1 ≡ back_length (length s) ++ more = sym (drop_at f.0 f.1 (needed rest) (sym m)) ∙ ap (drop (needed rest)) (sym f.2 ∙ e2) ∙ drop_at s (back_length (length s) ++ more) (needed rest) (sym n) in
+    let behind : f.1 ≡ back_length (length s) ++ more = sym (drop_at f.0 f.1 (needed rest) (sym m)) ∙ ap (drop (needed rest)) (sym f.2 ∙ e2)
+    ∙ drop_at s (back_length (length s) ++ more) (needed rest) (sym n) in
     f.4 more (behind ∙ ap (λ (x : List ℕ). back_length (length x) ++ more) same)
 no_fault faults.Count s rest more own e f = f
 no_fault faults.End s rest more own e f = f

@@ -3,7 +3,8 @@ use Rattle.std.proofs.Common.{◌≡◌, ◌≢◌, ℕ, suc, ◌+◌, ◌-◌, 
 use Rattle.std.specs.List.{All, insert, remove, remove_range}
 use Rattle.std.proofs.lemmas.Bool.{cases_eq}
 use Rattle.std.proofs.lemmas.Bool.Decides.{nat_tests}
-use Rattle.std.proofs.lemmas.List.{append_assoc, append-nil, take_at, drop_at, take-append-drop, length-append, length-take-le, length-drop, map-append, take-map, drop-map, map-set, get_or_at, set_split, length-set}
+use Rattle.std.proofs.lemmas.List.{append_assoc, append-nil, take_at, drop_at, take-append-drop, length-append, length-take-le, length-drop, map-append, take-map, drop-map, map-set}
+use Rattle.std.proofs.lemmas.List.{get_or_at, set_split, length-set}
 use Rattle.std.proofs.lemmas.List.Concat.{flat_map-append}
 use Rattle.std.proofs.lemmas.List.Edits.{insert_end, length-insert}
 use Rattle.std.proofs.lemmas.List.Elements.{All-nil, All-cons, All-append, All-take, All-drop}
@@ -245,9 +246,17 @@ pub length-put : (old inner text : List ℕ) (at : ℕ) → inner ≡ take at ol
 length-put old inner text at e h = omega (arith, length_put_is old inner text at e, h)
 
 -- and out of which another was taken
-pub length-exchanged : (old inner text : List ℕ) (at size : ℕ) → inner ≡ take at old ++ (entry text ++ drop (at + size) old) → length old + length (entry text) < 2 ^ 32 → at + size ≤ length old → length inner < 2 ^ 32
+pub length-exchanged : (old inner text : List ℕ) (at size : ℕ) → inner ≡ take at old ++ (entry text ++ drop (at + size) old) → length old + length (entry text) < 2 ^ 32
+    → at + size ≤ length old → length inner < 2 ^ 32
 length-exchanged old inner text at size e h inside =
-    omega (arith, ap length e, length-append (take at old) (entry text ++ drop (at + size) old), length-append (entry text) (drop (at + size) old), length-take-le at old (omega arith), length-drop (at + size) old)
+    omega (
+      arith,
+      ap length e,
+      length-append (take at old) (entry text ++ drop (at + size) old),
+      length-append (entry text) (drop (at + size) old),
+      length-take-le at old (omega arith),
+      length-drop (at + size) old,
+    )
 
 -- bytes fewer than 2^32 stay so without a part of them
 pub length-cut : (old inner : List ℕ) (at size : ℕ) → inner ≡ take at old ++ drop (at + size) old → at + size ≤ length old → length old < 2 ^ 32 → length inner < 2 ^ 32

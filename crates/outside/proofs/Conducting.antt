@@ -30,7 +30,8 @@ module _ {P : Type 0} where
   same_place (x ∷ xs) (suc i) p q l at too = same_place xs i p q (omega arith) at too
 
   -- the one at a place isn't spent, and is asked
-  pub asks_next : (xs : List P) (seen : P → PacerSeen) (i : ℕ) (o p q : P) (plan : Plan) → i < length xs → o ≡ get_or xs i o → p ≡ get_or xs i p → SaysSpent (seen o).plans false → Paces (seen p) plan (seen q)
+  pub asks_next : (xs : List P) (seen : P → PacerSeen) (i : ℕ) (o p q : P) (plan : Plan) → i < length xs → o ≡ get_or xs i o → p ≡ get_or xs i p → SaysSpent (seen o).plans false
+      → Paces (seen p) plan (seen q)
       → Conducts (map seen (drop i xs)) (cut plan) (map seen (drop i (set xs i q)))
   asks_next xs seen i o p q plan l first at unspent paces =
       let alive : SaysSpent (seen p).plans false = subst (λ y. SaysSpent (seen y).plans false) (same_place xs i o p l first at) unspent in

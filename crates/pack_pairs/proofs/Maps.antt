@@ -1,5 +1,6 @@
 -- The map of a list of pairs, and the first texts that stand in it.
-use Rattle.std.proofs.Common.{◌≡◌, ◌≢◌, ℕ, zero, suc, ◌+◌, ◌-◌, ◌<◌, ◌≤◌, Bool, true, false, cond, List, [], ◌∷◌, ◌++◌, length, take, get_or, Option, Some, None, is_some, max, refl, sym, ap, ◌∙◌, subst, arith, inl, inr}
+use Rattle.std.proofs.Common.{◌≡◌, ◌≢◌, ℕ, zero, suc, ◌+◌, ◌-◌, ◌<◌, ◌≤◌, Bool, true, false, cond, List, [], ◌∷◌, ◌++◌, length, take, get_or, Option, Some, None, is_some, max, refl, sym}
+use Rattle.std.proofs.Common.{ap, ◌∙◌, subst, arith, inl, inr}
 use Rattle.std.specs.List.{insert as inserted, remove as removed}
 use Rattle.std.proofs.lemmas.Bool.{cond-true, cond-false, cases_Bool}
 use Rattle.std.proofs.lemmas.List.{take_more}
@@ -8,7 +9,8 @@ use Rattle.std.specs.declared.cmp.Ordering.TheVariants.{Less, Equal, Greater}
 use Rattle.std.specs.Ordering.{nat_cmp, eq_by_cmp, is_eq}
 use Rattle.std.specs.Cmp.{eq_by_cmp_equiv}
 use Rattle.std.specs.Cmp.Lexicographic.{slice_cmp, nat_list_cmp_total}
-use Rattle.std.specs.FinMap.{FinMap, empty, from_entries, find, get, insert, remove, get-empty, get-from_entries, get-insert, get-remove, len, len-insert, len-remove, len-empty, same_map, slice_cmp-IsAntisymmetric, nat_cmp-IsAntisymmetric}
+use Rattle.std.specs.FinMap.{FinMap, empty, from_entries, find, get, insert, remove, get-empty, get-from_entries, get-insert, get-remove, len, len-insert, len-remove, len-empty, same_map}
+use Rattle.std.specs.FinMap.{slice_cmp-IsAntisymmetric, nat_cmp-IsAntisymmetric}
 use Rattle.pack_pairs.specs.Pairs.{Pair, IsFirst, IsOnce, second_of, seconded, map_of_pairs, longest}
 use Rattle.pack_pairs.proofs.Lists.{no_pair}
 
@@ -91,7 +93,9 @@ find_last q k v (p ∷ rest) h =
     ]
 
 pub map_last : (list : List Pair) (k v : List ℕ) → second_of k list ≡ None → map_of_pairs (list ++ (k, v) ∷ []) ≡ insert (map_of_pairs list) k v
-map_last list k v h = maps_alike _ _ (λ q. get_pairs (list ++ (k, v) ∷ []) q ∙ find_last q k v list h ∙ ap (cond (tied q k) (Some v)) (sym (get_pairs list q)) ∙ sym (get-insert nat_list_cmp_total (map_of_pairs list) k v q))
+map_last list k v h = maps_alike _ _
+    (λ q. get_pairs (list ++ (k, v) ∷ []) q ∙ find_last q k v list h ∙ ap (cond (tied q k) (Some v)) (sym (get_pairs list q))
+    ∙ sym (get-insert nat_list_cmp_total (map_of_pairs list) k v q))
 
 pub once_last : (list : List Pair) (k v : List ℕ) → IsOnce list → second_of k list ≡ None → IsOnce (list ++ (k, v) ∷ [])
 once_last [] k v once h = (refl, tt)
@@ -113,7 +117,9 @@ find_seconded q k v (p ∷ rest) (suc i) h = ap (cond (tied q p.0) (Some p.1)) (
 ]
 
 pub map_seconded : (list : List Pair) (i : ℕ) (k v : List ℕ) → IsFirst k list i → map_of_pairs (seconded list i v) ≡ insert (map_of_pairs list) k v
-map_seconded list i k v h = maps_alike _ _ (λ q. get_pairs (seconded list i v) q ∙ find_seconded q k v list i h ∙ ap (cond (tied q k) (Some v)) (sym (get_pairs list q)) ∙ sym (get-insert nat_list_cmp_total (map_of_pairs list) k v q))
+map_seconded list i k v h = maps_alike _ _
+    (λ q. get_pairs (seconded list i v) q ∙ find_seconded q k v list i h ∙ ap (cond (tied q k) (Some v)) (sym (get_pairs list q))
+    ∙ sym (get-insert nat_list_cmp_total (map_of_pairs list) k v q))
 
 none_seconded : (q v : List ℕ) (list : List Pair) (i : ℕ) → second_of q list ≡ None → second_of q (seconded list i v) ≡ None
 none_seconded q v [] i h = h
@@ -151,7 +157,8 @@ find_removed q k (p ∷ rest) (suc i) once h = ap (cond (tied q p.0) (Some p.1))
 ]
 
 pub map_removed : (list : List Pair) (i : ℕ) (k : List ℕ) → IsOnce list → IsFirst k list i → map_of_pairs (removed list i) ≡ remove (map_of_pairs list) k
-map_removed list i k once h = maps_alike _ _ (λ q. get_pairs (removed list i) q ∙ find_removed q k list i once h ∙ ap (cond (tied q k) None) (sym (get_pairs list q)) ∙ sym (get-remove nat_list_cmp_total (map_of_pairs list) k q))
+map_removed list i k once h = maps_alike _ _
+    (λ q. get_pairs (removed list i) q ∙ find_removed q k list i once h ∙ ap (cond (tied q k) None) (sym (get_pairs list q)) ∙ sym (get-remove nat_list_cmp_total (map_of_pairs list) k q))
 
 -- ---- how many first texts there are
 
@@ -169,7 +176,9 @@ once_before (p ∷ rest) (suc i) once h =
     let x = (get_or rest i no_pair).0 in
     let here : i < length rest = omega (arith, h) in
     elim (cases_Bool (tied x p.0)) [
-      | inl t ↦ absurd (some_none (second_of p.0 rest) (get_or rest i no_pair).1 (ap (λ k. second_of k rest) (sym (tied-true x p.0 t)) ∙ first_second x rest i (first_here x rest i here (once_before rest i once.1 here) refl)) once.0)
+      | inl t ↦ absurd
+          (some_none (second_of p.0 rest) (get_or rest i no_pair).1
+          (ap (λ k. second_of k rest) (sym (tied-true x p.0 t)) ∙ first_second x rest i (first_here x rest i here (once_before rest i once.1 here) refl)) once.0)
       | inr f ↦ cond-false _ _ _ f ∙ once_before rest i once.1 here
     ]
 

@@ -1,5 +1,6 @@
 -- Listpacks of pairs: what stands where, how long they are, and what an edit makes of them.
-use Rattle.std.proofs.Common.{◌≡◌, ℕ, suc, ◌+◌, ◌*◌, ◌/◌, ◌%◌, ◌<◌, ◌≤◌, ◌^◌, Bool, true, false, cond, List, [], ◌∷◌, ◌++◌, length, map, take, drop, set, get_or, Option, Some, None, flat_map, max, refl, sym, ap, ◌∙◌, subst, arith, inl, inr, length-append}
+use Rattle.std.proofs.Common.{◌≡◌, ℕ, suc, ◌+◌, ◌*◌, ◌/◌, ◌%◌, ◌<◌, ◌≤◌, ◌^◌, Bool, true, false, cond, List, [], ◌∷◌, ◌++◌, length, map, take, drop, set, get_or, Option, Some, None}
+use Rattle.std.proofs.Common.{flat_map, max, refl, sym, ap, ◌∙◌, subst, arith, inl, inr, length-append}
 use Rattle.std.specs.Prelude.{ℤ, nat_lt, MatchOption}
 use Rattle.std.specs.List.{insert as inserted, remove as removed, remove_range as range_removed}
 use Rattle.std.proofs.lemmas.Bool.Decides.{nat_tests}
@@ -69,10 +70,20 @@ pack_is_long bytes p = omega (arith, written_len bytes p.pack p.written, each_so
 pairs_len : (list : List Pair) → longest list ≤ 4096 → length (flat_map entry (flat list)) ≤ length list * 8220
 pairs_len [] short = omega arith
 pairs_len (p ∷ rest) short =
-    omega (arith, length-append (entry p.0) (flat_map entry (p.1 ∷ flat rest)), length-append (entry p.1) (flat_map entry (flat rest)), (entry_len p.0).1, (entry_len p.1).1, pairs_len rest (omega (arith, short)), short)
+    omega (
+      arith,
+      length-append (entry p.0) (flat_map entry (p.1 ∷ flat rest)),
+      length-append (entry p.1) (flat_map entry (flat rest)),
+      (entry_len p.0).1,
+      (entry_len p.1).1,
+      pairs_len rest
+          (omega (arith, short)),
+      short,
+    )
 
 -- a pair of short texts has room beside few pairs of short texts
-pub pair_fits : (bytes first second : List ℕ) → IsPairPack bytes → longest (pairs bytes) ≤ 4096 → length (pairs bytes) ≤ 65536 → length first ≤ 4096 → length second ≤ 4096 → FitsPair bytes first second
+pub pair_fits : (bytes first second : List ℕ) → IsPairPack bytes → longest (pairs bytes) ≤ 4096 → length (pairs bytes) ≤ 65536 → length first ≤ 4096 → length second ≤ 4096
+    → FitsPair bytes first second
 pair_fits bytes first second p short few one two =
     omega (arith, written_len bytes p.pack p.written, ap (λ xs. length (flat_map entry xs)) p.whole, pairs_len (pairs bytes) short, (entry_len first).1, (entry_len second).1, few, one, two)
 
@@ -84,7 +95,8 @@ pack_of list bytes p written is =
     let same : pairs bytes ≡ list = ap paired is ∙ paired_flat list in
     (record { pack = p; written = written; whole = is ∙ ap flat (sym same) }, same)
 
-module _ (old new : List ℕ) (written : spellings_of old ≡ map spelling (texts old)) (i : ℕ) (text : List ℕ) (count : ℕ) (e : IsEdited new (inserted (spellings_of old) i (spelling text)) count) (is : texts new ≡ inserted (texts old) i text) where
+module _ (old new : List ℕ) (written : spellings_of old ≡ map spelling (texts old)) (i : ℕ) (text : List ℕ) (count : ℕ)
+    (e : IsEdited new (inserted (spellings_of old) i (spelling text)) count) (is : texts new ≡ inserted (texts old) i text) where
   pub put_written : spellings_of new ≡ map spelling (texts new)
   put_written = e.entries ∙ ap (λ ss. inserted ss i (spelling text)) written ∙ insert-map (texts old) i text ∙ ap (map spelling) (sym is)
 
@@ -103,7 +115,8 @@ pair_put old mid new i first second a b p h e one f two =
     (put_written mid new (put_written old mid p.written (2 * i) second a e one) (2 * i) first b f two)
     (two ∙ ap (λ xs. inserted xs (2 * i) first) one ∙ ap (λ xs. inserted (inserted xs (2 * i) second) (2 * i) first) p.whole ∙ flat_inserted (pairs old) i (first, second) h)
 
-pub pair_set : (old new : List ℕ) (i : ℕ) (second : List ℕ) (a : ℕ) → IsPairPack old → IsEdited new (set (spellings_of old) (2 * i + 1) (spelling second)) a → texts new ≡ set (texts old) (2 * i + 1) second
+pub pair_set : (old new : List ℕ) (i : ℕ) (second : List ℕ) (a : ℕ) → IsPairPack old → IsEdited new (set (spellings_of old) (2 * i + 1) (spelling second)) a
+    → texts new ≡ set (texts old) (2 * i + 1) second
     → IsPairPack new × (pairs new ≡ seconded (pairs old) i second)
 pair_set old new i second a p e is =
     pack_of (seconded (pairs old) i second) new e.pack

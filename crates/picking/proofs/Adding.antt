@@ -36,7 +36,8 @@ at_same item q h = nat_cmp-IsAntisymmetric item q (equal (nat_cmp item q) h)
 at_self : (item : ℕ) → is_at (nat_cmp item) item ≡ true
 at_self item = search rules
 
-module _ (sound : Blocks → Type 0) (has : Blocks → ℕ → Type 0) (n : ℕ) (old : List ℕ) (before : BTreeSet ℕ) (item : ℕ) (new : List ℕ) (after : BTreeSet ℕ) (p : Adds old before item new after) (s : AreSoFar sound has n old before) where
+module _ (sound : Blocks → Type 0) (has : Blocks → ℕ → Type 0) (n : ℕ) (old : List ℕ) (before : BTreeSet ℕ) (item : ℕ) (new : List ℕ) (after : BTreeSet ℕ)
+    (p : Adds old before item new after) (s : AreSoFar sound has n old before) where
   -- what is in the tree afterwards
   in_tree : (q : ℕ) → contains nat_cmp after q ≡ true → (item ≡ q) ⊎ (contains nat_cmp before q ≡ true)
   in_tree q h = elim (cases_Bool (is_at (nat_cmp item) q)) [
@@ -112,7 +113,8 @@ module _ (sound : Blocks → Type 0) (has : Blocks → ℕ → Type 0) (n : ℕ)
   }
 
 -- what was passed so far stands in the list, and so does the item number behind it
-pub passed_more : (sound : Blocks → Type 0) (has : Blocks → ℕ → Type 0) (item : ℕ) (old new : List ℕ) → ((m : Blocks) → sound m → (at : ℕ) → at < item → has m at → Contains old at) → ((q : ℕ) → Contains old q → Contains new q)
+pub passed_more : (sound : Blocks → Type 0) (has : Blocks → ℕ → Type 0) (item : ℕ) (old new : List ℕ) → ((m : Blocks) → sound m → (at : ℕ) → at < item → has m at → Contains old at)
+    → ((q : ℕ) → Contains old q → Contains new q)
     → ((m : Blocks) → sound m → has m item → Contains new item) → (m : Blocks) → sound m → (at : ℕ) → at < item + 1 → has m at → Contains new at
 passed_more sound has item old new passed stays here m s at below h = elim (cases_eq at item) [
   | inl same ↦ subst (λ (k : ℕ). Contains new k) (sym same) (here m s (subst (λ (k : ℕ). has m k) same h))

@@ -52,7 +52,8 @@ module _ {V : Type 0} where
   -- a map without a key
   pub no_key : (keys : FinMap (slice_cmp nat_cmp) V) → ((x : List ℕ) → has keys x ≡ true → ⊥) → len keys ≡ 0
   no_key keys lacks =
-      let same : keys ≡ empty = same_map nat_list_cmp_total (slice_cmp-IsAntisymmetric nat_cmp-IsAntisymmetric) keys empty (λ q. nothing (get keys q) (lacks q) ∙ sym (get-empty (slice_cmp nat_cmp) q)) in
+      let same : keys ≡ empty = same_map nat_list_cmp_total (slice_cmp-IsAntisymmetric nat_cmp-IsAntisymmetric) keys empty
+      (λ q. nothing (get keys q) (lacks q) ∙ sym (get-empty (slice_cmp nat_cmp) q)) in
       ap len same ∙ len-empty (slice_cmp nat_cmp) V
 
   some_len : (keys : FinMap (slice_cmp nat_cmp) V) (x : List ℕ) → has keys x ≡ true → (len keys ≡ 0 → ⊥) → 1 ≤ len keys

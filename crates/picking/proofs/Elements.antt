@@ -35,7 +35,8 @@ module _ {V : Type 0} (keys : FinMap (slice_cmp nat_cmp) V) (element_at : ℕ �
   forth : (items : List ℕ) (at : ℕ) (x : List ℕ) → Contains items at → element_at at ≡ Some x → Contains (elements_of element_at items) x
   forth [] at x c is = absurd (nothing_in at c)
   forth (first ∷ items) at x c is = elim (contains_cases first at items c) [
-    | inl same ↦ subst (λ (k : List ℕ). Contains (elements_of element_at (first ∷ items)) k) (ap (λ i. or_empty (element_at i)) same ∙ ap or_empty is) (contains_first (or_empty (element_at first)) (elements_of element_at items))
+    | inl same ↦ subst (λ (k : List ℕ). Contains (elements_of element_at (first ∷ items)) k) (ap (λ i. or_empty (element_at i)) same ∙ ap or_empty is)
+        (contains_first (or_empty (element_at first)) (elements_of element_at items))
     | inr more ↦ contains_later (or_empty (element_at first)) x (elements_of element_at items) (forth items at x more is)
   ]
 
@@ -62,7 +63,8 @@ module _ {V : Type 0} (keys : FinMap (slice_cmp nat_cmp) V) (element_at : ℕ �
         elim (cases_eq (length items) n) [
           | inl full ↦ omega (arith, as_many, least, full)
           | inr short ↦
-              (let most = keys_at_most keys (elements_of element_at items) (λ x h. (let at = arranged.found x h in forth items at.0 x (whole (omega (arith, few, short)) at.0 (subst (λ (o : Option (List ℕ)). IsSome o) (sym at.1) refl)) at.1)) in
+              (let most = keys_at_most keys (elements_of element_at items)
+              (λ x h. (let at = arranged.found x h in forth items at.0 x (whole (omega (arith, few, short)) at.0 (subst (λ (o : Option (List ℕ)). IsSome o) (sym at.1) refl)) at.1)) in
               omega (arith, as_many, least, most, few))
         ]
 
@@ -81,10 +83,14 @@ module _ {V : Type 0} (keys : FinMap (slice_cmp nat_cmp) V) (element_at : ℕ �
         empty_one (x ∷ list) lacks = absurd (lacks x (contains_first x list))
 
         keys_at_none : (x : List ℕ) → is_some (get keys x) ≡ true → len keys ≡ 0 → ⊥
-        keys_at_none x h none = let one = keys_at_least keys (x ∷ []) ((λ c. nothing_in x c), tt) (λ y c. elim (contains_cases x y [] c) [ inl same ↦ subst (λ (k : List ℕ). is_some (get keys k) ≡ true) same h | inr more ↦ absurd (nothing_in y more) ]) in omega (arith, one, none)
+        keys_at_none x h none = let one = keys_at_least keys (x ∷ []) ((λ c. nothing_in x c), tt)
+            (λ y c. elim (contains_cases x y [] c) [ inl same ↦ subst (λ (k : List ℕ). is_some (get keys k) ≡ true) same h | inr more ↦ absurd (nothing_in y more) ]) in
+            omega (arith, one, none)
 
-  module _ (sound : Blocks → Type 0) (has : Blocks → ℕ → Type 0) (m : Blocks) (holds : sound m) (to : (at : ℕ) → has m at → IsSome (element_at at)) (from : (at : ℕ) → IsSome (element_at at) → has m at) where
-    model_picks : (n : Option ℤ) (most : ℕ) (items : List ℕ) → model.picked n (len keys) ≡ min most (len keys) → ArePicks sound has most items → model.ArePicked (λ x. is_some (get keys x)) (len keys) n (elements_of element_at items)
+  module _ (sound : Blocks → Type 0) (has : Blocks → ℕ → Type 0) (m : Blocks) (holds : sound m) (to : (at : ℕ) → has m at → IsSome (element_at at))
+      (from : (at : ℕ) → IsSome (element_at at) → has m at) where
+    model_picks : (n : Option ℤ) (most : ℕ) (items : List ℕ) → model.picked n (len keys) ≡ min most (len keys) → ArePicks sound has most items
+        → model.ArePicked (λ x. is_some (get keys x)) (len keys) n (elements_of element_at items)
     model_picks n most items many p =
         let real : (at : ℕ) → Contains items at → IsSome (element_at at) = λ at c. to at (p.real at c m holds) in
         record {

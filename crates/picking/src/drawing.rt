@@ -79,7 +79,9 @@ pub(crate) fn pick_one<P: Items>(
     dice: &mut Pcg32,
     found: &mut Vec<usize>,
 ) -> Result<Option<usize>, Memory>
-    ensures { IfOk result (λ picked. MatchOption picked (NoneIsThere (λ m. P.is_sound m items.now) (λ m item. P.has_item m items.now item)) (IsThere (λ m. P.is_sound m items.now) (λ m item. P.has_item m items.now item))) }
+    ensures { IfOk result
+        (λ picked. MatchOption picked (NoneIsThere (λ m. P.is_sound m items.now) (λ m item. P.has_item m items.now item))
+        (IsThere (λ m. P.is_sound m items.now) (λ m item. P.has_item m items.now item))) }
 {
     for _ in 0..TRIES {
         match draw(items, dice, found)? {

@@ -45,18 +45,21 @@ pages_same next other xs ys fits fits' e =
     let bulks : map Bulk xs ≡ map Bulk ys = cc in
     (decimal_injective next other fits fits' text, bulks_same xs ys bulks)
 
-pair_pages_same : (next other : ℕ) (f g : List ℕ → Part) (xs ys : List (List ℕ)) → next < 2 ^ 64 → other < 2 ^ 64 → paged_as next (listed_with f xs) ≡ paged_as other (listed_with g ys) → (next ≡ other) × (xs ≡ ys)
+pair_pages_same : (next other : ℕ) (f g : List ℕ → Part) (xs ys : List (List ℕ)) → next < 2 ^ 64 → other < 2 ^ 64 → paged_as next (listed_with f xs) ≡ paged_as other (listed_with g ys)
+    → (next ≡ other) × (xs ≡ ys)
 pair_pages_same next other f g xs ys fits fits' e =
     let text : decimal next ≡ decimal other = cc in
     let pairs : followed f xs ≡ followed g ys = cc in
     (decimal_injective next other fits fits' text, pairs_same f g xs ys pairs)
 
-tells_same : (pairs : Bool) (next other : ℕ) (xs ys : List (List ℕ)) (reply : List Part) → next < 2 ^ 64 → other < 2 ^ 64 → TellsPage pairs next xs reply → TellsPage pairs other ys reply → (next ≡ other) × (xs ≡ ys)
+tells_same : (pairs : Bool) (next other : ℕ) (xs ys : List (List ℕ)) (reply : List Part) → next < 2 ^ 64 → other < 2 ^ 64 → TellsPage pairs next xs reply → TellsPage pairs other ys reply
+    → (next ≡ other) × (xs ≡ ys)
 tells_same false next other xs ys reply fits fits' a b = pages_same next other xs ys fits fits' (sym a ∙ b)
 tells_same true next other xs ys reply fits fits' a b = pair_pages_same next other a.0 b.0 xs ys fits fits' (sym a.1 ∙ b.1)
 
 -- a reply that tells a page is that page
-page_told : (seed : ℕ) (world : World) (sought : Sought) (cursor next other : ℕ) (xs ys : List (List ℕ)) (pairs : Bool) (reply : List Part) → next < 2 ^ 64 → Page seed world sought cursor other ys → TellsPage pairs other ys reply → TellsPage pairs next xs reply
+page_told : (seed : ℕ) (world : World) (sought : Sought) (cursor next other : ℕ) (xs ys : List (List ℕ)) (pairs : Bool) (reply : List Part) → next < 2 ^ 64
+    → Page seed world sought cursor other ys → TellsPage pairs other ys reply → TellsPage pairs next xs reply
     → Page seed world sought cursor next xs
 page_told seed world sought cursor next other xs ys pairs reply fits page e f =
     let same = tells_same pairs other next ys xs reply page.fits fits e f in
@@ -73,9 +76,11 @@ call_of : {c d : ScanCall} → Some c ≡ Some d → c ≡ d
 call_of e = cc
 
 -- what is asked and told of a page
-module _ (seed : ℕ) (world : World) (asked : Option ScanCall) (reply : List Part) (sought : Sought) (cursor next : ℕ) (xs : List (List ℕ)) (pairs : Bool) (same : asked ≡ Some (record { cursor = cursor; sought = sought; pairs = pairs })) (fits : next < 2 ^ 64) (told : TellsPage pairs next xs reply) where
+module _ (seed : ℕ) (world : World) (asked : Option ScanCall) (reply : List Part) (sought : Sought) (cursor next : ℕ) (xs : List (List ℕ)) (pairs : Bool)
+    (same : asked ≡ Some (record { cursor = cursor; sought = sought; pairs = pairs })) (fits : next < 2 ^ 64) (told : TellsPage pairs next xs reply) where
   -- a call that is answered by a page
-  call_page : (call : ScanCall) → asked ≡ Some call → (other : ℕ) (ys : List (List ℕ)) → Page seed world call.sought call.cursor other ys → TellsPage call.pairs other ys reply → Page seed world sought cursor next xs
+  call_page : (call : ScanCall) → asked ≡ Some call → (other : ℕ) (ys : List (List ℕ)) → Page seed world call.sought call.cursor other ys → TellsPage call.pairs other ys reply
+      → Page seed world sought cursor next xs
   call_page call is other ys page e =
       let one = call_of (sym is ∙ same) in
       let P : ScanCall → Type 0 = λ c. TellsPage c.pairs next xs reply → Page seed world c.sought c.cursor next xs in
@@ -84,22 +89,26 @@ module _ (seed : ℕ) (world : World) (asked : Option ScanCall) (reply : List Pa
   no_page : {A : Type 0} (refusal : Refusal) → reply ≡ Refused refusal ∷ [] → A
   no_page refusal e = absurd (no_refusal pairs next xs reply refusal e told)
 
-  told_of_page : {A : Type 0} (own : Option A) (tells : Option A → List Part → Type 0) (new : World) → may_tell_of world own tells reply new → ((before : Option A) → tells before reply → Page seed world sought cursor next xs) → Page seed world sought cursor next xs
+  told_of_page : {A : Type 0} (own : Option A) (tells : Option A → List Part → Type 0) (new : World) → may_tell_of world own tells reply new
+      → ((before : Option A) → tells before reply → Page seed world sought cursor next xs) → Page seed world sought cursor next xs
   told_of_page None tells new may page = no_page WrongType may.0
   told_of_page (Some own) tells new may page = page (Some own) may.0
 
-  held_page : {A : Type 0} (in_value : Value → Option A) (entry : Option Entry) (tells : Option A → List Part → Type 0) (new : World) → may_tell in_value world entry tells reply new → ((before : Option A) → tells before reply → Page seed world sought cursor next xs) → Page seed world sought cursor next xs
+  held_page : {A : Type 0} (in_value : Value → Option A) (entry : Option Entry) (tells : Option A → List Part → Type 0) (new : World) → may_tell in_value world entry tells reply new
+      → ((before : Option A) → tells before reply → Page seed world sought cursor next xs) → Page seed world sought cursor next xs
   held_page in_value None tells new may page = page None may.0
   held_page in_value (Some entry) tells new may page = told_of_page (in_value entry.value) tells new may page
 
-key_page : (seed : ℕ) (world : World) (moment : ℕ) (c : KeyCommand) (reply : List Part) (new : World) (sought : Sought) (cursor next : ℕ) (xs : List (List ℕ)) (pairs : Bool) → may seed world moment (Keys c) reply new
+key_page : (seed : ℕ) (world : World) (moment : ℕ) (c : KeyCommand) (reply : List Part) (new : World) (sought : Sought) (cursor next : ℕ) (xs : List (List ℕ)) (pairs : Bool)
+    → may seed world moment (Keys c) reply new
     → key_scan world.selected c ≡ Some (record { cursor = cursor; sought = sought; pairs = pairs }) → next < 2 ^ 64 → TellsPage pairs next xs reply → Page seed world sought cursor next xs
 key_page seed world moment (keys.Scan from options) reply new sought cursor next xs pairs may asked fits told =
     call_page seed world (key_scan world.selected (keys.Scan from options)) reply sought cursor next xs pairs asked fits told
     (record { cursor = from; sought = keys_sought world.selected options; pairs = false }) refl may.0.0 may.0.1 may.0.2 may.0.3
 key_page seed world moment c reply new sought cursor next xs pairs may asked fits told = absurd (cc asked)
 
-set_page : (seed : ℕ) (world : World) (moment : ℕ) (c : SetCommand) (reply : List Part) (new : World) (sought : Sought) (cursor next : ℕ) (xs : List (List ℕ)) (pairs : Bool) → may seed world moment (Sets c) reply new
+set_page : (seed : ℕ) (world : World) (moment : ℕ) (c : SetCommand) (reply : List Part) (new : World) (sought : Sought) (cursor next : ℕ) (xs : List (List ℕ)) (pairs : Bool)
+    → may seed world moment (Sets c) reply new
     → set_scan world.selected c ≡ Some (record { cursor = cursor; sought = sought; pairs = pairs }) → next < 2 ^ 64 → TellsPage pairs next xs reply → Page seed world sought cursor next xs
 set_page seed world moment (sets.SScan key from options) reply new sought cursor next xs pairs may asked fits told =
     held_page seed world (set_scan world.selected (sets.SScan key from options)) reply sought cursor next xs pairs asked fits told set_in (look world key) _ new may
@@ -107,7 +116,8 @@ set_page seed world moment (sets.SScan key from options) reply new sought cursor
     (record { cursor = from; sought = held_sought world.selected key options; pairs = false }) refl is.0 is.1 is.2 is.3)
 set_page seed world moment c reply new sought cursor next xs pairs may asked fits told = absurd (cc asked)
 
-hash_page : (seed : ℕ) (world : World) (moment : ℕ) (c : HashCommand) (reply : List Part) (new : World) (sought : Sought) (cursor next : ℕ) (xs : List (List ℕ)) (pairs : Bool) → may seed world moment (Hashes c) reply new
+hash_page : (seed : ℕ) (world : World) (moment : ℕ) (c : HashCommand) (reply : List Part) (new : World) (sought : Sought) (cursor next : ℕ) (xs : List (List ℕ)) (pairs : Bool)
+    → may seed world moment (Hashes c) reply new
     → hash_scan world.selected c ≡ Some (record { cursor = cursor; sought = sought; pairs = pairs }) → next < 2 ^ 64 → TellsPage pairs next xs reply → Page seed world sought cursor next xs
 hash_page seed world moment (hashes.HScan key from options) reply new sought cursor next xs pairs may asked fits told =
     held_page seed world (hash_scan world.selected (hashes.HScan key from options)) reply sought cursor next xs pairs asked fits told hash_in (look world key) _ new may
@@ -115,7 +125,8 @@ hash_page seed world moment (hashes.HScan key from options) reply new sought cur
     (record { cursor = from; sought = held_sought world.selected key options; pairs = true }) refl is.0 is.1 is.2 (_, is.3))
 hash_page seed world moment c reply new sought cursor next xs pairs may asked fits told = absurd (cc asked)
 
-zset_page : (seed : ℕ) (world : World) (moment : ℕ) (c : ZsetCommand) (reply : List Part) (new : World) (sought : Sought) (cursor next : ℕ) (xs : List (List ℕ)) (pairs : Bool) → may seed world moment (Zsets c) reply new
+zset_page : (seed : ℕ) (world : World) (moment : ℕ) (c : ZsetCommand) (reply : List Part) (new : World) (sought : Sought) (cursor next : ℕ) (xs : List (List ℕ)) (pairs : Bool)
+    → may seed world moment (Zsets c) reply new
     → zset_scan world.selected c ≡ Some (record { cursor = cursor; sought = sought; pairs = pairs }) → next < 2 ^ 64 → TellsPage pairs next xs reply → Page seed world sought cursor next xs
 zset_page seed world moment (zsets.ZScan key from options) reply new sought cursor next xs pairs may asked fits told =
     held_page seed world (zset_scan world.selected (zsets.ZScan key from options)) reply sought cursor next xs pairs asked fits told zset_in (look world key) _ new may
@@ -127,7 +138,8 @@ abbrev leads : ℕ → World → ℕ → List Part → World → Result Command 
 leads seed old moment reply new m =
     MatchResult m (λ command. may seed (live old moment) moment command reply new) (λ refusal. (reply ≡ Refused refusal ∷ []) × (new ≡ live old moment))
 
-meant_page : (seed : ℕ) (old : World) (moment : ℕ) (m : Result Command Refusal) (reply : List Part) (new : World) (sought : Sought) (cursor next : ℕ) (xs : List (List ℕ)) (pairs : Bool) → leads seed old moment reply new m
+meant_page : (seed : ℕ) (old : World) (moment : ℕ) (m : Result Command Refusal) (reply : List Part) (new : World) (sought : Sought) (cursor next : ℕ) (xs : List (List ℕ)) (pairs : Bool)
+    → leads seed old moment reply new m
     → scan_asked old.selected m ≡ Some (record { cursor = cursor; sought = sought; pairs = pairs }) → next < 2 ^ 64 → TellsPage pairs next xs reply → Page seed (live old moment) sought cursor next xs
 meant_page seed old moment (Ok (Strings c)) reply new sought cursor next xs pairs l asked fits told = absurd (cc asked)
 meant_page seed old moment (Ok (Lists c)) reply new sought cursor next xs pairs l asked fits told = absurd (cc asked)
@@ -144,7 +156,8 @@ meant_page seed old moment (Err refusal) reply new sought cursor next xs pairs l
 abbrev IsPaged : ℕ → Sought → Turn → Type 0
 IsPaged seed sought turn = (cursor next : ℕ) (page : List (List ℕ)) → Reports sought cursor turn next page → Page seed turn.seen sought cursor next page
 
-turn_paged : (seed : ℕ) (sought : Sought) (old : World) (turn : Turn) (new : World) → turn.seen ≡ live old turn.call.moment → step seed old turn.call.moment turn.call.words turn.reply new → IsPaged seed sought turn
+turn_paged : (seed : ℕ) (sought : Sought) (old : World) (turn : Turn) (new : World) → turn.seen ≡ live old turn.call.moment → step seed old turn.call.moment turn.call.words turn.reply new
+    → IsPaged seed sought turn
 turn_paged seed sought old turn new seen done cursor next page r =
     let P : World → Type 0 = λ w. Page seed w sought cursor next page in
     let A : World → Type 0 = λ w. scan_asked w.selected (meant turn.call.words) ≡ Some (record { cursor = cursor; sought = sought; pairs = r.pairs }) in
@@ -172,7 +185,8 @@ reported_first : (page : List (List ℕ)) (pages : List (List (List ℕ))) (elem
 reported_first page pages element c = record { page = page; one = contains_first page pages; lists = c }
 
 -- either the page lists the element, or it lies behind the page
-listed_or_behind : (seed : ℕ) (world : World) (sought : Sought) (cursor next : ℕ) (page : List (List ℕ)) (element : List ℕ) → Page seed world sought cursor next page → Passes world sought element → place cursor ≤ place_of seed element
+listed_or_behind : (seed : ℕ) (world : World) (sought : Sought) (cursor next : ℕ) (page : List (List ℕ)) (element : List ℕ) → Page seed world sought cursor next page
+    → Passes world sought element → place cursor ≤ place_of seed element
     → Contains page element ⊎ (end_of next ≤ place_of seed element)
 listed_or_behind seed world sought cursor next page element p passes from =
     elim (nat_lt (place_of seed element) (end_of next)) as (λ b. nat_lt (place_of seed element) (end_of next) ≡ b → Contains page element ⊎ (end_of next ≤ place_of seed element)) [
@@ -191,7 +205,8 @@ first_place = refl
 from_first : (seed : ℕ) (element : List ℕ) → place 0 ≤ place_of seed element
 from_first seed element = subst (λ (n : ℕ). n ≤ place_of seed element) (sym first_place) (omega arith)
 
-not_listed : {seed : ℕ} {world : World} {sought : Sought} {cursor next : ℕ} {page : List (List ℕ)} {element : List ℕ} → Page seed world sought cursor next page → is_in world sought.target element ≡ false → Contains page element → ⊥
+not_listed : {seed : ℕ} {world : World} {sought : Sought} {cursor next : ℕ} {page : List (List ℕ)} {element : List ℕ} → Page seed world sought cursor next page
+    → is_in world sought.target element ≡ false → Contains page element → ⊥
 not_listed {element = element} p absent listed = true_not_false (sym (p.lists.real element listed).there ∙ absent)
 
 -- what stayed and lies from the cursor on is reported

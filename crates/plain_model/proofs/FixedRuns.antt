@@ -45,16 +45,19 @@ use Rattle.plain_world.proofs.Apart.{spellings_apart}
 -- the new world is fixed by the old one, the moment, the command and the reply
 
 -- what may be told of a value leaves the world
-told_of_fixed : {A : Type 0} (old : World) (own : Option A) (told : Option A → List Part → Type 0) (r : List Part) (new other : World) → may_tell_of old own told r new → may_tell_of old own told r other → new ≡ other
+told_of_fixed : {A : Type 0} (old : World) (own : Option A) (told : Option A → List Part → Type 0) (r : List Part) (new other : World) → may_tell_of old own told r new
+    → may_tell_of old own told r other → new ≡ other
 told_of_fixed old None told r new other a b = a.1 ∙ sym b.1
 told_of_fixed old (Some own) told r new other a b = a.1 ∙ sym b.1
 
-told_fixed : {A : Type 0} (in_value : Value → Option A) (old : World) (entry : Option Entry) (told : Option A → List Part → Type 0) (r : List Part) (new other : World) → may_tell in_value old entry told r new → may_tell in_value old entry told r other → new ≡ other
+told_fixed : {A : Type 0} (in_value : Value → Option A) (old : World) (entry : Option Entry) (told : Option A → List Part → Type 0) (r : List Part) (new other : World)
+    → may_tell in_value old entry told r new → may_tell in_value old entry told r other → new ≡ other
 told_fixed in_value old None told r new other a b = a.1 ∙ sym b.1
 told_fixed in_value old (Some entry) told r new other a b = told_of_fixed old (in_value entry.value) told r new other a b
 
 -- what is done to a value leaves one world, if it does so to whatever stands there
-module _ {A : Type 0} (old : World) (does : Option A → List Part → World → Type 0) (fixed : (own : Option A) (r : List Part) (new other : World) → does own r new → does own r other → new ≡ other) where
+module _ {A : Type 0} (old : World) (does : Option A → List Part → World → Type 0)
+    (fixed : (own : Option A) (r : List Part) (new other : World) → does own r new → does own r other → new ≡ other) where
   done_of_fixed : (own : Option A) (r : List Part) (new other : World) → may_do_of old own does r new → may_do_of old own does r other → new ≡ other
   done_of_fixed None r new other a b = a.1 ∙ sym b.1
   done_of_fixed (Some own) r new other a b = fixed (Some own) r new other a b
@@ -103,12 +106,14 @@ unit_same (Some u) (Some v) e = refl
 set_join_same : (how : SetJoin) (own : List Members) (a b : Members) → sets.IsJoin how own a → sets.IsJoin how own b → a ≡ b
 set_join_same how own a b p q = same_map nat_list_cmp_total (slice_cmp-IsAntisymmetric nat_cmp-IsAntisymmetric) a b (λ x. unit_same (get a x) (get b x) (p x ∙ sym (q x)))
 
-set_store_fixed : (old : World) (to : List ℕ) (how : SetJoin) (own : Option (List Members)) (r : List Part) (new other : World) → StoresJoin old to how own r new → StoresJoin old to how own r other → new ≡ other
+set_store_fixed : (old : World) (to : List ℕ) (how : SetJoin) (own : Option (List Members)) (r : List Part) (new other : World) → StoresJoin old to how own r new
+    → StoresJoin old to how own r other → new ≡ other
 set_store_fixed old to how own r new other a b =
     let same = set_join_same how (or_no_sources own) a.0 b.0 a.1 b.1 in
     a.2.1 ∙ ap (λ members. store_set old to members) same ∙ sym b.2.1
 
-score_store_fixed : (old : World) (to : List ℕ) (join : ScoreJoin) (how : Aggregate) (weights : List ℤ) (own : Option (List Scores)) (r : List Part) (new other : World) → StoresScores old to join how weights own r new → StoresScores old to join how weights own r other → new ≡ other
+score_store_fixed : (old : World) (to : List ℕ) (join : ScoreJoin) (how : Aggregate) (weights : List ℤ) (own : Option (List Scores)) (r : List Part) (new other : World)
+    → StoresScores old to join how weights own r new → StoresScores old to join how weights own r other → new ≡ other
 score_store_fixed old to join how weights own r new other a b =
     let same = same_map nat_list_cmp_total (slice_cmp-IsAntisymmetric nat_cmp-IsAntisymmetric) a.0 b.0 (λ x. a.1 x ∙ sym (b.1 x)) in
     a.2.1 ∙ ap (λ scores. (store_scores old to scores).world) same ∙ sym b.2.1
@@ -133,7 +138,8 @@ hashes_fixed seed old c r new other a b = a.1 ∙ sym b.1
 
 zsets_fixed : (seed : ℕ) (old : World) (c : ZsetCommand) (r : List Part) (new other : World) → may_zsets seed old c r new → may_zsets seed old c r other → new ≡ other
 zsets_fixed seed old (zsets.ZRandMember key n more) r new other a b = told_fixed _ old (look old key) _ r new other a b
-zsets_fixed seed old (zsets.ZJoinStore join to keys how) r new other a b = done_of_fixed old (StoresScores old to join how (weights_of keys)) (score_store_fixed old to join how (weights_of keys)) (zsets_at old keys) r new other a b
+zsets_fixed seed old (zsets.ZJoinStore join to keys how) r new other a b =
+    done_of_fixed old (StoresScores old to join how (weights_of keys)) (score_store_fixed old to join how (weights_of keys)) (zsets_at old keys) r new other a b
 zsets_fixed seed old (zsets.ZScan key cursor options) r new other a b = told_fixed _ old (look old key) _ r new other a b
 zsets_fixed seed old c r new other a b = a.1 ∙ sym b.1
 

@@ -17,7 +17,8 @@ use Rattle.int_text.proofs.Numbers.{from_point, from_plain}
 use Rattle.int_text.proofs.Ones.{score_one}
 use Rattle.int_text.proofs.Scores.{IsUnsigned, IsOnlyBody, behind_minus, behind_plus, behind_none, from_signed}
 use Rattle.plain_world.specs.Words.{in_lower_case}
-use Rattle.plain_model.specs.ScoreTexts.{digits_in_front, behind_digits, is_negative, unsigned, fraction_of, behind_fraction, power_of, exponent_of, with_exponent, number_in, value_of, is_infinity_word, with_sign, score_in, score_of}
+use Rattle.plain_model.specs.ScoreTexts.{digits_in_front, behind_digits, is_negative, unsigned, fraction_of, behind_fraction, power_of, exponent_of, with_exponent, number_in, value_of}
+use Rattle.plain_model.specs.ScoreTexts.{is_infinity_word, with_sign, score_in, score_of}
 
 -- ---- digits
 
@@ -113,10 +114,12 @@ is_numeral ds e = let parts = both (nat_lt 0 (length ds)) (all_ascii_digits ds) 
 numeral_passes : (ds : List ℕ) → IsNumeral 10 ds → (nat_lt 0 (length ds) && all_ascii_digits ds) ≡ true
 numeral_passes ds is = rw (lt-ltb 0 (length ds) is.0, digits.from ds is.1) refl
 
-power_found : (c : ℕ) (text : List ℕ) (b : Bool) → (nat_lt 0 (length (unsigned text)) && all_ascii_digits (unsigned text)) ≡ b → (c ≡ 101) ⊎ (c ≡ 69) → IsExponentFound (c ∷ text) (if b then Some (is_negative text, digits_value 10 (unsigned text)) else None)
+power_found : (c : ℕ) (text : List ℕ) (b : Bool) → (nat_lt 0 (length (unsigned text)) && all_ascii_digits (unsigned text)) ≡ b → (c ≡ 101) ⊎ (c ≡ 69)
+    → IsExponentFound (c ∷ text) (if b then Some (is_negative text, digits_value 10 (unsigned text)) else None)
 power_found c text true e mark =
     let s = split text in
-    subst (λ l. IsExponent (c ∷ l) (is_negative text) (digits_value 10 (unsigned text))) (sym s.parts) (exponent c s.sign (unsigned text) (is_negative text) mark s.is_sign (is_numeral (unsigned text) e))
+    subst (λ l. IsExponent (c ∷ l) (is_negative text) (digits_value 10 (unsigned text))) (sym s.parts)
+    (exponent c s.sign (unsigned text) (is_negative text) mark s.is_sign (is_numeral (unsigned text) e))
 power_found c text false e mark = λ divides power is. cc (sym (numeral_passes (unsigned text) (exponent_parts (c ∷ text) c text divides power is refl).1) ∙ e)
 
 mark_found : (c : ℕ) (text : List ℕ) (small large : Bool) → (c == 101) ≡ small → (c == 69) ≡ large → IsExponentFound (c ∷ text) (if small || large then power_of text else None)
@@ -130,7 +133,9 @@ exponent_found (c ∷ text) = mark_found c text (c == 101) (c == 69) refl refl
 
 -- ---- values
 
-value_test : (number : Number) (over under : ℕ) → over ≡ digits_value 10 (number.whole ++ number.fraction) * 10 ^ (if number.divides then 0 else number.power) → under ≡ 10 ^ (length number.fraction + (if number.divides then number.power else 0)) → (whole small : Bool) → (over % under == 0) ≡ whole → nat_le (over / under) (2 ^ 53) ≡ small → IsValue number (if whole then (if small then Ok (over / under) else Err TooLarge) else Err NotWhole)
+value_test : (number : Number) (over under : ℕ) → over ≡ digits_value 10 (number.whole ++ number.fraction) * 10 ^ (if number.divides then 0 else number.power)
+    → under ≡ 10 ^ (length number.fraction + (if number.divides then number.power else 0)) → (whole small : Bool) → (over % under == 0) ≡ whole → nat_le (over / under) (2 ^ 53) ≡ small
+    → IsValue number (if whole then (if small then Ok (over / under) else Err TooLarge) else Err NotWhole)
 value_test number over under o u true small e f =
     let none : over % under ≡ 0 = eqb-true (over % under) 0 e in
     let parts = div-add-mod over under in
@@ -163,7 +168,8 @@ found None = Err Malformed
 found (Some number) = value_of number
 
 module _ (W F tail : List ℕ) where
-  tail_value : (divides : Bool) (power : ℕ) (r : Result ℕ ScoreFault) → 0 < length W + length F → IsExponent tail divides power → IsValue (record { whole = W; fraction = F; divides = divides; power = power }) r → IsTailRead W F tail r
+  tail_value : (divides : Bool) (power : ℕ) (r : Result ℕ ScoreFault) → 0 < length W + length F → IsExponent tail divides power
+      → IsValue (record { whole = W; fraction = F; divides = divides; power = power }) r → IsTailRead W F tail r
   tail_value divides power (Ok n) some is v = (divides, power, (some, is), v)
   tail_value divides power (Err Malformed) some is v = absurd v
   tail_value divides power (Err NotWhole) some is v = (divides, power, (some, is), v)
@@ -171,23 +177,30 @@ module _ (W F tail : List ℕ) where
 
   tail_found : (e : Option (Bool × ℕ)) → 0 < length W + length F → IsExponentFound tail e → IsTailRead W F tail (found (with_exponent W F e))
   tail_found None some h = λ divides power is. h divides power is.1
-  tail_found (Some e) some h = tail_value e.0 e.1 (value_of (record { whole = W; fraction = F; divides = e.0; power = e.1 })) some h (value_is (record { whole = W; fraction = F; divides = e.0; power = e.1 }))
+  tail_found (Some e) some h = tail_value e.0 e.1 (value_of (record { whole = W; fraction = F; divides = e.0; power = e.1 })) some h
+      (value_is (record { whole = W; fraction = F; divides = e.0; power = e.1 }))
 
   tail_read : (some : Bool) → nat_lt 0 (length W + length F) ≡ some → IsTailRead W F tail (found (if some then with_exponent W F (exponent_of tail) else None))
   tail_read true e = tail_found (exponent_of tail) (ltb-true 0 (length W + length F) e) (exponent_found tail)
   tail_read false e = λ divides power is. cc (sym (lt-ltb 0 (length W + length F) is.0) ∙ e)
 
 -- behind the digits in front
-rest_read : (W rest : List ℕ) → AllDigits 10 W → StopsDigits rest → IsNumberRead (W ++ rest) (found (if nat_lt 0 (length W + length (fraction_of rest)) then with_exponent W (fraction_of rest) (exponent_of (behind_fraction rest)) else None))
+rest_read : (W rest : List ℕ) → AllDigits 10 W → StopsDigits rest
+    → IsNumberRead (W ++ rest) (found (if nat_lt 0 (length W + length (fraction_of rest)) then with_exponent W (fraction_of rest) (exponent_of (behind_fraction rest)) else None))
 rest_read W [] w stops =
     from_plain W [] w stops (λ e. omega (arith, e)) _ (tail_read W [] [] (nat_lt 0 (length W + 0)) refl)
 rest_read W (c ∷ behind) w stops =
-    elim (c == 46) as (λ b. (c == 46) ≡ b → IsNumberRead (W ++ c ∷ behind) (found (if nat_lt 0 (length W + length (if b then digits_in_front behind else [])) then with_exponent W (if b then digits_in_front behind else []) (exponent_of (if b then behind_digits behind else c ∷ behind)) else None))) [
+    elim (c == 46) as
+    (λ b. (c == 46) ≡ b → IsNumberRead (W ++ c ∷ behind)
+    (found
+    (if nat_lt 0 (length W + length (if b then digits_in_front behind else [])) then with_exponent W (if b then digits_in_front behind else [])
+    (exponent_of (if b then behind_digits behind else c ∷ behind)) else None))) [
       | true ↦ λ e.
           let F = digits_in_front behind in
           let tail = behind_digits behind in
           let r = found (if nat_lt 0 (length W + length F) then with_exponent W F (exponent_of tail) else None) in
-          subst (λ p. IsNumberRead (W ++ p ∷ behind) r) (sym (eqb-true c 46 e)) (from_point W F tail behind w (front_all behind) (behind_stops behind) (front_and_behind behind) r (tail_read W F tail (nat_lt 0 (length W + length F)) refl))
+          subst (λ p. IsNumberRead (W ++ p ∷ behind) r) (sym (eqb-true c 46 e))
+          (from_point W F tail behind w (front_all behind) (behind_stops behind) (front_and_behind behind) r (tail_read W F tail (nat_lt 0 (length W + length F)) refl))
       | false ↦ λ e.
           let r = found (if nat_lt 0 (length W + 0) then with_exponent W [] (exponent_of (c ∷ behind)) else None) in
           from_plain W (c ∷ behind) w stops (λ is. cc (sym (eq-eqb c 46 is) ∙ e)) r (tail_read W [] (c ∷ behind) (nat_lt 0 (length W + 0)) refl)
@@ -209,7 +222,8 @@ signed_found : (negative : Bool) (body : List ℕ) (o : Option Number) → ¬ (I
 signed_found negative body None other h = (h, other)
 signed_found negative body (Some number) other h = signed negative body (value_of number) other h
 
-infinity : (word : List ℕ) (short long : Bool) → bytes_eq (in_lower_case word) (codes "inf") ≡ short → bytes_eq (in_lower_case word) (codes "infinity") ≡ long → (short || long) ≡ true → IsInfinityWord word
+infinity : (word : List ℕ) (short long : Bool) → bytes_eq (in_lower_case word) (codes "inf") ≡ short → bytes_eq (in_lower_case word) (codes "infinity") ≡ long → (short || long) ≡ true
+    → IsInfinityWord word
 infinity word true long e f h = inl ((bytes_eq-Decides (in_lower_case word) (codes "inf")).0 e)
 infinity word false true e f h = inr ((bytes_eq-Decides (in_lower_case word) (codes "infinity")).0 f)
 infinity word false false e f h = cc

@@ -12,7 +12,9 @@ use Rattle.plain_model.specs.ListWords.{list_rows}
 use Rattle.plain_model.specs.SetWords.{set_rows}
 use Rattle.plain_model.specs.HashWords.{hash_rows}
 use Rattle.plain_model.specs.ZsetWords.{zset_rows}
-use Rattle.plain_model.specs.StreamWords.{no_append_options, is_option, own_of, behind_options, append_options, longest_entry, pairs_len, entry_of, entry_words, is_entry, append_words, trim_words, trim_of, trim_to, own_words, read_words, streams_read, group_read, read_group_words, count_option, at_most, each_told, group_rows, create_options, no_options, stream_rows}
+use Rattle.plain_model.specs.StreamWords.{no_append_options, is_option, own_of, behind_options, append_options, longest_entry, pairs_len, entry_of, entry_words, is_entry, append_words}
+use Rattle.plain_model.specs.StreamWords.{trim_words, trim_of, trim_to, own_words, read_words, streams_read, group_read, read_group_words, count_option, at_most, each_told, group_rows}
+use Rattle.plain_model.specs.StreamWords.{create_options, no_options, stream_rows}
 use Rattle.plain_model.specs.ConnectionWords.{connection_rows}
 use Rattle.plain_model.specs.Meant.{of_family, rows, read_by, meant}
 use Rattle.plain_model.specs.declared.command.Command.{Command}
@@ -141,26 +143,32 @@ module _ (most : ℕ) where
         rest_fit (drop 1 stream_rows) (
           fixed_fits P (Plain ∷ []) (λ a. Ok (streams.XLen a.0)) (λ a keeps c. made P (streams.XLen a.0) c tt),
           (
-            with_options_fits P (Plain ∷ FirstId ∷ LastId ∷ []) (count_option at_most ∷ []) None (λ a o. Ok (streams.XRange a.0 a.1.0 a.1.1.0 Rising o)) (λ o. Unit {0}) ((λ own o keeps q. tt, tt), tt) (λ a keeps o q c. made P (streams.XRange a.0 a.1.0 a.1.1.0 Rising o) c tt),
+            with_options_fits P (Plain ∷ FirstId ∷ LastId ∷ []) (count_option at_most ∷ []) None (λ a o. Ok (streams.XRange a.0 a.1.0 a.1.1.0 Rising o)) (λ o. Unit {0})
+                ((λ own o keeps q. tt, tt), tt) (λ a keeps o q c. made P (streams.XRange a.0 a.1.0 a.1.1.0 Rising o) c tt),
             (
-              with_options_fits P (Plain ∷ LastId ∷ FirstId ∷ []) (count_option at_most ∷ []) None (λ a o. Ok (streams.XRange a.0 a.1.1.0 a.1.0 Falling o)) (λ o. Unit {0}) ((λ own o keeps q. tt, tt), tt) (λ a keeps o q c. made P (streams.XRange a.0 a.1.1.0 a.1.0 Falling o) c tt),
+              with_options_fits P (Plain ∷ LastId ∷ FirstId ∷ []) (count_option at_most ∷ []) None (λ a o. Ok (streams.XRange a.0 a.1.1.0 a.1.0 Falling o)) (λ o. Unit {0})
+                  ((λ own o keeps q. tt, tt), tt) (λ a keeps o q c. made P (streams.XRange a.0 a.1.1.0 a.1.0 Falling o) c tt),
               (
-                repeated_fits P (Plain ∷ []) 1 (λ a own. and_then (each_told EntryId own) (λ ids. Ok (streams.XDel a.0 ids))) (λ a own c. then_told P (each_told EntryId own) (λ ids. Ok (streams.XDel a.0 ids)) (λ ids is b. made P (streams.XDel a.0 ids) b tt) c),
+                repeated_fits P (Plain ∷ []) 1 (λ a own. and_then (each_told EntryId own) (λ ids. Ok (streams.XDel a.0 ids)))
+                    (λ a own c. then_told P (each_told EntryId own) (λ ids. Ok (streams.XDel a.0 ids)) (λ ids is b. made P (streams.XDel a.0 ids) b tt) c),
                 (
                   trim_fits,
                   (
                     read_fits,
                     (
                       by_second_fits P 3 group_rows (
-                        with_options_fits P (Plain ∷ Plain ∷ IdOr (codes "$") ∷ []) create_options false (λ a o. Ok (streams.XGroupCreate a.0 a.1.0 a.1.1.0 o)) (λ o. Unit {0}) ((λ own o keeps q. tt, tt), tt) (λ a keeps o q c. made P (streams.XGroupCreate a.0 a.1.0 a.1.1.0 o) c tt),
+                        with_options_fits P (Plain ∷ Plain ∷ IdOr (codes "$") ∷ []) create_options false (λ a o. Ok (streams.XGroupCreate a.0 a.1.0 a.1.1.0 o)) (λ o. Unit {0})
+                            ((λ own o keeps q. tt, tt), tt) (λ a keeps o q c. made P (streams.XGroupCreate a.0 a.1.0 a.1.1.0 o) c tt),
                         (fixed_fits P (Plain ∷ Plain ∷ []) (λ a. Ok (streams.XGroupDestroy a.0 a.1.0)) (λ a keeps c. made P (streams.XGroupDestroy a.0 a.1.0) c tt), tt),
                       ),
                       (
                         read_group_fits,
                         (
-                          repeated_fits P (Plain ∷ Plain ∷ []) 1 (λ a own. and_then (each_told EntryId own) (λ ids. Ok (streams.XAck a.0 a.1.0 ids))) (λ a own c. then_told P (each_told EntryId own) (λ ids. Ok (streams.XAck a.0 a.1.0 ids)) (λ ids is b. made P (streams.XAck a.0 a.1.0 ids) b tt) c),
+                          repeated_fits P (Plain ∷ Plain ∷ []) 1 (λ a own. and_then (each_told EntryId own) (λ ids. Ok (streams.XAck a.0 a.1.0 ids)))
+                              (λ a own c. then_told P (each_told EntryId own) (λ ids. Ok (streams.XAck a.0 a.1.0 ids)) (λ ids is b. made P (streams.XAck a.0 a.1.0 ids) b tt) c),
                           (
-                            with_options_fits P (Plain ∷ Plain ∷ []) no_options tt (λ a o. Ok (streams.XPending a.0 a.1.0)) (λ o. Unit {0}) (tt, tt) (λ a keeps o q c. made P (streams.XPending a.0 a.1.0) c tt),
+                            with_options_fits P (Plain ∷ Plain ∷ []) no_options tt (λ a o. Ok (streams.XPending a.0 a.1.0)) (λ o. Unit {0}) (tt, tt)
+                                (λ a keeps o q c. made P (streams.XPending a.0 a.1.0) c tt),
                             tt,
                           ),
                         ),
@@ -175,13 +183,18 @@ module _ (most : ℕ) where
       )
 
   -- a family's rows and the others behind them make only entries that are ones, if both parts do
-  family_fits : {A : Type 0} (family : A → Command) (P : A → Type 0) → ((a : A) → P a → FitsAll (family a)) → (own : List (Row A)) → AllByRecursion (RowFits P) own → (others : List (Row Command)) → AllByRecursion (RowFits FitsAll) others → AllByRecursion (RowFits FitsAll) (map (of_family family) own ++ others)
+  family_fits : {A : Type 0} (family : A → Command) (P : A → Type 0) → ((a : A) → P a → FitsAll (family a)) → (own : List (Row A)) → AllByRecursion (RowFits P) own
+      → (others : List (Row Command)) → AllByRecursion (RowFits FitsAll) others → AllByRecursion (RowFits FitsAll) (map (of_family family) own ++ others)
   family_fits family P fits [] h others k = k
-  family_fits family P fits (row ∷ own) h others k =
-      (λ words c few e. then_told FitsAll (row.read words) (λ command. Ok (family command)) (λ a is b f. made FitsAll (family a) b (fits a (h.0 words a few is)) f) c e, family_fits family P fits own h.1 others k)
+  family_fits family P fits (row ∷ own) h others k = (
+    λ words c few e. then_told FitsAll (row.read words) (λ command. Ok (family command)) (λ a is b f. made FitsAll (family a) b (fits a (h.0 words a few is)) f) c e,
+    family_fits family
+        P fits own h.1 others k,
+  )
 
   -- the rows of commands on other values
-  others_fit : {A : Type 0} (family : A → Command) → ((a : A) → FitsAll (family a)) → (own : List (Row A)) (others : List (Row Command)) → AllByRecursion (RowFits FitsAll) others → AllByRecursion (RowFits FitsAll) (map (of_family family) own ++ others)
+  others_fit : {A : Type 0} (family : A → Command) → ((a : A) → FitsAll (family a)) → (own : List (Row A)) (others : List (Row Command)) → AllByRecursion (RowFits FitsAll) others
+      → AllByRecursion (RowFits FitsAll) (map (of_family family) own ++ others)
   others_fit family fits [] others k = k
   others_fit family fits (row ∷ own) others k =
       (λ words c few e. then_told FitsAll (row.read words) (λ command. Ok (family command)) (λ a is b f. made FitsAll (family a) b (fits a) f) c e, others_fit family fits own others k)
@@ -211,7 +224,8 @@ module _ (most : ℕ) where
 
   found_fits : (all : List (Row Command)) → AllByRecursion (RowFits FitsAll) all → (name : List ℕ) (words : Words) (c : Command) → length words ≤ most → read_by all name words ≡ Ok c → FitsAll c
   found_fits [] h name words c few e = cc
-  found_fits (row ∷ all) h name words c few e = if_has FitsAll (bytes_eq name row.name) (row.read words) (read_by all name words) (λ b f. h.0 words b few f) (λ b f. found_fits all h.1 name words b few f) c e
+  found_fits (row ∷ all) h name words c few e = if_has FitsAll (bytes_eq name row.name) (row.read words) (read_by all name words) (λ b f. h.0 words b few f)
+      (λ b f. found_fits all h.1 name words b few f) c e
 
 -- what a command on streams keeps that a request means
 pub streams_fit : (words : Words) (c : StreamCommand) → IsRequest words → meant words ≡ Ok (Streams c) → FitsStreams most_words c

@@ -14,7 +14,8 @@ use Rattle.plain_model.specs.OfType.{stream_in}
 use Rattle.plain_model.specs.StringSteps.{ok}
 use Rattle.plain_model.specs.ListSteps.{tells_number}
 use Rattle.plain_model.specs.IdTexts.{id_text}
-use Rattle.plain_model.specs.StreamSteps.{Asked, no_stream, keep_stream, on_stream, stream_there, up_to, is_later, has_id, from_id, entry_parts, of_key, some_listed, all_listed, append, trim_to, delete, tell_range, read, or_no_stream}
+use Rattle.plain_model.specs.StreamSteps.{Asked, no_stream, keep_stream, on_stream, stream_there, up_to, is_later, has_id, from_id, entry_parts, of_key, some_listed, all_listed, append}
+use Rattle.plain_model.specs.StreamSteps.{trim_to, delete, tell_range, read, or_no_stream}
 use Rattle.plain_model.specs.declared.stream_command.StreamCommand.{StreamCommand}
 use Rattle.plain_model.specs.declared.stream_command.StreamCommand.TheVariants as streams
 use Rattle.plain_world.specs.declared.refusal.Refusal.{Refusal}

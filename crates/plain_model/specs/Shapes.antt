@@ -2,7 +2,8 @@
 --
 -- First their number is looked at, then they are read from left to right, and each is refused where it stands. What
 -- words break together comes last. A command is a row: the kinds of its first words, and what may follow them.
-use Rattle.std.specs.Prelude.{ℕ, zero, suc, ◌-◌, ◌%◌, ◌==◌, List, [], ◌∷◌, length, take, drop, ℤ, pos, negsuc, int_le, Option, Some, None, Bool, true, false, ◌&&◌, ◌||◌, ◌^◌, nat_le, nat_lt, int_lt, neg_ℤ, bytes_eq, codes, Result, Ok, Err, if◌then◌else◌}
+use Rattle.std.specs.Prelude.{ℕ, zero, suc, ◌-◌, ◌%◌, ◌==◌, List, [], ◌∷◌, length, take, drop, ℤ, pos, negsuc, int_le, Option, Some, None, Bool, true, false, ◌&&◌, ◌||◌, ◌^◌, nat_le}
+use Rattle.std.specs.Prelude.{nat_lt, int_lt, neg_ℤ, bytes_eq, codes, Result, Ok, Err, if◌then◌else◌}
 use Rattle.std.specs.Str.{all_ascii_digits}
 use Rattle.std.specs.Str.Parse.{digits_value}
 use Rattle.plain_world.specs.Words.{Words, in_lower_case}
@@ -22,7 +23,8 @@ use Rattle.plain_model.specs.declared.zset_command.ScoreBound.TheVariants.{Lowes
 use Rattle.plain_model.specs.declared.zset_command.Aggregate.{Aggregate}
 use Rattle.plain_model.specs.declared.zset_command.Aggregate.TheVariants.{Sum, Min, Max}
 use Rattle.plain_world.specs.declared.refusal.Refusal.{Refusal}
-use Rattle.plain_world.specs.declared.refusal.Refusal.TheVariants.{WrongNumberOfArguments, Syntax, NotAnInteger, NotAScore, NotAWholeScore, IndexOutOfRange, InvalidExpireTime, InvalidCursor, DatabaseOutOfRange, ValueOutOfRange}
+use Rattle.plain_world.specs.declared.refusal.Refusal.TheVariants.{WrongNumberOfArguments, Syntax, NotAnInteger, NotAScore, NotAWholeScore, IndexOutOfRange, InvalidExpireTime}
+use Rattle.plain_world.specs.declared.refusal.Refusal.TheVariants.{InvalidCursor, DatabaseOutOfRange, ValueOutOfRange}
 
 -- the first one's refusal, or what the rest makes of what it told
 abbrev pub and_then : {A B : Type 0} → Result A Refusal → (A → Result B Refusal) → Result B Refusal

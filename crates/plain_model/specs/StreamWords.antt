@@ -1,5 +1,6 @@
 -- What the words of commands on streams mean (Redis command reference, "Commands operating on streams").
-use Rattle.std.specs.Prelude.{ℕ, suc, zero, ◌+◌, ◌/◌, ◌%◌, ◌==◌, List, [], ◌∷◌, length, drop, sum_by, ℤ, pos, negsuc, Option, None, Some, Bool, true, false, ◌&&◌, ◌||◌, nat_le, bytes_eq, Ok, Err, codes, Result, if◌then◌else◌}
+use Rattle.std.specs.Prelude.{ℕ, suc, zero, ◌+◌, ◌/◌, ◌%◌, ◌==◌, List, [], ◌∷◌, length, drop, sum_by, ℤ, pos, negsuc, Option, None, Some, Bool, true, false, ◌&&◌, ◌||◌, nat_le, bytes_eq}
+use Rattle.std.specs.Prelude.{Ok, Err, codes, Result, if◌then◌else◌}
 use Rattle.plain_world.specs.Words.{Words, in_lower_case}
 use Rattle.stream_groups.specs.Groups.{Id}
 use Rattle.plain_model.specs.Shapes.{Kind, Plain, Whole, Amount, EntryId, IdOr, ForEntry, FirstId, LastId, Told, told, and_then, Row, fixed, by_second, repeated, NamedOption, with_options}

@@ -1,5 +1,6 @@
 -- What string commands answer, and what they leave (Redis command reference, "Commands operating on strings").
-use Rattle.std.specs.Prelude.{ℕ, suc, ◌+◌, ◌-◌, ◌==◌, List, [], ◌∷◌, ◌++◌, length, take, drop, replicate, map, ℤ, pos, negsuc, ◌+ℤ◌, ◌-ℤ◌, int_lt, Option, None, Some, is_some, Bool, true, false, not, ◌&&◌, nat_le, codes, if◌then◌else◌}
+use Rattle.std.specs.Prelude.{ℕ, suc, ◌+◌, ◌-◌, ◌==◌, List, [], ◌∷◌, ◌++◌, length, take, drop, replicate, map, ℤ, pos, negsuc, ◌+ℤ◌, ◌-ℤ◌, int_lt, Option, None, Some, is_some, Bool, true}
+use Rattle.std.specs.Prelude.{false, not, ◌&&◌, nat_le, codes, if◌then◌else◌}
 use Rattle.int_text.specs.Decimal.{canonical}
 use Rattle.plain_world.specs.Worlds.{World, Value, Str, Entry, look, put, remove, stand, deadline_of}
 use Rattle.int_text.specs.Decimal.{is_i64, number_of}

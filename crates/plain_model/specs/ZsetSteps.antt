@@ -1,5 +1,6 @@
 -- What commands on sorted sets answer, and what they leave (Redis command reference, "Commands operating on sorted sets").
-use Rattle.std.specs.Prelude.{◌≡◌, ℕ, suc, ◌+◌, ◌-◌, ◌*◌, ◌^◌, ◌==◌, List, [], ◌∷◌, length, take, drop, map, reverse, ℤ, pos, negsuc, neg_ℤ, ◌+ℤ◌, ◌*ℤ◌, int_lt, int_le, Option, None, Some, is_some, Bool, true, false, not, ◌&&◌, ◌||◌, bytes_eq, if◌then◌else◌}
+use Rattle.std.specs.Prelude.{◌≡◌, ℕ, suc, ◌+◌, ◌-◌, ◌*◌, ◌^◌, ◌==◌, List, [], ◌∷◌, length, take, drop, map, reverse, ℤ, pos, negsuc, neg_ℤ, ◌+ℤ◌, ◌*ℤ◌, int_lt, int_le, Option, None, Some}
+use Rattle.std.specs.Prelude.{is_some, Bool, true, false, not, ◌&&◌, ◌||◌, bytes_eq, if◌then◌else◌}
 use Rattle.std.specs.List.{filter, flat_map}
 use Rattle.std.specs.FinMap.{FinMap, empty, entries, from_entries, keys, get, insert, len}
 use Rattle.std.specs.FinMap as finite

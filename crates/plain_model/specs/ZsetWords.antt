@@ -1,9 +1,11 @@
 -- What the words of commands on sorted sets mean (Redis command reference, "Commands operating on sorted sets").
-use Rattle.std.specs.Prelude.{ℕ, zero, suc, pos, List, [], ◌∷◌, length, take, drop, ℤ, None, Some, is_some, Bool, true, false, ◌&&◌, ◌||◌, nat_le, nat_lt, bytes_eq, Ok, Err, codes, Result, if◌then◌else◌}
+use Rattle.std.specs.Prelude.{ℕ, zero, suc, pos, List, [], ◌∷◌, length, take, drop, ℤ, None, Some, is_some, Bool, true, false, ◌&&◌, ◌||◌, nat_le, nat_lt, bytes_eq, Ok, Err, codes, Result}
+use Rattle.std.specs.Prelude.{if◌then◌else◌}
 use Rattle.std.specs.List.{list_any}
 use Rattle.plain_world.specs.Words.{Words, in_lower_case}
 use Rattle.plain_model.specs.KeyWords.{page_words}
-use Rattle.plain_model.specs.Shapes.{Kind, Plain, Whole, Score, Bound, Keys, Aggregated, AllTold, told, and_then, counted, Row, fixed, with_amount, with_picked, repeated, NamedOption, option_of, options_read, with_options}
+use Rattle.plain_model.specs.Shapes.{Kind, Plain, Whole, Score, Bound, Keys, Aggregated, AllTold, told, and_then, counted, Row, fixed, with_amount, with_picked, repeated, NamedOption}
+use Rattle.plain_model.specs.Shapes.{option_of, options_read, with_options}
 use Rattle.plain_model.specs.declared.zset_command.ZsetCommand.{ZsetCommand}
 use Rattle.plain_model.specs.declared.zset_command.ZsetCommand.TheVariants as zsets
 use Rattle.plain_model.specs.declared.zset_command.Direction.{Direction}

@@ -51,7 +51,9 @@ line_plain [] h = tt
 line_plain (b ∷ l) h = (h.0.0, line_plain l h.1)
 
 abbrev all_refusals : List Refusal
-all_refusals = refusals.UnknownCommand ∷ refusals.WrongNumberOfArguments ∷ refusals.Syntax ∷ refusals.WrongType ∷ refusals.NotAnInteger ∷ refusals.Overflow ∷ refusals.NotAScore ∷ refusals.NotAWholeScore ∷ refusals.NoSuchKey ∷ refusals.IndexOutOfRange ∷ refusals.InvalidExpireTime ∷ refusals.InvalidCursor ∷ refusals.InvalidStreamId ∷ refusals.StreamIdNotGreater ∷ refusals.NoGreaterStreamId ∷ refusals.DatabaseOutOfRange ∷ refusals.ValueOutOfRange ∷ refusals.SameSourceAndDestination ∷ refusals.GroupExists ∷ refusals.NoSuchGroup ∷ []
+all_refusals = refusals.UnknownCommand ∷ refusals.WrongNumberOfArguments ∷ refusals.Syntax ∷ refusals.WrongType ∷ refusals.NotAnInteger ∷ refusals.Overflow ∷ refusals.NotAScore
+    ∷ refusals.NotAWholeScore ∷ refusals.NoSuchKey ∷ refusals.IndexOutOfRange ∷ refusals.InvalidExpireTime ∷ refusals.InvalidCursor ∷ refusals.InvalidStreamId ∷ refusals.StreamIdNotGreater
+    ∷ refusals.NoGreaterStreamId ∷ refusals.DatabaseOutOfRange ∷ refusals.ValueOutOfRange ∷ refusals.SameSourceAndDestination ∷ refusals.GroupExists ∷ refusals.NoSuchGroup ∷ []
 
 -- the first refusal with this text behind its mark
 abbrev first_with : List ℕ → List Refusal → Refusal

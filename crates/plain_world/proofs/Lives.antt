@@ -18,17 +18,22 @@ shown moment o = cond (is_there moment o) o None
 -- ---- one database
 
 pub live_get : (base : Database) (moment : ℕ) (key : List ℕ) → get (live_keys base moment) key ≡ shown moment (get base key)
-live_get base moment key = get-retain_keys base (λ k. is_there moment (get base k)) key (λ x same. ap (λ k. is_there moment (get base k)) (sym (slice_cmp-IsAntisymmetric nat_cmp-IsAntisymmetric key x same)))
+live_get base moment key = get-retain_keys base (λ k. is_there moment (get base k)) key
+    (λ x same. ap (λ k. is_there moment (get base k)) (sym (slice_cmp-IsAntisymmetric nat_cmp-IsAntisymmetric key x same)))
 
-pub live_insert : (base : Database) (moment : ℕ) (key : List ℕ) (e : Entry) → live_keys (insert base key e) moment ≡ cond (in_time moment e.deadline) (insert (live_keys base moment) key e) (map.remove (live_keys base moment) key)
+pub live_insert : (base : Database) (moment : ℕ) (key : List ℕ) (e : Entry)
+    → live_keys (insert base key e) moment ≡ cond (in_time moment e.deadline) (insert (live_keys base moment) key e) (map.remove (live_keys base moment) key)
 live_insert base moment key e =
     maps_alike _ _ (λ q.
     live_get (insert base key e) moment q ∙ ap (shown moment) (get-insert nat_list_cmp_total base key e q)
     ∙ agree (eq_by_cmp (slice_cmp nat_cmp) q key) (in_time moment e.deadline) refl (get base q)
     ∙ sym (chosen (in_time moment e.deadline) q
-    ∙ (λ i. cond (in_time moment e.deadline) (cond (eq_by_cmp (slice_cmp nat_cmp) q key) (Some e) (live_get base moment q i)) (cond (eq_by_cmp (slice_cmp nat_cmp) q key) None (live_get base moment q i)))))
+    ∙
+    (λ i. cond (in_time moment e.deadline) (cond (eq_by_cmp (slice_cmp nat_cmp) q key) (Some e) (live_get base moment q i))
+    (cond (eq_by_cmp (slice_cmp nat_cmp) q key) None (live_get base moment q i)))))
   where
-    agree : (same late : Bool) → late ≡ in_time moment e.deadline → (o : Option Entry) → shown moment (cond same (Some e) o) ≡ cond late (cond same (Some e) (shown moment o)) (cond same None (shown moment o))
+    agree : (same late : Bool) → late ≡ in_time moment e.deadline → (o : Option Entry)
+        → shown moment (cond same (Some e) o) ≡ cond late (cond same (Some e) (shown moment o)) (cond same None (shown moment o))
     agree true true is o = ap (λ b. cond b (Some e) None) (sym is)
     agree true false is o = ap (λ b. cond b (Some e) None) (sym is)
     agree false true is o = refl
@@ -89,7 +94,8 @@ live_with w base moment = λ i. record { bases = λ number. each (number == w.se
 pub live_put : (w : World) (moment : ℕ) (key : List ℕ) (e : Entry) → live (put w key e) moment ≡ stand (live w moment) moment key e
 live_put w moment key e = live_with w (insert (w.bases w.selected) key e) moment ∙ ap (with_base (live w moment)) (live_insert (w.bases w.selected) moment key e) ∙ chosen (in_time moment e.deadline)
   where
-    chosen : (b : Bool) → with_base (live w moment) (cond b (insert (live_keys (w.bases w.selected) moment) key e) (map.remove (live_keys (w.bases w.selected) moment) key)) ≡ cond b (put (live w moment) key e) (remove (live w moment) key)
+    chosen : (b : Bool) → with_base (live w moment) (cond b (insert (live_keys (w.bases w.selected) moment) key e) (map.remove (live_keys (w.bases w.selected) moment) key)) ≡ cond b
+        (put (live w moment) key e) (remove (live w moment) key)
     chosen true = refl
     chosen false = refl
 

@@ -45,7 +45,8 @@ use Rattle.program_top.specs.declared.ending.Ending.{Ending}
 use Rattle.program_top.specs.declared.ending.Ending.TheVariants as endings
 
 -- what is planned leaves what the engine holds at the moment that it used last
-pub worked_world : (moment : ℕ) (plan : Plan) (old new : Engine) (done : StepsDone) → EngineRests heap_blocks heap_slabs IsClassHeapStep moment plan old new done → new.last ≡ old.last → world_of new ≡ world_of old
+pub worked_world : (moment : ℕ) (plan : Plan) (old new : Engine) (done : StepsDone) → EngineRests heap_blocks heap_slabs IsClassHeapStep moment plan old new done → new.last ≡ old.last
+    → world_of new ≡ world_of old
 worked_world moment plan old new done r same =
     r.works.stays new.selected new.last (omega arith)
     ∙ ap (λ number. live (means number old.bases (heap_blocks old.store)) new.last) r.selected
@@ -69,7 +70,8 @@ nothing_more before = omega arith
 one_less : (before n : ℕ) → suc before + n ≡ before + suc n
 one_less before n = omega arith
 
-way_ran : (seed before : ℕ) (asked : List Words) (replies : List (List Part)) (first last : Paced Engine) → first.engine.bases.seed ≡ seed → first.engine.last ≡ before → way answers works before first asked replies last → Ran seed before first.engine asked replies last.engine
+way_ran : (seed before : ℕ) (asked : List Words) (replies : List (List Part)) (first last : Paced Engine) → first.engine.bases.seed ≡ seed → first.engine.last ≡ before
+    → way answers works before first asked replies last → Ran seed before first.engine asked replies last.engine
 way_ran seed before [] [] first last same moment w = record {
   turns = [];
   calls = refl;
@@ -90,7 +92,8 @@ way_ran seed before (words ∷ asked) (reply ∷ replies) first last same moment
     let seed_next : next.engine.bases.seed ≡ seed = r.works.seed ∙ a.answers.answers.stands.settings.seed ∙ same in
     let rest = way_ran seed (suc before) asked replies next last seed_next after w.2 in
     let world : world_of next.engine ≡ world_of mid = worked_world (suc before) a.rests.plan mid next.engine a.rests.done.0 r still in
-    let one : step first.engine.bases.seed (world_of first.engine) mid.last words reply (world_of mid) = executes_step heap_blocks heap_slabs IsClassHeapStep (suc before) first.engine words reply mid a.answers in
+    let one : step first.engine.bases.seed (world_of first.engine) mid.last words reply (world_of mid) =
+    executes_step heap_blocks heap_slabs IsClassHeapStep (suc before) first.engine words reply mid a.answers in
     let S : ℕ → Type 0 = λ s. step s (world_of first.engine) mid.last words reply (world_of mid) in
     let M : ℕ → Type 0 = λ m. step seed (world_of first.engine) m words reply (world_of mid) in
     let W : World → Type 0 = λ v. step seed (world_of first.engine) (suc before) words reply v in
@@ -135,7 +138,8 @@ selects_means = ap selects_read zero_read
 select_leaves : (moment : ℕ) (old new : Engine) (reply : List Part) → answers moment old selects_first reply new → world_of new ≡ selecting (live (world_of old) new.last) 0
 select_leaves moment old new reply a =
     let one = executes_step heap_blocks heap_slabs IsClassHeapStep moment old selects_first reply new a in
-    let X : Result Command Refusal → Type 0 = λ m. MatchResult m (λ command. may old.bases.seed (live (world_of old) new.last) new.last command reply (world_of new)) (λ refusal. (reply ≡ Refused refusal ∷ []) × (world_of new ≡ live (world_of old) new.last)) in
+    let X : Result Command Refusal → Type 0 = λ m. MatchResult m (λ command. may old.bases.seed (live (world_of old) new.last) new.last command reply (world_of new))
+    (λ refusal. (reply ≡ Refused refusal ∷ []) × (world_of new ≡ live (world_of old) new.last)) in
     (subst X selects_means one).1
 
 -- what DBSIZE answers
@@ -174,7 +178,8 @@ generates_seen options n pacers lines g =
     let at : last.last ≡ n = behind_all last.last (length (commands options.seed n)) n r.moment (many_commands options.seed 0 n) in
     let mid_at : mid.last ≡ n = omega (arith, g.generates.asks.selects.last, at) in
     let end_at : g.last.last ≡ n = omega (arith, g.generates.asks.asks.last, mid_at) in
-    let world : world_of mid ≡ selecting (live (world_of last) n) 0 = select_leaves n last mid g.generates.asks.chosen g.generates.asks.selects ∙ ap (λ m. selecting (live (world_of last) m) 0) mid_at in
+    let world : world_of mid ≡ selecting (live (world_of last) n) 0 = select_leaves n last mid g.generates.asks.chosen g.generates.asks.selects
+    ∙ ap (λ m. selecting (live (world_of last) m) 0) mid_at in
     let told : g.keys ≡ size_at (world_of mid) g.last.last = number_same _ _ (size_is n mid g.last _ g.generates.asks.asks) in
     let keys : g.keys ≡ len (live_keys ((world_of last).bases 0) n) = told ∙ ap (size_at (world_of mid)) end_at ∙ size_selected (world_of last) (world_of mid) n world in
     record {
@@ -186,14 +191,17 @@ generates_seen options n pacers lines g =
     }
 
 -- what is written of an engine's lines is written of a plain map's
-pub writes_seen : (options : Options) (n : ℕ) (pacers : List PacerSeen) (old new : SinkSeen) (ending : Ending) → Writes (GeneratesOn options n pacers) old new ending → Writes (may_generate options n pacers) old new ending
+pub writes_seen : (options : Options) (n : ℕ) (pacers : List PacerSeen) (old new : SinkSeen) (ending : Ending) → Writes (GeneratesOn options n pacers) old new ending
+    → Writes (may_generate options n pacers) old new ending
 writes_seen options n pacers old new ending (generating.all lines l put is) = generating.all lines (generates_seen options n pacers lines l) put is
 writes_seen options n pacers old new ending (generating.front lines l put is) = generating.front lines (generates_seen options n pacers lines l) put is
 writes_seen options n pacers old new ending (generating.none same is) = generating.none same is
 
 -- the lines of an engine, where the reply to DBSIZE is this number
-pub generates_on : (options : Options) (n : ℕ) (pacers : List PacerSeen) (paced : List PacerSeen) (lines : List ℕ) (first last : Engine) (size : List Part) (keys sum : ℕ) → Begun options.seed options.limits first → paced ≡ map (λ p. tuned p options.effort) pacers
-    → Generates answers works options.seed n (record { engine = first; pacers = paced }) last size sum → size ≡ Number (pos keys) ∷ [] → lines ≡ three_lines n keys sum → GeneratesOn options n pacers lines
+pub generates_on : (options : Options) (n : ℕ) (pacers : List PacerSeen) (paced : List PacerSeen) (lines : List ℕ) (first last : Engine) (size : List Part) (keys sum : ℕ)
+    → Begun options.seed options.limits first → paced ≡ map (λ p. tuned p options.effort) pacers
+    → Generates answers works options.seed n (record { engine = first; pacers = paced }) last size sum → size ≡ Number (pos keys) ∷ [] → lines ≡ three_lines n keys sum
+    → GeneratesOn options n pacers lines
 generates_on options n pacers paced lines first last size keys sum b p g s are =
     let G : List Part → Type 0 = λ r. Generates answers works options.seed n (record { engine = first; pacers = paced }) last r sum in
     let Q : List PacerSeen → Type 0 = λ l. Generates answers works options.seed n (record { engine = first; pacers = l }) last (Number (pos keys) ∷ []) sum in

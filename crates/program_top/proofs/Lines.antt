@@ -20,7 +20,8 @@ regrouped a b c d = sym (ap (λ l. l ++ d) (append_assoc a b c) ∙ append_assoc
 line_is : (text : List ℕ) (number at : ℕ) → (text ++ decimal number) ++ place_text at ≡ numbered_fault_line text number at
 line_is text number at = regrouped (text ++ decimal number) (codes " at byte ") (decimal at) line_feed
 
-pub number_then : {T E : Type 0} (o m n : SinkSeen) (text : List ℕ) (number at : ℕ) (r : Result T E) → PutsAll o m (text ++ decimal number) → Puts m n (place_text at) r → Puts o n (numbered_fault_line text number at) r
+pub number_then : {T E : Type 0} (o m n : SinkSeen) (text : List ℕ) (number at : ℕ) (r : Result T E) → PutsAll o m (text ++ decimal number) → Puts m n (place_text at) r
+    → Puts o n (numbered_fault_line text number at) r
 number_then o m n text number at r p q = let P : List ℕ → Type 0 = λ l. Puts o n l r in subst P (line_is text number at) (puts_then o m n (text ++ decimal number) (place_text at) r p q)
 
 pub number_stops : (o m : SinkSeen) (text : List ℕ) (number at : ℕ) → PutsFront o m (text ++ decimal number) → PutsFront o m (numbered_fault_line text number at)

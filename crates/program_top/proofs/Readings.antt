@@ -88,7 +88,8 @@ pub lent : (name : Option (Bor (List ℕ))) → (elim name [ None ↦ None | Som
 lent None = refl
 lent (Some text) = refl
 
-pub options_are : (rows : List Row) (file : Option (List ℕ)) (seed effort max_input : ℕ) (limits : Limits) → file ≡ first_of load rows → seed ≡ value_of rows given.seed → effort ≡ value_of rows given.effort → limits ≡ limits_of rows → max_input ≡ value_of rows given.max_input
+pub options_are : (rows : List Row) (file : Option (List ℕ)) (seed effort max_input : ℕ) (limits : Limits) → file ≡ first_of load rows → seed ≡ value_of rows given.seed
+    → effort ≡ value_of rows given.effort → limits ≡ limits_of rows → max_input ≡ value_of rows given.max_input
     → record { file = file; seed = seed; effort = effort; limits = limits; max_input = max_input } ≡ options_of rows
 options_are rows file seed effort max_input limits a b d e f =
     ap (λ x. record { file = x; seed = seed; effort = effort; limits = limits; max_input = max_input }) a

@@ -36,7 +36,8 @@ use Rattle.program_top.specs.declared.ending.Ending.{Ending}
 use Rattle.program_top.specs.declared.ending.Ending.TheVariants as endings
 
 -- an engine without a key that did the work of a plan holds the world of a server that was just begun
-begun_world : (moment : ℕ) (plan : Plan) (old new : Engine) (done : StepsDone) (seed : ℕ) (limits : Limits) → Begun seed limits old → EngineRests heap_blocks heap_slabs IsClassHeapStep moment plan old new done → world_of new ≡ new_world
+begun_world : (moment : ℕ) (plan : Plan) (old new : Engine) (done : StepsDone) (seed : ℕ) (limits : Limits) → Begun seed limits old
+    → EngineRests heap_blocks heap_slabs IsClassHeapStep moment plan old new done → world_of new ≡ new_world
 begun_world moment plan old new done seed limits b r =
     r.works.stays new.selected new.last (omega arith)
     ∙ ap (λ db. live (means db old.bases (heap_blocks old.store)) new.last) (r.selected ∙ b.new.selected)
@@ -44,10 +45,27 @@ begun_world moment plan old new done seed limits b r =
     ∙ new_live new.last
 
 -- a new engine is a first one, and one that was served more stays it
-pub first_new : (engine : Engine) (store : ClassHeap) (seed : ℕ) (limits : Limits) → heap_blocks store ≡ no_blocks → heap_slabs store ≡ no_slabs → engine.store ≡ store → engine.bases.seed ≡ seed → engine.bases.limits ≡ limits → engine.bases.turn ≡ 0 → engine.walk ≡ None → AreGrown engine.bases (heap_blocks engine.store) → HasNoKey heap_blocks engine → Sound engine.bases (heap_blocks engine.store) → IsFirst seed limits engine
-first_new engine store seed limits empty bare same is are turn walk grown none sound = record { seed_is = is; limits_are = are; turn_is = turn; walk_is = walk; grown = grown; form = none_new engine.bases (heap_blocks engine.store) sound.arranged none; sound = sound; store = store; empty = empty; bare = bare; served = subst (Served IsClassHeapStep store) (sym same) no_step }
+pub first_new : (engine : Engine) (store : ClassHeap) (seed : ℕ) (limits : Limits) → heap_blocks store ≡ no_blocks → heap_slabs store ≡ no_slabs → engine.store ≡ store
+    → engine.bases.seed ≡ seed → engine.bases.limits ≡ limits → engine.bases.turn ≡ 0 → engine.walk ≡ None → AreGrown engine.bases (heap_blocks engine.store) → HasNoKey heap_blocks engine
+    → Sound engine.bases (heap_blocks engine.store) → IsFirst seed limits engine
+first_new engine store seed limits empty bare same is are turn walk grown none sound =
+    record {
+      seed_is = is;
+      limits_are = are;
+      turn_is = turn;
+      walk_is = walk;
+      grown = grown;
+      form = none_new engine.bases (heap_blocks engine.store) sound.arranged none;
+      sound = sound;
+      store =
+          store;
+      empty = empty;
+      bare = bare;
+      served = subst (Served IsClassHeapStep store) (sym same) no_step;
+    }
 
-pub first_then : (old new : Engine) (seed : ℕ) (limits : Limits) → IsFirst seed limits old → Keeps heap_blocks old new → Served IsClassHeapStep old.store new.store → new.walk ≡ old.walk → (scope : Scope) → Within scope old.bases new.bases (heap_blocks old.store) (heap_blocks new.store) → AreNew new.bases (heap_blocks new.store) → IsFirst seed limits new
+pub first_then : (old new : Engine) (seed : ℕ) (limits : Limits) → IsFirst seed limits old → Keeps heap_blocks old new → Served IsClassHeapStep old.store new.store → new.walk ≡ old.walk
+    → (scope : Scope) → Within scope old.bases new.bases (heap_blocks old.store) (heap_blocks new.store) → AreNew new.bases (heap_blocks new.store) → IsFirst seed limits new
 first_then old new seed limits f keeps served walk scope within form = record {
   seed_is = keeps.settings.seed ∙ f.seed_is;
   limits_are = keeps.settings.limits ∙ f.limits_are;
@@ -63,7 +81,8 @@ first_then old new seed limits f keeps served walk scope within form = record {
 }
 
 -- the same of one that did the work of a plan of no step
-first_rests : (moment : ℕ) (plan : Plan) (old new : Engine) (done : StepsDone) (seed : ℕ) (limits : Limits) → plan.expire ≡ 0 → plan.rehash ≡ 0 → plan.defrag ≡ 0 → IsFirst seed limits old → EngineRests heap_blocks heap_slabs IsClassHeapStep moment plan old new done → IsFirst seed limits new
+first_rests : (moment : ℕ) (plan : Plan) (old new : Engine) (done : StepsDone) (seed : ℕ) (limits : Limits) → plan.expire ≡ 0 → plan.rehash ≡ 0 → plan.defrag ≡ 0 → IsFirst seed limits old
+    → EngineRests heap_blocks heap_slabs IsClassHeapStep moment plan old new done → IsFirst seed limits new
 first_rests moment plan old new done seed limits none unhashed still f r =
     let same = rests_none heap_blocks heap_slabs IsClassHeapStep moment plan old new done none unhashed still r in
     let s = rests_still heap_blocks heap_slabs IsClassHeapStep moment plan old new done none still r in
@@ -108,7 +127,8 @@ module _ (before after : HostSeen) (name : List ℕ) where
   host_by faults.Limit c = c
   host_by faults.Memory c = c
 
-  pub host_counts : (fault : LoadFault) (ending : Ending) → ending ≡ ending_by fault → Counts {A = Loaded} before.reading.faults after.reading.faults Sure (Err fault) → CountsHost before after name (is_host ending)
+  pub host_counts : (fault : LoadFault) (ending : Ending) → ending ≡ ending_by fault → Counts {A = Loaded} before.reading.faults after.reading.faults Sure (Err fault)
+      → CountsHost before after name (is_host ending)
   host_counts fault ending e c = subst (λ x. CountsHost before after name (is_host x)) (sym e) (host_by fault c)
 
 -- how far the file was taken
@@ -118,7 +138,8 @@ failed_by faults.Host = refl
 failed_by faults.Limit = refl
 failed_by faults.Memory = refl
 
-pub file_taken : (files : Files) (name : List ℕ) (limit : ℕ) (after : HostSeen) (fault : LoadFault) (ending : Ending) → ending ≡ ending_by fault → TakesFile files name limit after (has_failed {A = Loaded} (Err fault)) → TakesFile files name limit after (is_host ending)
+pub file_taken : (files : Files) (name : List ℕ) (limit : ℕ) (after : HostSeen) (fault : LoadFault) (ending : Ending) → ending ≡ ending_by fault
+    → TakesFile files name limit after (has_failed {A = Loaded} (Err fault)) → TakesFile files name limit after (is_host ending)
 file_taken files name limit after fault ending e t = subst (TakesFile files name limit after) (failed_by fault ∙ sym (ap is_host e)) t
 
 -- a host that isn't used
@@ -127,7 +148,8 @@ unused limit None host = (refl, refl)
 unused limit (Some name) host = (refl, inr (refl, refl))
 
 -- a host whose file is named, and taken
-pub uses_named : (limit : ℕ) (file : Option (List ℕ)) (name : List ℕ) (before after : HostSeen) (fails : Bool) → file ≡ Some name → CountsHost before after name fails → TakesFile before.files name limit after fails → UsesHost limit file before after fails
+pub uses_named : (limit : ℕ) (file : Option (List ℕ)) (name : List ℕ) (before after : HostSeen) (fails : Bool) → file ≡ Some name → CountsHost before after name fails
+    → TakesFile before.files name limit after fails → UsesHost limit file before after fails
 uses_named limit file name before after fails is counts t = let P : Option (List ℕ) → Type 0 = λ o. UsesHost limit o before after fails in subst P (sym is) (counts, inl t)
 
 -- memory wanted before the host was used
@@ -135,7 +157,13 @@ pub unused_memory : (limit : ℕ) (file : Option (List ℕ)) (host : HostSeen) (
 unused_memory limit file host ending is = subst (λ e. UsesHost limit file host host (is_host e)) (sym is) (unused limit file host)
 
 -- what begins without a file
-pub fresh_starts : (files : Files) (options : words.Options) (moment : ℕ) (plan : Plan) (old new : Engine) (done : StepsDone) → plan.expire ≡ 0 → plan.rehash ≡ 0 → plan.defrag ≡ 0 → options.file ≡ None → Begun options.seed options.limits old → EngineRests heap_blocks heap_slabs IsClassHeapStep moment plan old new done → Starts files (options_read options) moment (Ok new)
+pub fresh_starts : (files : Files) (options : words.Options) (moment : ℕ) (plan : Plan) (old new : Engine) (done : StepsDone) → plan.expire ≡ 0 → plan.rehash ≡ 0 → plan.defrag ≡ 0
+    → options.file ≡ None → Begun options.seed options.limits old → EngineRests heap_blocks heap_slabs IsClassHeapStep moment plan old new done
+    → Starts files (options_read options) moment (Ok new)
 fresh_starts files options moment plan old new done none unhashed still unnamed b r =
-    let P : Option (List ℕ) → Type 0 = λ o. BeginsWith files options.max_input o moment (world_of new) in
-    (subst P (ap (λ file. (options_read (record options { file = file })).file) (sym unnamed)) (begun_world moment plan old new done options.seed options.limits b r), first_rests moment plan old new done options.seed options.limits none unhashed still b.first r, last_is old.last new.last moment b.new.last r.last)
+    let P : Option (List ℕ) → Type 0 = λ o. BeginsWith files options.max_input o moment (world_of new) in (
+      subst P (ap (λ file. (options_read (record options { file = file })).file) (sym unnamed)) (begun_world moment plan old new done options.seed options.limits b r),
+      first_rests moment
+          plan old new done options.seed options.limits none unhashed still b.first r,
+      last_is old.last new.last moment b.new.last r.last,
+    )

@@ -24,7 +24,8 @@ use Rattle.program_top.specs.Notes.{Notes, refused_line, line_of}
 use Rattle.program_top.specs.Running.{Fails, RunsOptions, begun, not_begun, RunsOf, RunsWords, read, unread}
 use Rattle.program_top.specs.Starting.{Standing, IsLoaded, BeginsWith, Begins, NotLoaded, NotBegun, UsesHost, is_host}
 use Rattle.program_top.specs.Statuses.{status_of, ending_of}
-use Rattle.program_top.specs.Headline.{may_answer, standing_clock, Concludes, NoHostFault, NoOutputFault, CountsFaults, NotesStatus, IsTold, IsAbsent, AtFirst, CanBegin, Excused, HostStops, IsRefused, Exactly, NoLinesFault, Completes, RoseAt}
+use Rattle.program_top.specs.Headline.{may_answer, standing_clock, Concludes, NoHostFault, NoOutputFault, CountsFaults, NotesStatus, IsTold, IsAbsent, AtFirst, CanBegin, Excused}
+use Rattle.program_top.specs.Headline.{HostStops, IsRefused, Exactly, NoLinesFault, Completes, RoseAt}
 use Rattle.program_top.specs.Stepped.{StepsStatus}
 use Rattle.program_top.specs.TopAnswers.{TopAnswers}
 use Rattle.program_top.specs.declared.ending.Ending.{Ending}
@@ -56,7 +57,8 @@ not_both a b moment world what at e file fault = let P : List ℕ → Type 0 = �
 
 module _ (files : Files) (limit : ℕ) (name : List ℕ) (moment : ℕ) where
   -- where a file that can be loaded isn't loaded the host failed or memory wanted
-  loadable_excused : (bytes : List ℕ) (world : World) → IsTold files name bytes → length bytes ≤ limit → IsFile bytes moment world → (ending : Ending) → NotLoaded files limit name moment ending → Excused (status_of ending)
+  loadable_excused : (bytes : List ℕ) (world : World) → IsTold files name bytes → length bytes ≤ limit → IsFile bytes moment world → (ending : Ending)
+      → NotLoaded files limit name moment ending → Excused (status_of ending)
   loadable_excused bytes world t few file endings.Host n = inl refl
   loadable_excused bytes world t few file (endings.Refused what at) n = absurd (not_both bytes n.bytes moment world what at (sym (told_file files name bytes n.bytes t n.is)) file n.fault)
   loadable_excused bytes world t few file endings.Limit n = absurd (omega (arith, ap length (told_file files name bytes n.bytes t n.is), few, n.long))
@@ -84,7 +86,8 @@ module _ (files : Files) (limit : ℕ) (name : List ℕ) (moment : ℕ) where
   absent_excused none endings.WriteFault n = absurd n
 
   -- a file longer than the limit that isn't loaded gives status 9, unless the host failed or memory wanted
-  long_ends : (bytes : List ℕ) → IsTold files name bytes → limit < length bytes → (ending : Ending) → NotLoaded files limit name moment ending → (status_of ending ≡ 9) ⊎ ((status_of ending ≡ 8) ⊎ (status_of ending ≡ 6))
+  long_ends : (bytes : List ℕ) → IsTold files name bytes → limit < length bytes → (ending : Ending) → NotLoaded files limit name moment ending → (status_of ending ≡ 9)
+      ⊎ ((status_of ending ≡ 8) ⊎ (status_of ending ≡ 6))
   long_ends bytes t long endings.Host n = inr (inr refl)
   long_ends bytes t long (endings.Refused what at) n = absurd (omega (arith, ap length (told_file files name bytes n.bytes t n.is), n.few))
   long_ends bytes t long endings.Limit n = inl refl
@@ -108,7 +111,8 @@ module _ (files : Files) (limit : ℕ) (name : List ℕ) (moment : ℕ) where
         subst Q one.1 (subst P one.0 h)
 
     -- a file within the limit with a fault gives status 7 and its line, unless the host failed or memory wanted
-    refused_ends : (bytes : List ℕ) (what : LoadKind) (at : ℕ) → IsTold files name bytes → length bytes ≤ limit → IsFault bytes moment what at → (ending : Ending) → NotLoaded files limit name moment ending → Notes noted noted' (line_of ending)
+    refused_ends : (bytes : List ℕ) (what : LoadKind) (at : ℕ) → IsTold files name bytes → length bytes ≤ limit → IsFault bytes moment what at → (ending : Ending)
+        → NotLoaded files limit name moment ending → Notes noted noted' (line_of ending)
         → Excused (status_of ending) ⊎ ((status_of ending ≡ 7) × Notes noted noted' (refused_line what at))
     refused_ends bytes what at t few fault endings.Host n w = inl (inl refl)
     refused_ends bytes what at t few fault (endings.Refused k m) n w = inr (refl, line_is n.bytes bytes k what m at (told_file files name bytes n.bytes t n.is) n.fault fault w)
@@ -178,10 +182,12 @@ module _ (before after : Outside) (ending : Ending) (line : Notes before.notes a
       subst P (sym is) (record {
         read = reads_at before.input after.input ended s.reads;
         write = writes_at before.output after.output ended s.writes;
-        host = stayed 6 (status_of (ending_of ended)) before.host.reading.faults after.host.reading.faults (not_served ended 6 refl) (host_same options.max_input before.host after.host options.file false host refl);
+        host = stayed 6 (status_of (ending_of ended)) before.host.reading.faults after.host.reading.faults (not_served ended 6 refl)
+            (host_same options.max_input before.host after.host options.file false host refl);
         sure_read = reads_surely before.input after.input ended s.reads;
         sure_host = λ other name e f sure listed six. not_served ended 6 refl six;
-        no_file = λ none. let H : Option (List ℕ) → Type 0 = λ o. UsesHost options.max_input o before.host after.host false in host_alone options.max_input before.host after.host false (subst H none host);
+        no_file = λ none. let H : Option (List ℕ) → Type 0 = λ o. UsesHost options.max_input o before.host after.host false in
+            host_alone options.max_input before.host after.host false (subst H none host);
       })
   run_counts options (not_begun f) = record {
     read = stayed 4 (status_of ending) before.input.faults after.input.faults (fails_read options f 4 (omega arith)) (ap (λ i. i.faults) f.input);
@@ -192,11 +198,13 @@ module _ (before after : Outside) (ending : Ending) (line : Notes before.notes a
         let same : options ≡ other = cc in
         let H : Option (List ℕ) → Type 0 = λ o. UsesHost options.max_input o before.host after.host (is_host ending) in
         host_surely options.max_input before.host after.host name (is_host ending) (subst H (ap (λ o. o.file) same ∙ is) f.host) sure listed (six_is_host ending six);
-    no_file = λ none. let H : Option (List ℕ) → Type 0 = λ o. UsesHost options.max_input o before.host after.host (is_host ending) in host_alone options.max_input before.host after.host (is_host ending) (subst H none f.host);
+    no_file = λ none. let H : Option (List ℕ) → Type 0 = λ o. UsesHost options.max_input o before.host after.host (is_host ending) in
+        host_alone options.max_input before.host after.host (is_host ending) (subst H none f.host);
   }
 
   -- nothing was touched, and the status is none that counts
-  untouched_counts : (given : Given) → (status_of ending ≡ 4 → ⊥) → (status_of ending ≡ 5 → ⊥) → (status_of ending ≡ 6 → ⊥) → LeavesAll before after → CountsFaults given before after (status_of ending)
+  untouched_counts : (given : Given) → (status_of ending ≡ 4 → ⊥) → (status_of ending ≡ 5 → ⊥) → (status_of ending ≡ 6 → ⊥) → LeavesAll before after
+      → CountsFaults given before after (status_of ending)
   untouched_counts given four five six same = record {
     read = stayed 4 (status_of ending) before.input.faults after.input.faults four (ap (λ o. o.input.faults) same);
     write = stayed 5 (status_of ending) before.output.faults after.output.faults five (ap (λ o. o.output.faults) same);
@@ -275,12 +283,26 @@ module _ (before after : Outside) (ending : Ending) (line : Notes before.notes a
       refused_ends before.host.files options.max_input name f.moment before.notes after.notes bytes what at t few (fault f.moment after.clock f.read) ending (not_loaded_as options name file f) line
 
   -- the file that a refusal is of
-  refusal : (options : Options) (f : Fails options before after ending) (file : Option (List ℕ)) → options.file ≡ file → NotBegun before.host.files options.max_input file f.moment ending → (e : Ending) → ending ≡ e → status_of e ≡ 7 → IsRefused (Run options) before after
+  refusal : (options : Options) (f : Fails options before after ending) (file : Option (List ℕ)) → options.file ≡ file → NotBegun before.host.files options.max_input file f.moment ending
+      → (e : Ending) → ending ≡ e → status_of e ≡ 7 → IsRefused (Run options) before after
   refusal options f None is n e same seven = absurd (omega (arith, ap status_of (sym n ∙ same), seven))
   refusal options f (Some name) is n (endings.Refused what at) same seven =
       let N : Ending → Type 0 = λ x. NotLoaded before.host.files options.max_input name f.moment x in
       let L : Ending → Type 0 = λ x. Notes before.notes after.notes (line_of x) in
-      record { options = options; name = name; given_is = refl; file_is = is; what = what; at = at; moment = f.moment; clock = after.clock; read = f.read; refused = subst N same n; line = subst L same line }
+      record {
+        options = options;
+        name = name;
+        given_is = refl;
+        file_is = is;
+        what = what;
+        at = at;
+        moment = f.moment;
+        clock = after.clock;
+        read = f.read;
+        refused = subst N same n;
+        line =
+            subst L same line;
+      }
   refusal options f (Some name) is n endings.Host same seven = absurd (omega (arith, seven))
   refusal options f (Some name) is n endings.Limit same seven = absurd (omega (arith, seven))
   refusal options f (Some name) is n endings.Memory same seven = absurd (omega (arith, seven))
@@ -300,14 +322,17 @@ module _ (before after : Outside) (ending : Ending) (line : Notes before.notes a
   refused_alone (Generate n options) w e = absurd (not_lines n options w 7 (λ e. omega (arith, e)) (λ e. omega (arith, e)) (λ e. omega (arith, e)) e)
 
   -- a file of more bytes than the limit ends the run with status 9, unless memory wanted or the host failed before
-  long : (options : Options) → Ran options → (name bytes : List ℕ) → options.file ≡ Some name → IsTold before.host.files name bytes → options.max_input < length bytes → (status_of ending ≡ 9) ⊎ ((status_of ending ≡ 8) ⊎ HostStops before after options.max_input name (status_of ending))
-  long options (begun first last ended b host s reads is) name bytes file t h = let l = loaded_as options name first file b in absurd (omega (arith, ap length (told_file before.host.files name bytes l.bytes t l.is), l.few, h))
+  long : (options : Options) → Ran options → (name bytes : List ℕ) → options.file ≡ Some name → IsTold before.host.files name bytes → options.max_input < length bytes
+      → (status_of ending ≡ 9) ⊎ ((status_of ending ≡ 8) ⊎ HostStops before after options.max_input name (status_of ending))
+  long options (begun first last ended b host s reads is) name bytes file t h = let l = loaded_as options name first file b in
+      absurd (omega (arith, ap length (told_file before.host.files name bytes l.bytes t l.is), l.few, h))
   long options (not_begun f) name bytes file t h = by (long_ends before.host.files options.max_input name f.moment bytes t h ending (not_loaded_as options name file f))
     where
       used : UsesHost options.max_input (Some name) before.host after.host (is_host ending)
       used = let H : Option (List ℕ) → Type 0 = λ o. UsesHost options.max_input o before.host after.host (is_host ending) in subst H file f.host
 
-      by : (status_of ending ≡ 9) ⊎ ((status_of ending ≡ 8) ⊎ (status_of ending ≡ 6)) → (status_of ending ≡ 9) ⊎ ((status_of ending ≡ 8) ⊎ HostStops before after options.max_input name (status_of ending))
+      by : (status_of ending ≡ 9) ⊎ ((status_of ending ≡ 8) ⊎ (status_of ending ≡ 6)) → (status_of ending ≡ 9)
+          ⊎ ((status_of ending ≡ 8) ⊎ HostStops before after options.max_input name (status_of ending))
       by (inl nine) = inl nine
       by (inr (inl eight)) = inr (inl eight)
       by (inr (inr six)) = inr (inr (six, host_stops options.max_input before.host after.host name (is_host ending) used (six_is_host ending six)))
@@ -318,15 +343,23 @@ module _ (before after : Outside) (ending : Ending) (line : Notes before.notes a
   absent options (not_begun f) name file none = absent_excused before.host.files options.max_input name f.moment none ending (not_loaded_as options name file f)
 
   -- a run that could begin
-  could_begin : (options : Options) (f : Fails options before after ending) (file : Option (List ℕ)) → CanBegin before options file → NotBegun before.host.files options.max_input file f.moment ending → Excused (status_of ending)
+  could_begin : (options : Options) (f : Fails options before after ending) (file : Option (List ℕ)) → CanBegin before options file
+      → NotBegun before.host.files options.max_input file f.moment ending → Excused (status_of ending)
   could_begin options f None can n = inr (ap status_of n)
   could_begin options f (Some name) can n =
       let file = can.file f.moment after.clock f.read in
       loadable_excused before.host.files options.max_input name f.moment can.bytes file.0 can.is can.few file.1 ending n
 
   -- a run that can begin ends as its input does, unless the host failed or memory wanted
-  served : (options : Options) → Ran options → CanBegin before options options.file → Excused (status_of ending) ⊎ ((ended : Ended) × (status_of ending ≡ status_of (ending_of ended)) × exactly.ServesExactly asks_to_quit options.max_input before.input after.input ended)
-  served options (begun first last ended b host s reads is) can = inr (ended, ap status_of is, ends_exactly (may_answer options first) (may_answer options first) asks_to_quit options.max_input before.input after.input before.output after.output last ended s)
+  served : (options : Options) → Ran options → CanBegin before options options.file → Excused (status_of ending)
+      ⊎ ((ended : Ended) × (status_of ending ≡ status_of (ending_of ended)) × exactly.ServesExactly asks_to_quit options.max_input before.input after.input ended)
+  served options (begun first last ended b host s reads is) can =
+      inr (
+        ended,
+        ap status_of is,
+        ends_exactly (may_answer options first) (may_answer options first) asks_to_quit options.max_input before.input after.input before.output after.output last
+            ended s,
+      )
   served options (not_begun f) can = inl (could_begin options f options.file can f.why)
 
   -- each status of a run whose words were read comes exactly when it is due
@@ -367,7 +400,8 @@ module _ (before after : Outside) (ending : Ending) (line : Notes before.notes a
   whole_status ended (wholes.no_memory is) = inr (ap (λ e. status_of (ending_of e)) is)
 
   -- the host did not fail
-  no_host_fault : (options : Options) (f : Fails options before after ending) (file : Option (List ℕ)) → options.file ≡ file → CanBegin before options file → NotBegun before.host.files options.max_input file f.moment ending → NoHostFault file before after → status_of ending ≡ 6 → ⊥
+  no_host_fault : (options : Options) (f : Fails options before after ending) (file : Option (List ℕ)) → options.file ≡ file → CanBegin before options file
+      → NotBegun before.host.files options.max_input file f.moment ending → NoHostFault file before after → status_of ending ≡ 6 → ⊥
   no_host_fault options f None is can n none six = omega (arith, ap status_of n, six)
   no_host_fault options f (Some name) is can n none six =
       let counts = run_counts options (not_begun f) in
@@ -382,16 +416,19 @@ module _ (before after : Outside) (ending : Ending) (line : Notes before.notes a
   excused_whole (inr eight) not = inr eight
 
   -- where the output has no fault no put fails from the first state on
-  no_put_fault : (options : Options) (first : Standing) → Begins options before first → (asked : List Words) → NoOutputFault options before after asked → NoWriteFault (may_answer options first) asks_to_quit asked before.output after.output
+  no_put_fault : (options : Options) (first : Standing) → Begins options before first → (asked : List Words) → NoOutputFault options before after asked
+      → NoWriteFault (may_answer options first) asks_to_quit asked before.output after.output
   no_put_fault options first b asked (inl fit) = inl (fit first b)
   no_put_fault options first b asked (inr none) = inr none
 
   -- a run with options completes where nothing fails: its status is 0, or 8 where memory wanted
-  run_completes : (options : Options) → Ran options → (bytes : List ℕ) (asked : List Words) (end : End) → CanBegin before options options.file → before.input.told ≡ Some bytes → Frames bytes asked end → EndsWell asks_to_quit asked end → length bytes < options.max_input
+  run_completes : (options : Options) → Ran options → (bytes : List ℕ) (asked : List Words) (end : End) → CanBegin before options options.file → before.input.told ≡ Some bytes
+      → Frames bytes asked end → EndsWell asks_to_quit asked end → length bytes < options.max_input
       → NoHostFault options.file before after → NoReadFault before.input after.input → NoOutputFault options before after asked → (status_of ending ≡ 0) ⊎ (status_of ending ≡ 8)
   run_completes options (begun first last ended b host s reads is) bytes asked end can told frames well few no_host no_read no_write =
       let P : Ending → Type 0 = λ e. (status_of e ≡ 0) ⊎ (status_of e ≡ 8) in
-      let whole = completes (may_answer options first) (may_answer options first) asks_to_quit options.max_input before.input after.input before.output after.output last ended s bytes asked end told frames well few no_read (no_put_fault options first b asked no_write) in
+      let whole = completes (may_answer options first) (may_answer options first) asks_to_quit options.max_input before.input after.input before.output after.output last ended s bytes
+      asked end told frames well few no_read (no_put_fault options first b asked no_write) in
       subst P (sym is) (whole_status ended whole)
   run_completes options (not_begun f) bytes asked end can told frames well few no_host no_read no_write =
       excused_whole (could_begin options f options.file can f.why) (no_host_fault options f options.file refl can f.why no_host)
@@ -407,7 +444,8 @@ module _ (before after : Outside) (ending : Ending) (line : Notes before.notes a
   -- a run with what was given completes where nothing fails, unless memory wanted
   completes_of : (given : Given) → RanOf given → Completes given before after (status_of ending)
   completes_of given r = record {
-    served = λ options bytes asked end e can told frames well few no_host no_read no_write. run_completes options (ran_as given options r e) bytes asked end can told frames well few no_host no_read no_write;
+    served = λ options bytes asked end e can told frames well few no_host no_read no_write. run_completes options (ran_as given options r e) bytes asked end can told frames well few
+        no_host no_read no_write;
     generated = λ n options e fits. lines_complete n options (wrote_as given n options r e) fits;
   }
 

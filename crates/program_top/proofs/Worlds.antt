@@ -47,7 +47,8 @@ record Turned (first : Timed Engine) (words : Words) (reply : List Part) (next :
   alive : next.engine.is_spent ≡ false
 
 -- a request that is answered at the moment that the clock tells is one turn
-answered_turn : (moment : ℕ) (first : Timed Engine) (words : Words) (reply : List Part) (next : Timed Engine) → TimedReply (Executes heap_blocks heap_slabs IsClassHeapStep) works asks_to_quit moment first words reply next → Turned first words reply next
+answered_turn : (moment : ℕ) (first : Timed Engine) (words : Words) (reply : List Part) (next : Timed Engine)
+    → TimedReply (Executes heap_blocks heap_slabs IsClassHeapStep) works asks_to_quit moment first words reply next → Turned first words reply next
 answered_turn moment first words reply next a = record {
   now = a.read.now;
   read = a.read.read;
@@ -58,7 +59,8 @@ answered_turn moment first words reply next a = record {
 }
 
 -- a turn stays one where what is planned is done behind it, or the request ends the run
-rested_turn : (ends : Bool) (moment : ℕ) (first : Timed Engine) (words : Words) (reply : List Part) (mid next : Timed Engine) → mid.engine.last ≡ max first.engine.last moment → Turned first words reply mid → timed.Rests (Executes heap_blocks heap_slabs IsClassHeapStep) works asks_to_quit ends moment mid next → Turned first words reply next
+rested_turn : (ends : Bool) (moment : ℕ) (first : Timed Engine) (words : Words) (reply : List Part) (mid next : Timed Engine) → mid.engine.last ≡ max first.engine.last moment
+    → Turned first words reply mid → timed.Rests (Executes heap_blocks heap_slabs IsClassHeapStep) works asks_to_quit ends moment mid next → Turned first words reply next
 rested_turn true moment first words reply mid next later t same = subst (Turned first words reply) (sym same) t
 rested_turn false moment first words reply mid next later t w =
     let r = w.0.done.1 in
@@ -85,7 +87,8 @@ path_turned (words ∷ asked) [] first last p = absurd p
 path_turned (words ∷ asked) (reply ∷ replies) first last p = (p.0, step_turn first words reply p.0 p.1, path_turned asked replies p.0 last p.2)
 
 -- a way of turns and one more turn behind it are a way of turns
-one_more : (asked : List Words) (replies : List (List Part)) (first mid last : Timed Engine) (words : Words) (reply : List Part) → path Turned first asked replies mid → Turned mid words reply last → path Turned first (asked ++ words ∷ []) (replies ++ reply ∷ []) last
+one_more : (asked : List Words) (replies : List (List Part)) (first mid last : Timed Engine) (words : Words) (reply : List Part) → path Turned first asked replies mid
+    → Turned mid words reply last → path Turned first (asked ++ words ∷ []) (replies ++ reply ∷ []) last
 one_more [] [] first mid last words reply p t = (last, subst (λ e. Turned e words reply last) p t, refl)
 one_more [] (r ∷ replies) first mid last words reply p t = absurd p
 one_more (w ∷ asked) [] first mid last words reply p t = absurd p
@@ -96,7 +99,8 @@ cut_turned : (asked : List Words) (replies : List (List Part)) (first last : Tim
 cut_turned asked replies first last (whole p) = path_turned asked replies first last p
 cut_turned asked replies first last (at_last others words front reply mid is are p c) =
     subst (λ l. path Turned first l replies last) (sym is)
-    (subst (λ l. path Turned first (others ++ words ∷ []) l last) (sym are) (one_more others front first mid last words reply (path_turned others front first mid p) (answered_turn c.moment mid words reply last c.answered)))
+    (subst (λ l. path Turned first (others ++ words ∷ []) l last) (sym are)
+    (one_more others front first mid last words reply (path_turned others front first mid p) (answered_turn c.moment mid words reply last c.answered)))
 
 -- the turns as those of the model
 record Turns (seed : ℕ) (first : Standing) (asked : List Words) (replies : List (List Part)) (last : Standing) : Type 0 where
@@ -106,7 +110,8 @@ record Turns (seed : ℕ) (first : Standing) (asked : List Words) (replies : Lis
   ran : run seed first.world turns last.world
 
 -- a way of turns is a run of the model on what the engine holds
-turned_turns : (seed : ℕ) (asked : List Words) (replies : List (List Part)) (first last : Timed Engine) → first.engine.bases.seed ≡ seed → path Turned first asked replies last → Turns seed (standing_of first) asked replies (standing_of last)
+turned_turns : (seed : ℕ) (asked : List Words) (replies : List (List Part)) (first last : Timed Engine) → first.engine.bases.seed ≡ seed → path Turned first asked replies last
+    → Turns seed (standing_of first) asked replies (standing_of last)
 turned_turns seed [] [] first last same p = record {
   turns = [];
   clocked = (ap (λ t. t.engine.last) p, ap (λ t. t.clock) p);
@@ -126,17 +131,20 @@ turned_turns seed (words ∷ asked) (reply ∷ replies) first last same p =
     }
 
 -- a plain map may answer the requests by the replies of a way of turns
-turned_answers : (seed : ℕ) (asked : List Words) (replies : List (List Part)) (first last : Timed Engine) → first.engine.bases.seed ≡ seed → path Turned first asked replies last → MayAnswer seed (standing_of first) asked replies (standing_of last)
+turned_answers : (seed : ℕ) (asked : List Words) (replies : List (List Part)) (first last : Timed Engine) → first.engine.bases.seed ≡ seed → path Turned first asked replies last
+    → MayAnswer seed (standing_of first) asked replies (standing_of last)
 turned_answers seed asked replies first last same p =
     let t = turned_turns seed asked replies first last same p in
     record { turns = t.turns; clocked = t.clocked; are = t.are; ran = t.ran; covered = runs_covered seed (world_of first.engine) t.turns (world_of last.engine) t.ran }
 
 -- a plain map may answer the requests by the replies of an engine's way
-pub path_answers : (seed : ℕ) (asked : List Words) (replies : List (List Part)) (first last : Timed Engine) → first.engine.bases.seed ≡ seed → path Steps first asked replies last → MayAnswer seed (standing_of first) asked replies (standing_of last)
+pub path_answers : (seed : ℕ) (asked : List Words) (replies : List (List Part)) (first last : Timed Engine) → first.engine.bases.seed ≡ seed → path Steps first asked replies last
+    → MayAnswer seed (standing_of first) asked replies (standing_of last)
 path_answers seed asked replies first last same p = turned_answers seed asked replies first last same (path_turned asked replies first last p)
 
 -- a plain map may answer the requests by the replies of a way, also where its last step was cut off
-pub cut_answers : (seed : ℕ) (asked : List Words) (replies : List (List Part)) (first last : Timed Engine) → first.engine.bases.seed ≡ seed → CutPath Steps StepsLast first asked replies last → MayAnswer seed (standing_of first) asked replies (standing_of last)
+pub cut_answers : (seed : ℕ) (asked : List Words) (replies : List (List Part)) (first last : Timed Engine) → first.engine.bases.seed ≡ seed
+    → CutPath Steps StepsLast first asked replies last → MayAnswer seed (standing_of first) asked replies (standing_of last)
 cut_answers seed asked replies first last same p = turned_answers seed asked replies first last same (cut_turned asked replies first last p)
 
 -- a clock that was read no more
@@ -151,27 +159,33 @@ reads_none served.Memory clock = tt
 reads_none served.WriteFault clock = refl
 
 -- a run of the engine is one of its worlds
-pub run_seen : (options : Options) (before after : Outside) (ending : Ending) → RunsOptions BeginsEngine goes goes_cut engine_clock options before after ending → RunsOptions Begins may_answer may_answer standing_clock options before after ending
+pub run_seen : (options : Options) (before after : Outside) (ending : Ending) → RunsOptions BeginsEngine goes goes_cut engine_clock options before after ending
+    → RunsOptions Begins may_answer may_answer standing_clock options before after ending
 run_seen options before after ending (begun first last ended b host s reads is) =
-    let seen = served_as (goes options first) (goes_cut options first) (may_answer options (standing_of first)) (may_answer options (standing_of first)) asks_to_quit standing_of (λ asked replies last p. path_answers options.seed asked replies first last b.is.seed_is p)
+    let seen = served_as (goes options first) (goes_cut options first) (may_answer options (standing_of first)) (may_answer options (standing_of first)) asks_to_quit standing_of
+    (λ asked replies last p. path_answers options.seed asked replies first last b.is.seed_is p)
     (λ asked replies last p. cut_answers options.seed asked replies first last b.is.seed_is p) options.max_input before.input after.input before.output after.output last ended s in
     running.begun (standing_of first) (standing_of last) ended b.begins host seen reads is
 run_seen options before after ending (not_begun f) = running.not_begun f
 
 -- what is given runs on the engine's worlds as it runs on the engine, wrong words too
-pub run_of_seen : (given : Given) (before after : Outside) (ending : Ending) → RunsEngine given before after ending → RunsOf Begins may_answer may_answer standing_clock may_generate given before after ending
+pub run_of_seen : (given : Given) (before after : Outside) (ending : Ending) → RunsEngine given before after ending
+    → RunsOf Begins may_answer may_answer standing_clock may_generate given before after ending
 run_of_seen Wrong before after ending r = r
 run_of_seen (Run options) before after ending r = run_seen options before after ending r
 run_of_seen (Generate n options) before after ending r = record { wrote = writes_seen options n before.pacers before.output after.output ending r.wrote; others = r.others }
 
 -- a run of the engine is one of its worlds, also where memory wanted before the words were read
-pub run_words_seen : (given : Given) (before after : Outside) (ending : Ending) → RunsWords BeginsEngine goes goes_cut engine_clock GeneratesOn given before after ending → RunsWords Begins may_answer may_answer standing_clock may_generate given before after ending
+pub run_words_seen : (given : Given) (before after : Outside) (ending : Ending) → RunsWords BeginsEngine goes goes_cut engine_clock GeneratesOn given before after ending
+    → RunsWords Begins may_answer may_answer standing_clock may_generate given before after ending
 run_words_seen given before after ending (running.read r) = running.read (run_of_seen given before after ending r)
 run_words_seen given before after ending (unread same is) = running.unread same is
 
 -- an engine begins the run, at the moment that was read
-pub begins_engine : (options : Options) (before : Outside) (engine : Engine) (clock : Option Answers) (moment : ℕ) (paced : List PacerSeen) → ReadsMoment before.clock clock moment → BeginsWith before.host.files options.max_input options.file moment (world_of engine)
-    → IsFirst options.seed options.limits engine → engine.last ≡ moment → paced ≡ map (λ p. tuned p options.effort) before.pacers → BeginsEngine options before (record { engine = engine; clock = clock; pacers = paced })
+pub begins_engine : (options : Options) (before : Outside) (engine : Engine) (clock : Option Answers) (moment : ℕ) (paced : List PacerSeen) → ReadsMoment before.clock clock moment
+    → BeginsWith before.host.files options.max_input options.file moment (world_of engine)
+    → IsFirst options.seed options.limits engine → engine.last ≡ moment → paced ≡ map (λ p. tuned p options.effort) before.pacers
+    → BeginsEngine options before (record { engine = engine; clock = clock; pacers = paced })
 begins_engine options before engine clock moment paced read world first last is =
     let W : ℕ → Type 0 = λ m. BeginsWith before.host.files options.max_input options.file m (world_of engine) in
     record { begins = record { moment = subst (ReadsMoment before.clock clock) (sym last) read; world = subst W (sym last) world }; is = first; paced = is }
@@ -186,11 +200,13 @@ pub finishes_as : (given read : Given) (before after : Outside) (ending : Ending
 finishes_as given read before after ending e f = let P : Given → Type 0 = λ g. RunsNoted g before after ending in subst P (sym e) f
 
 -- a run with the options that were read is one of what was given
-pub run_read : (given : words.Given) (options : words_options.Options) (before after : Outside) (ending : Ending) → given ≡ read.Run options → RunsNoted (Run (options_read options)) before after ending → RunsNoted (given_read given) before after ending
+pub run_read : (given : words.Given) (options : words_options.Options) (before after : Outside) (ending : Ending) → given ≡ read.Run options
+    → RunsNoted (Run (options_read options)) before after ending → RunsNoted (given_read given) before after ending
 run_read given options before after ending e f = let P : words.Given → Type 0 = λ g. RunsNoted (given_read g) before after ending in subst P (sym e) f
 
 -- generated commands with the options that were read are those of what was given
-pub generate_read : (given : words.Given) (n : ℕ) (options : words_options.Options) (before after : Outside) (ending : Ending) → given ≡ read.Generate n options → RunsNoted (Generate n (options_read options)) before after ending → RunsNoted (given_read given) before after ending
+pub generate_read : (given : words.Given) (n : ℕ) (options : words_options.Options) (before after : Outside) (ending : Ending) → given ≡ read.Generate n options
+    → RunsNoted (Generate n (options_read options)) before after ending → RunsNoted (given_read given) before after ending
 generate_read given n options before after ending e f = let P : words.Given → Type 0 = λ g. RunsNoted (given_read g) before after ending in subst P (sym e) f
 
 -- ---- an engine that is lent
@@ -207,7 +223,8 @@ module _ (limit : ℕ) (before after : Streams) (first last : Timed Engine) (end
   lent_answers : AnswersLent limit before after first last ended
   lent_answers =
       let seed = first.engine.bases.seed in
-      served_as (path Steps first) (CutPath Steps StepsLast first) (MayAnswer seed (standing_of first)) (MayAnswer seed (standing_of first)) asks_to_quit standing_of (λ asked replies last p. path_answers seed asked replies first last refl p)
+      served_as (path Steps first) (CutPath Steps StepsLast first) (MayAnswer seed (standing_of first)) (MayAnswer seed (standing_of first)) asks_to_quit standing_of
+      (λ asked replies last p. path_answers seed asked replies first last refl p)
       (λ asked replies last p. cut_answers seed asked replies first last refl p) limit before.input after.input before.output after.output last ended goes
 
   -- it is spent only where memory wanted
@@ -223,7 +240,8 @@ module _ (limit : ℕ) (before after : Streams) (first last : Timed Engine) (end
       still asked replies p = let no : true ≡ false = sym spent ∙ turned_alive asked replies first last alive p in cc
 
   -- what `serve` answers of an engine that wasn't spent, where the notes have the line of the end
-  pub lent : (ending : Ending) (status : ℕ) → Notes before.notes after.notes (line_of (ending_of ended)) → first.engine.is_spent ≡ false → ending ≡ ending_of ended → status ≡ status_of ending → Lent limit before after first last status
+  pub lent : (ending : Ending) (status : ℕ) → Notes before.notes after.notes (line_of (ending_of ended)) → first.engine.is_spent ≡ false → ending ≡ ending_of ended
+      → status ≡ status_of ending → Lent limit before after first last status
   lent ending status line alive is of = record {
     ended = ended;
     is = of ∙ ap status_of is;

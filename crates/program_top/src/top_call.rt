@@ -31,7 +31,15 @@ fn run<H: Host, I: Source, O: Sink, N: Sink>(
 ) -> Ending
     requires limits { AreInRange options.limits }
     requires limit { options.max_input ≤ 2 ^ 62 }
-    ensures { let before : Outside = record { host = H.seen host.old; input = I.seen input.old; output = O.seen output.old; notes = N.seen notes.old; clock = answers clock.old; pacers = map (λ b. (⟦<dyn Pacer as Pacer>⟧ b.vtable).pacing b.value) pacers.items } in
+    ensures { let before : Outside = record {
+      host = H.seen host.old;
+      input = I.seen input.old;
+      output = O.seen output.old;
+      notes = N.seen notes.old;
+      clock = answers clock.old;
+      pacers =
+          map (λ b. (⟦<dyn Pacer as Pacer>⟧ b.vtable).pacing b.value) pacers.items;
+    } in
         let after : Outside = record { host = H.seen host.new; input = I.seen input.new; output = O.seen output.new; notes = N.seen notes.new; clock = answers clock.new; pacers = [] } in
         RunsNoted (Run (options_read options.entry)) before after result }
 {
@@ -69,7 +77,15 @@ pub fn run_given<H: Host, I: Source, O: Sink, N: Sink>(
     pacers: Vec<Box<dyn Pacer>>,
 ) -> Ending
     requires { AreTaken given }
-    ensures { let before : Outside = record { host = H.seen host.old; input = I.seen input.old; output = O.seen output.old; notes = N.seen notes.old; clock = answers clock.old; pacers = map (λ b. (⟦<dyn Pacer as Pacer>⟧ b.vtable).pacing b.value) pacers.items } in
+    ensures { let before : Outside = record {
+      host = H.seen host.old;
+      input = I.seen input.old;
+      output = O.seen output.old;
+      notes = N.seen notes.old;
+      clock = answers clock.old;
+      pacers =
+          map (λ b. (⟦<dyn Pacer as Pacer>⟧ b.vtable).pacing b.value) pacers.items;
+    } in
         let after : Outside = record { host = H.seen host.new; input = I.seen input.new; output = O.seen output.new; notes = N.seen notes.new; clock = answers clock.new; pacers = [] } in
         RunsNoted (given_read given.entry) before after result }
 {
@@ -112,7 +128,15 @@ pub fn redis_core<H: Host, I: Source, O: Sink, N: Sink>(
     clock: &mut Box<dyn Clock>,
     pacers: Vec<Box<dyn Pacer>>,
 ) -> u8
-    ensures { let before : Outside = record { host = H.seen host.old; input = I.seen input.old; output = O.seen output.old; notes = N.seen notes.old; clock = answers clock.old; pacers = map (λ b. (⟦<dyn Pacer as Pacer>⟧ b.vtable).pacing b.value) pacers.items } in
+    ensures { let before : Outside = record {
+      host = H.seen host.old;
+      input = I.seen input.old;
+      output = O.seen output.old;
+      notes = N.seen notes.old;
+      clock = answers clock.old;
+      pacers =
+          map (λ b. (⟦<dyn Pacer as Pacer>⟧ b.vtable).pacing b.value) pacers.items;
+    } in
         let after : Outside = record { host = H.seen host.new; input = I.seen input.new; output = O.seen output.new; notes = N.seen notes.new; clock = answers clock.new; pacers = [] } in
         TopAnswers (given_by (map string_bytes words.now)) before after result }
 {

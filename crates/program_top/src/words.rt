@@ -192,7 +192,8 @@ fn number_of(text: &str, option: Number) -> Option<u64>
 // The number of an option, or the usual one. None is a text that is no number in the option's range.
 fn read_number(matches: &ArgMatches<'_>, option: Number) -> Option<u64>
     requires { option.usual ≤ option.most }
-    ensures some { IfSome result (λ n. (is_right (rows_of (found_of matches.now)) (number_read option) ≡ true) × (n ≡ value_of (rows_of (found_of matches.now)) (number_read option)) × (n ≤ option.most)) }
+    ensures some { IfSome result
+        (λ n. (is_right (rows_of (found_of matches.now)) (number_read option) ≡ true) × (n ≡ value_of (rows_of (found_of matches.now)) (number_read option)) × (n ≤ option.most)) }
     ensures none { IfNone result (is_right (rows_of (found_of matches.now)) (number_read option) ≡ false) }
 {
     match matches.get_str(option.name) {
@@ -205,7 +206,8 @@ fn read_number(matches: &ArgMatches<'_>, option: Number) -> Option<u64>
 fn read_limit(matches: &ArgMatches<'_>, option: Number) -> Option<u32>
     requires usual { option.usual ≤ option.most }
     requires small { option.most < 2 ^ 32 }
-    ensures some { IfSome result (λ n. (is_right (rows_of (found_of matches.now)) (number_read option) ≡ true) × (n ≡ value_of (rows_of (found_of matches.now)) (number_read option)) × (n ≤ option.most)) }
+    ensures some { IfSome result
+        (λ n. (is_right (rows_of (found_of matches.now)) (number_read option) ≡ true) × (n ≡ value_of (rows_of (found_of matches.now)) (number_read option)) × (n ≤ option.most)) }
     ensures none { IfNone result (is_right (rows_of (found_of matches.now)) (number_read option) ≡ false) }
 {
     match read_number(matches, option) {
@@ -232,7 +234,9 @@ fn read_limits(matches: &ArgMatches<'_>) -> Option<Limits>
 
 // How many commands are generated, and the options that were matched. None is a number that is wrong.
 fn read_options<'a>(matches: &ArgMatches<'a>) -> Option<(u64, Options<'a>)>
-    ensures some { IfSome result (λ all. (list_all (is_right (rows_of (found_of matches.now))) numbers ≡ true) × (all.0 ≡ value_of (rows_of (found_of matches.now)) generate) × (options_read all.1 ≡ options_of (rows_of (found_of matches.now))) × AreUsable all.1) }
+    ensures some { IfSome result
+        (λ all. (list_all (is_right (rows_of (found_of matches.now))) numbers ≡ true) × (all.0 ≡ value_of (rows_of (found_of matches.now)) generate)
+        × (options_read all.1 ≡ options_of (rows_of (found_of matches.now))) × AreUsable all.1) }
     ensures none { IfNone result (list_all (is_right (rows_of (found_of matches.now))) numbers ≡ false) }
 {
     let count = read_number(matches, GENERATE)?;

@@ -39,7 +39,8 @@ packed_first (node ∷ nodes) h (inl none) = absurd (omega (arith, ap length non
 packed_first (node ∷ nodes) h (inr one) = ap (λ (cs : List Container). get_or cs 0 Plain) one
 
 -- where the bytes of its one node and others are too many for one node, so are the elements for one listpack
-pub joined_long : (m : Blocks) (q : Chain) (node : Node) (first bytes : List ℕ) → IsQuick m q → q.form ≡ Listpack → 0 < length q.nodes → node ≡ node_at q.nodes 0 → bytes_of m node ≡ first → IsPacked bytes
+pub joined_long : (m : Blocks) (q : Chain) (node : Node) (first bytes : List ℕ) → IsQuick m q → q.form ≡ Listpack → 0 < length q.nodes → node ≡ node_at q.nodes 0 → bytes_of m node ≡ first
+    → IsPacked bytes
     → 8199 < length first + length bytes → 8192 < pack_len (elements m q ++ texts bytes)
 joined_long m q node first bytes s form h is there p long =
     let formed : IsFormed Listpack (map container_of q.nodes) = subst (λ (f : Form). IsFormed f (map container_of q.nodes)) form s.formed in

@@ -1,5 +1,6 @@
 -- Chains of nodes over blocks that change.
-use Rattle.std.proofs.Common.{◌≡◌, ℕ, ◌+◌, ◌<◌, ◌≤◌, List, [], ◌∷◌, ◌++◌, Option, Some, None, IsSome, length, map, take, drop, get_or, refl, ap, ◌∙◌, sym, subst, inl, inr, arith, unwrap_or, flat_map, take-add}
+use Rattle.std.proofs.Common.{◌≡◌, ℕ, ◌+◌, ◌<◌, ◌≤◌, List, [], ◌∷◌, ◌++◌, Option, Some, None, IsSome, length, map, take, drop, get_or, refl, ap, ◌∙◌, sym, subst, inl, inr, arith}
+use Rattle.std.proofs.Common.{unwrap_or, flat_map, take-add}
 use Rattle.std.specs.List.{All, remove_range}
 use Rattle.std.proofs.lemmas.Bool.{cond-true, cond-false}
 use Rattle.std.proofs.lemmas.List.{append_assoc, take-append-drop, drop_more, take-map, drop-map, map-append, length-append, length-map, length-drop, drop-drop, take_at, drop_at, length-take-le}
@@ -13,7 +14,8 @@ use Rattle.blocks.proofs.Change.{one, live-is, live-Some, live-once, Counts, Cou
 use Rattle.quicklist.specs.declared.node.Container.{Container}
 use Rattle.quicklist.specs.declared.node.Node.{Node}
 use Rattle.quicklist.specs.declared.piece.Piece.{Piece}
-use Rattle.quicklist.specs.Nodes.{IsNode, IsChain, IsReadable, IsPiece, IsPlacedOf, filled, Placed, Exchanged, Inserted, refs_of, elements_of, node_list, bytes_of, piece_list, held, IsHeld, container_of, container_of_piece}
+use Rattle.quicklist.specs.Nodes.{IsNode, IsChain, IsReadable, IsPiece, IsPlacedOf, filled, Placed, Exchanged, Inserted, refs_of, elements_of, node_list, bytes_of, piece_list, held}
+use Rattle.quicklist.specs.Nodes.{IsHeld, container_of, container_of_piece}
 
 -- at itself a reference counts as one
 pub one_self : (at : BlockRef) → one at at ≡ 1
@@ -57,7 +59,8 @@ IsNode-as m n node same is = record {
 -- where their blocks are the same, all nodes over the one store are nodes over the other
 pub each-same : (m n : Blocks) (nodes : List Node) → Same m n nodes → All (IsNode m) nodes → All (IsNode n) nodes
 each-same m n [] same all = All-nil (IsNode n)
-each-same m n (node ∷ nodes) same all = All-cons (IsNode n) node nodes (IsNode-as m n node (Same-bytes m n node nodes same) (all 0 node (omega arith))) (each-same m n nodes (Same-rest m n node nodes same) (All-drop (IsNode m) 1 (node ∷ nodes) all))
+each-same m n (node ∷ nodes) same all = All-cons (IsNode n) node nodes (IsNode-as m n node (Same-bytes m n node nodes same) (all 0 node (omega arith)))
+    (each-same m n nodes (Same-rest m n node nodes same) (All-drop (IsNode m) 1 (node ∷ nodes) all))
 
 -- a chain, cut at a node
 pub cut_at : (nodes : List Node) (k : ℕ) (node : Node) → k < length nodes → node ≡ get_or nodes k node → nodes ≡ take k nodes ++ (node ∷ drop (k + 1) nodes)
@@ -117,7 +120,8 @@ pub Owned-part : (m : Blocks) (nodes : List Node) (k count : ℕ) → Owned (ref
 Owned-part m nodes k count own r = omega (arith, own r, times_cut r nodes k count)
 
 -- the block of the next node behind those that ended is live
-pub next_live : (m mid : Blocks) (nodes : List Node) (k i : ℕ) (node : Node) → k + i < length nodes → node ≡ get_or nodes (k + i) node → Owned (refs_of nodes) m → Changes m mid (refs_of (part k i nodes)) []
+pub next_live : (m mid : Blocks) (nodes : List Node) (k i : ℕ) (node : Node) → k + i < length nodes → node ≡ get_or nodes (k + i) node → Owned (refs_of nodes) m
+    → Changes m mid (refs_of (part k i nodes)) []
     → IsSome (mid node.at)
 next_live m mid nodes k i node h is own p =
     let b = (Counts-changed m mid (refs_of (part k i nodes)) [] (Owned-part m nodes k i own) p).balance node.at in
@@ -213,7 +217,8 @@ pub length-placed : (m n : Blocks) (pieces : List Piece) (fresh : List Node) →
 length-placed m n pieces fresh p = sym (length-map fresh container_of) ∙ ap length p.containers ∙ length-map pieces container_of_piece
 
 -- nodes with others placed among them own their blocks
-pub placed_owned : (m mid : Blocks) (old now fresh : List Node) (pieces : List Piece) (k : ℕ) → Owned (refs_of old) m → Placed m mid pieces fresh → now ≡ take k old ++ (fresh ++ drop k old) → Owned (refs_of now) mid
+pub placed_owned : (m mid : Blocks) (old now fresh : List Node) (pieces : List Piece) (k : ℕ) → Owned (refs_of old) m → Placed m mid pieces fresh → now ≡ take k old
+    ++ (fresh ++ drop k old) → Owned (refs_of now) mid
 placed_owned m mid old now fresh pieces k own p is r =
     let was = ap (λ (xs : List Node). times r (refs_of xs)) (take-append-drop k old) in
     let here' = ap (λ (xs : List Node). times r (refs_of xs)) is in
@@ -221,7 +226,8 @@ placed_owned m mid old now fresh pieces k own p is r =
     omega (arith, own r, was, here', b, times-refs r (take k old) (drop k old), times-refs r (take k old) (fresh ++ drop k old), times-refs r fresh (drop k old))
 
 -- the chain before and after nodes have taken the place of others
-module _ (m mid n : Blocks) (front gone back fresh : List Node) (pieces : List Piece) (own : Owned (refs_of (front ++ (gone ++ back))) m) (p : Placed m mid pieces fresh) (ended : Changes mid n (refs_of gone) []) where
+module _ (m mid n : Blocks) (front gone back fresh : List Node) (pieces : List Piece) (own : Owned (refs_of (front ++ (gone ++ back))) m) (p : Placed m mid pieces fresh)
+    (ended : Changes mid n (refs_of gone) []) where
   -- how often the nodes in front, those that go and those at the back name a reference
   abbrev parts : BlockRef → ℕ
   parts r = times r (refs_of front) + (times r (refs_of gone) + times r (refs_of back))
@@ -283,7 +289,8 @@ module _ (m mid n : Blocks) (front gone back fresh : List Node) (pieces : List P
 
 -- Nodes placed before the node k, and then the `gone` nodes behind them taken out.
 pub exchanged : (m mid n : Blocks) (old now after : List Node) (pieces : List Piece) (k gone placed : ℕ) → k + gone ≤ length old → placed ≡ length pieces → IsChain m old
-    → Inserted m mid old now k pieces → after ≡ remove_range now (k + placed) (k + placed + gone) → Changes mid n (refs_of (part (k + placed) gone now)) [] → Exchanged m n old after k (k + gone) pieces
+    → Inserted m mid old now k pieces → after ≡ remove_range now (k + placed) (k + placed + gone) → Changes mid n (refs_of (part (k + placed) gone now)) []
+    → Exchanged m n old after k (k + gone) pieces
 exchanged m mid n old now after pieces k gone placed h long c ins removed ended =
     let fresh = ins.0 in
     let p = ins.1 in

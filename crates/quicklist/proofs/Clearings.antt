@@ -27,7 +27,8 @@ rest_len xs k x h is =
 pub so_far_room : (r : Reach) (i : ℕ) (xs : List (List ℕ)) (k : ℕ) (left x : List ℕ) → k < length xs → x ≡ get_or xs k [] → IsSoFar r i xs k left → length left + pack_len (x ∷ []) ≤ 8199
 so_far_room r i xs k left x h is s = omega (arith, rest_len xs k x h is, packed_len left s.packed, s.room)
 
-pub so_far_gone : (r : Reach) (i : ℕ) (xs : List (List ℕ)) (k : ℕ) (left x : List ℕ) → k < length xs → x ≡ get_or xs k [] → goes r (i + k) x ≡ true → IsSoFar r i xs k left → IsSoFar r i xs (k + 1) left
+pub so_far_gone : (r : Reach) (i : ℕ) (xs : List (List ℕ)) (k : ℕ) (left x : List ℕ) → k < length xs → x ≡ get_or xs k [] → goes r (i + k) x ≡ true → IsSoFar r i xs k left
+    → IsSoFar r i xs (k + 1) left
 so_far_gone r i xs k left x h is out s = record {
   packed = s.packed;
   list = s.list ∙ sym (append-nil (cleared r i (take k xs))) ∙ sym (cleared_more r i xs k x h is ∙ ap (λ (b : Bool). cleared r i (take k xs) ++ unless b x) out);

@@ -27,7 +27,8 @@ pub offset_inside : (container : Container) (bytes : List ℕ) (j at : ℕ) → 
 offset_inside Plain bytes j at off = omega (arith, off.0)
 offset_inside Packed bytes j at off = off.0
 
-pub place_from : (m : Blocks) (q : Chain) (index k j : ℕ) → IsQuick m q → k < length q.nodes → j < length (node_list m (node_at q.nodes k)) → index ≡ length (elements_of m (take k q.nodes)) + j → IsPlace q.nodes index k j
+pub place_from : (m : Blocks) (q : Chain) (index k j : ℕ) → IsQuick m q → k < length q.nodes → j < length (node_list m (node_at q.nodes k))
+    → index ≡ length (elements_of m (take k q.nodes)) + j → IsPlace q.nodes index k j
 place_from m q index k j s h l at =
     let front = sum_front m q.nodes k s.chain.each in
     let next = sum_front m q.nodes (k + 1) s.chain.each in
@@ -53,7 +54,8 @@ pub place_behind : (m : Blocks) (q : Chain) (index k j : ℕ) → IsQuick m q �
 place_behind m q index k j s place h = place_from m q (index + 1) k (j + 1) s place.inside h (omega (arith, (place_room m q index k j s place).1))
 
 -- the first one of the next node
-pub node_behind : (m : Blocks) (q : Chain) (index k j : ℕ) → IsQuick m q → IsPlace q.nodes index k j → j + 1 ≡ length (node_list m (node_at q.nodes k)) → index + 1 < length (elements m q) → k + 1 < length q.nodes
+pub node_behind : (m : Blocks) (q : Chain) (index k j : ℕ) → IsQuick m q → IsPlace q.nodes index k j → j + 1 ≡ length (node_list m (node_at q.nodes k)) → index + 1 < length (elements m q)
+    → k + 1 < length q.nodes
 node_behind m q index k j s place last more = elim (cases_lt (k + 1) (length q.nodes)) [
   | inl inside ↦ inside
   | inr past ↦
@@ -64,7 +66,8 @@ node_behind m q index k j s place last more = elim (cases_lt (k + 1) (length q.n
 pub node_some : (m : Blocks) (q : Chain) (k : ℕ) → IsQuick m q → k < length q.nodes → 0 < length (node_list m (node_at q.nodes k))
 node_some m q k s h = let node = node_of m q.nodes k s.chain.each h in omega (arith, node.some, node.counted)
 
-pub place_next : (m : Blocks) (q : Chain) (index k j : ℕ) → IsQuick m q → IsPlace q.nodes index k j → j + 1 ≡ length (node_list m (node_at q.nodes k)) → k + 1 < length q.nodes → IsPlace q.nodes (index + 1) (k + 1) 0
+pub place_next : (m : Blocks) (q : Chain) (index k j : ℕ) → IsQuick m q → IsPlace q.nodes index k j → j + 1 ≡ length (node_list m (node_at q.nodes k)) → k + 1 < length q.nodes
+    → IsPlace q.nodes (index + 1) (k + 1) 0
 place_next m q index k j s place last h =
     place_from m q (index + 1) (k + 1) 0 s h (node_some m q (k + 1) s h) (omega (arith, front_more m q.nodes k place.inside, (place_room m q index k j s place).1, last))
 
@@ -75,7 +78,8 @@ node_before m q index k j s place first some = elim (cases_lt 0 k) [
   | inr none ↦ let zero_th : k ≡ 0 = omega arith in absurd (some (omega (arith, (place_room m q index k j s place).1, first, ap (λ (i : ℕ). length (elements_of m (take i q.nodes))) zero_th)))
 ]
 
-pub place_last : (m : Blocks) (q : Chain) (index k j : ℕ) → IsQuick m q → IsPlace q.nodes index k j → j ≡ 0 → 0 < k → IsPlace q.nodes (index - 1) (k - 1) (length (node_list m (node_at q.nodes (k - 1))) - 1)
+pub place_last : (m : Blocks) (q : Chain) (index k j : ℕ) → IsQuick m q → IsPlace q.nodes index k j → j ≡ 0 → 0 < k
+    → IsPlace q.nodes (index - 1) (k - 1) (length (node_list m (node_at q.nodes (k - 1))) - 1)
 place_last m q index k j s place first some =
     let back : k - 1 + 1 ≡ k = omega arith in
     let more = front_more m q.nodes (k - 1) (omega (arith, place.inside, some)) in

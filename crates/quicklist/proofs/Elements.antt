@@ -41,7 +41,8 @@ pub len_is : (m : Blocks) (q : Chain) → IsQuick m q → q.len ≡ sum_by count
 len_is m q s = s.counted ∙ sym (sum_is m q.nodes s.chain.each)
 
 -- a list, cut at a node
-pub elements_cut : (m : Blocks) (nodes : List Node) (k : ℕ) → k < length nodes → elements_of m nodes ≡ elements_of m (take k nodes) ++ (node_list m (node_at nodes k) ++ elements_of m (drop (k + 1) nodes))
+pub elements_cut : (m : Blocks) (nodes : List Node) (k : ℕ) → k < length nodes → elements_of m nodes ≡ elements_of m (take k nodes)
+    ++ (node_list m (node_at nodes k) ++ elements_of m (drop (k + 1) nodes))
 elements_cut m nodes k h =
     ap (elements_of m) (sym (take-append-drop k nodes)) ∙ flat_map-append (node_list m) (take k nodes) (drop k nodes)
     ∙ ap (λ (xs : List Node). elements_of m (take k nodes) ++ elements_of m xs) (drop_more nodes k (record { at = record { slab = 0; slot = 0 }; count = 0; container = Plain }) h)
@@ -51,7 +52,8 @@ pub elements_split : (m : Blocks) (nodes : List Node) (k : ℕ) → elements_of 
 elements_split m nodes k = ap (elements_of m) (sym (take-append-drop k nodes)) ∙ flat_map-append (node_list m) (take k nodes) (drop k nodes)
 
 -- with one node more, the first nodes have as many elements more as that node has
-pub front_more : (m : Blocks) (nodes : List Node) (k : ℕ) → k < length nodes → length (elements_of m (take (k + 1) nodes)) ≡ length (elements_of m (take k nodes)) + length (node_list m (node_at nodes k))
+pub front_more : (m : Blocks) (nodes : List Node) (k : ℕ) → k < length nodes
+    → length (elements_of m (take (k + 1) nodes)) ≡ length (elements_of m (take k nodes)) + length (node_list m (node_at nodes k))
 front_more m nodes k h =
     let more = take_more nodes k (record { at = record { slab = 0; slot = 0 }; count = 0; container = Plain }) h in
     omega (
@@ -91,7 +93,8 @@ module _ {X : Type 0} (a b c : List X) where
       ∙ append_assoc a (take i b) (drop j b ++ c) ∙ ap (λ (xs : List X). a ++ xs) (sym (append_assoc (take i b) (drop j b) c))
 
 -- an element put in within a node
-pub insert_node_is : (m : Blocks) (q : Chain) (index k j : ℕ) (x : List ℕ) → IsQuick m q → IsGap q.nodes index k j → respelled m q k (insert (node_list m (node_at q.nodes k)) j x) (k + 1) ≡ insert (elements m q) index x
+pub insert_node_is : (m : Blocks) (q : Chain) (index k j : ℕ) (x : List ℕ) → IsQuick m q → IsGap q.nodes index k j
+    → respelled m q k (insert (node_list m (node_at q.nodes k)) j x) (k + 1) ≡ insert (elements m q) index x
 insert_node_is m q index k j x s gap =
     let nodes = q.nodes in
     let a = elements_of m (take k nodes) in
@@ -111,13 +114,15 @@ insert_beside_is m q index k x at =
     ∙ ap (λ (xs : List (List ℕ)). insert xs index x) (sym (elements_split m q.nodes k))
 
 -- the element at a place
-pub place_room : (m : Blocks) (q : Chain) (index k j : ℕ) → IsQuick m q → IsPlace q.nodes index k j → (j < length (node_list m (node_at q.nodes k))) × (index ≡ length (elements_of m (take k q.nodes)) + j)
+pub place_room : (m : Blocks) (q : Chain) (index k j : ℕ) → IsQuick m q → IsPlace q.nodes index k j → (j < length (node_list m (node_at q.nodes k)))
+    × (index ≡ length (elements_of m (take k q.nodes)) + j)
 place_room m q index k j s place =
     let more = front_more m q.nodes k place.inside in
     (omega (arith, place.among, more, sum_front m q.nodes k s.chain.each, sum_front m q.nodes (k + 1) s.chain.each), omega (arith, place.before, sum_front m q.nodes k s.chain.each))
 
 -- to set an element within its node sets it at its index in the list
-pub set_node_is : (m : Blocks) (q : Chain) (index k j : ℕ) (x : List ℕ) → IsQuick m q → IsPlace q.nodes index k j → respelled m q k (set (node_list m (node_at q.nodes k)) j x) (k + 1) ≡ set (elements m q) index x
+pub set_node_is : (m : Blocks) (q : Chain) (index k j : ℕ) (x : List ℕ) → IsQuick m q → IsPlace q.nodes index k j
+    → respelled m q k (set (node_list m (node_at q.nodes k)) j x) (k + 1) ≡ set (elements m q) index x
 set_node_is m q index k j x s place =
     let nodes = q.nodes in
     let a = elements_of m (take k nodes) in
@@ -133,7 +138,8 @@ set_node_is m q index k j x s place =
     ∙ ap (λ (xs : List (List ℕ)). take index xs ++ (x ∷ drop (suc index) xs)) (sym whole) ∙ sym (set_split (elements m q) index x inside)
 
 -- to take an element out of its node takes it out at its index in the list
-pub remove_node_is : (m : Blocks) (q : Chain) (index k j : ℕ) → IsQuick m q → IsPlace q.nodes index k j → respelled m q k (remove_range (node_list m (node_at q.nodes k)) j (j + 1)) (k + 1) ≡ remove (elements m q) index
+pub remove_node_is : (m : Blocks) (q : Chain) (index k j : ℕ) → IsQuick m q → IsPlace q.nodes index k j
+    → respelled m q k (remove_range (node_list m (node_at q.nodes k)) j (j + 1)) (k + 1) ≡ remove (elements m q) index
 remove_node_is m q index k j s place =
     let nodes = q.nodes in
     let a = elements_of m (take k nodes) in
@@ -198,14 +204,16 @@ pub split_back : (xs right : List (List ℕ)) (to : ℕ) → right ≡ remove_ra
 split_back xs right to r = omega (arith, ap length r, length-drop to xs)
 
 -- the bytes of a packed node, and how many elements they have
-pub packed_node : (m : Blocks) (nodes : List Node) (k : ℕ) (node : Node) (bytes : List ℕ) → All (IsNode m) nodes → k < length nodes → node ≡ node_at nodes k → (node_at nodes k).container ≡ Packed → bytes_of m node ≡ bytes
+pub packed_node : (m : Blocks) (nodes : List Node) (k : ℕ) (node : Node) (bytes : List ℕ) → All (IsNode m) nodes → k < length nodes → node ≡ node_at nodes k
+    → (node_at nodes k).container ≡ Packed → bytes_of m node ≡ bytes
     → (node_list m (node_at nodes k) ≡ texts bytes) × (node.count ≡ length (texts bytes))
 packed_node m nodes k node bytes each h is packed there =
     let list = packed_list m (node_at nodes k) bytes packed (ap (bytes_of m) (sym is) ∙ there) in
     (list, ap count_of is ∙ (node_of m nodes k each h).counted ∙ ap length list)
 
 -- the three pieces of a packed node that was split have its elements with a new one in the place of a range
-pub split_whole : (m : Blocks) (nodes : List Node) (k : ℕ) (node : Node) (bytes left right : List ℕ) (a b c : Piece) (from to : ℕ) (x : List ℕ) → All (IsNode m) nodes → k < length nodes → node ≡ node_at nodes k
+pub split_whole : (m : Blocks) (nodes : List Node) (k : ℕ) (node : Node) (bytes left right : List ℕ) (a b c : Piece) (from to : ℕ) (x : List ℕ) → All (IsNode m) nodes → k < length nodes
+    → node ≡ node_at nodes k
     → (node_at nodes k).container ≡ Packed → bytes_of m node ≡ bytes → texts left ≡ remove_range (texts bytes) from node.count → texts right ≡ remove_range (texts bytes) 0 to
     → piece_list a ≡ texts left → piece_list b ≡ x ∷ [] → piece_list c ≡ texts right → three a b c ≡ around from to x (node_list m (node_at nodes k))
 split_whole m nodes k node bytes left right a b c from to x each h is packed there l r one two last =
@@ -215,7 +223,8 @@ split_whole m nodes k node bytes left right a b c from to x each h is packed the
     ∙ ap (around from to x) (sym facts.0)
 
 -- what an element put in at a place gives
-pub overfull_insert : (m : Blocks) (q : Chain) (index k j len : ℕ) (x : List ℕ) (list : List (List ℕ)) → IsQuick m q → IsGap q.nodes index k j → 8192 < pack_len (insert (node_list m (node_at q.nodes k)) j x)
+pub overfull_insert : (m : Blocks) (q : Chain) (index k j len : ℕ) (x : List ℕ) (list : List (List ℕ)) → IsQuick m q → IsGap q.nodes index k j
+    → 8192 < pack_len (insert (node_list m (node_at q.nodes k)) j x)
     → index ≤ length (elements m q) → len ≡ q.len + 1 → list ≡ insert (elements m q) index x → IsOverfull q list len
 overfull_insert m q index k j len x list s gap long h more is = record {
   counted = omega (arith, more, s.counted, ap length is, length-insert (elements m q) index x h);
@@ -225,7 +234,8 @@ overfull_insert m q index k j len x list s gap long h more is = record {
 }
 
 -- where one listpack of a node with an element set is too long, the list with it set is overfull
-pub overfull_set : (m : Blocks) (q : Chain) (index k j len : ℕ) (x : List ℕ) (list : List (List ℕ)) → IsQuick m q → IsPlace q.nodes index k j → 8192 < pack_len (set (node_list m (node_at q.nodes k)) j x)
+pub overfull_set : (m : Blocks) (q : Chain) (index k j len : ℕ) (x : List ℕ) (list : List (List ℕ)) → IsQuick m q → IsPlace q.nodes index k j
+    → 8192 < pack_len (set (node_list m (node_at q.nodes k)) j x)
     → len ≡ q.len → list ≡ set (elements m q) index x → IsOverfull q list len
 overfull_set m q index k j len x list s place long same is = record {
   counted = omega (arith, same, s.counted, ap length is, length-set (elements m q) index x);
@@ -241,21 +251,25 @@ at_front m q index k j x s gap none =
     ap (respelled m q k (x ∷ [])) same ∙ insert_beside_is m q index k x (omega (arith, gap.before, none, sum_front m q.nodes k s.chain.each))
 
 -- where the gap is at a node's end, an element placed behind that node is put in at the gap's index
-pub at_back : (m : Blocks) (q : Chain) (index k j : ℕ) (x : List ℕ) → IsQuick m q → IsGap q.nodes index k j → j ≡ (node_at q.nodes k).count → respelled m q (k + 1) (x ∷ []) (k + 1 + 0) ≡ insert (elements m q) index x
+pub at_back : (m : Blocks) (q : Chain) (index k j : ℕ) (x : List ℕ) → IsQuick m q → IsGap q.nodes index k j → j ≡ (node_at q.nodes k).count
+    → respelled m q (k + 1) (x ∷ []) (k + 1 + 0) ≡ insert (elements m q) index x
 at_back m q index k j x s gap all =
     let same : k + 1 + 0 ≡ k + 1 = omega arith in
     ap (respelled m q (k + 1) (x ∷ [])) same
-    ∙ insert_beside_is m q index (k + 1) x (omega (arith, gap.before, all, sum_front m q.nodes k s.chain.each, front_more m q.nodes k gap.inside, (node_of m q.nodes k s.chain.each gap.inside).counted))
+    ∙ insert_beside_is m q index (k + 1) x
+    (omega (arith, gap.before, all, sum_front m q.nodes k s.chain.each, front_more m q.nodes k gap.inside, (node_of m q.nodes k s.chain.each gap.inside).counted))
 
 -- with an element behind those of a node, the list has it put in at the gap's index
-pub behind_is : (m : Blocks) (q : Chain) (index k j : ℕ) (x : List ℕ) → IsQuick m q → IsGap q.nodes index k j → j ≡ (node_at q.nodes k).count → respelled m q k (node_list m (node_at q.nodes k) ++ x ∷ []) (k + 1) ≡ insert (elements m q) index x
+pub behind_is : (m : Blocks) (q : Chain) (index k j : ℕ) (x : List ℕ) → IsQuick m q → IsGap q.nodes index k j → j ≡ (node_at q.nodes k).count
+    → respelled m q k (node_list m (node_at q.nodes k) ++ x ∷ []) (k + 1) ≡ insert (elements m q) index x
 behind_is m q index k j x s gap all =
     let xs = node_list m (node_at q.nodes k) in
     let end : j ≡ length xs = all ∙ (node_of m q.nodes k s.chain.each gap.inside).counted in
     ap (λ (ys : List (List ℕ)). respelled m q k ys (k + 1)) (sym (insert_end xs x) ∙ ap (λ (i : ℕ). insert xs i x) (sym end)) ∙ insert_node_is m q index k j x s gap
 
 -- the one element of a node in the place of which another stands
-pub set_alone : (m : Blocks) (q : Chain) (index k j : ℕ) (x : List ℕ) → IsQuick m q → IsPlace q.nodes index k j → (node_at q.nodes k).count ≡ 1 → respelled m q k (x ∷ []) (k + 1) ≡ set (elements m q) index x
+pub set_alone : (m : Blocks) (q : Chain) (index k j : ℕ) (x : List ℕ) → IsQuick m q → IsPlace q.nodes index k j → (node_at q.nodes k).count ≡ 1
+    → respelled m q k (x ∷ []) (k + 1) ≡ set (elements m q) index x
 set_alone m q index k j x s place one =
     let room = place_room m q index k j s place in
     let long : length (node_list m (node_at q.nodes k)) ≡ 1 = omega (arith, one, (node_of m q.nodes k s.chain.each place.inside).counted) in
@@ -278,7 +292,8 @@ remove_alone m q index k j s place one =
     let room = place_room m q index k j s place in
     let long : length (node_list m (node_at q.nodes k)) ≡ 1 = omega (arith, one, (node_of m q.nodes k s.chain.each place.inside).counted) in
     let first : j ≡ 0 = omega (arith, room.0, long) in
-    ap (λ (xs : List (List ℕ)). respelled m q k xs (k + 1)) (sym (ap (λ (i : ℕ). remove_range (node_list m (node_at q.nodes k)) i (i + 1)) first ∙ drop_all 1 (node_list m (node_at q.nodes k)) (omega (arith, long))))
+    ap (λ (xs : List (List ℕ)). respelled m q k xs (k + 1))
+    (sym (ap (λ (i : ℕ). remove_range (node_list m (node_at q.nodes k)) i (i + 1)) first ∙ drop_all 1 (node_list m (node_at q.nodes k)) (omega (arith, long))))
     ∙ remove_node_is m q index k j s place
 
 -- the elements of the node at a place, by its bytes
@@ -286,19 +301,22 @@ pub list_at : (m : Blocks) (nodes : List Node) (k : ℕ) (node : Node) (bytes : 
 list_at m nodes k node bytes is there = ap (node_list m) (sym is) ∙ held_is m node bytes there
 
 -- with an element put into what a node's bytes hold, the list has it put in at its index
-pub joined_list : (m : Blocks) (q : Chain) (index k j : ℕ) (x : List ℕ) (node : Node) (bytes : List ℕ) (list : List (List ℕ)) → IsQuick m q → IsGap q.nodes index k j → node ≡ node_at q.nodes k → bytes_of m node ≡ bytes
+pub joined_list : (m : Blocks) (q : Chain) (index k j : ℕ) (x : List ℕ) (node : Node) (bytes : List ℕ) (list : List (List ℕ)) → IsQuick m q → IsGap q.nodes index k j
+    → node ≡ node_at q.nodes k → bytes_of m node ≡ bytes
     → list ≡ insert (held node.container bytes) j x → respelled m q k list (k + 1) ≡ insert (elements m q) index x
 joined_list m q index k j x node bytes list s gap is there same =
     ap (λ (xs : List (List ℕ)). respelled m q k xs (k + 1)) (same ∙ ap (λ (xs : List (List ℕ)). insert xs j x) (sym (list_at m q.nodes k node bytes is there))) ∙ insert_node_is m q index k j x s gap
 
 -- with an element set in what a node's bytes hold, the list has it set at its index
-pub replaced_list : (m : Blocks) (q : Chain) (index k j : ℕ) (x : List ℕ) (node : Node) (bytes : List ℕ) (list : List (List ℕ)) → IsQuick m q → IsPlace q.nodes index k j → node ≡ node_at q.nodes k → bytes_of m node ≡ bytes
+pub replaced_list : (m : Blocks) (q : Chain) (index k j : ℕ) (x : List ℕ) (node : Node) (bytes : List ℕ) (list : List (List ℕ)) → IsQuick m q → IsPlace q.nodes index k j
+    → node ≡ node_at q.nodes k → bytes_of m node ≡ bytes
     → list ≡ set (held node.container bytes) j x → respelled m q k list (k + 1) ≡ set (elements m q) index x
 replaced_list m q index k j x node bytes list s place is there same =
     ap (λ (xs : List (List ℕ)). respelled m q k xs (k + 1)) (same ∙ ap (λ (xs : List (List ℕ)). set xs j x) (sym (list_at m q.nodes k node bytes is there))) ∙ set_node_is m q index k j x s place
 
 -- how many elements the node has
-pub count_at : (m : Blocks) (nodes : List Node) (k : ℕ) (node : Node) (bytes : List ℕ) → All (IsNode m) nodes → k < length nodes → node ≡ node_at nodes k → bytes_of m node ≡ bytes → node.count ≡ length (held node.container bytes)
+pub count_at : (m : Blocks) (nodes : List Node) (k : ℕ) (node : Node) (bytes : List ℕ) → All (IsNode m) nodes → k < length nodes → node ≡ node_at nodes k → bytes_of m node ≡ bytes
+    → node.count ≡ length (held node.container bytes)
 count_at m nodes k node bytes each h is there = ap count_of is ∙ (node_of m nodes k each h).counted ∙ ap length (list_at m nodes k node bytes is there)
 
 -- a packed node has few elements, since each takes a byte at least
@@ -312,7 +330,8 @@ pub count_small : (bytes : List ℕ) → IsPacked bytes → length (texts bytes)
 count_small bytes p = omega (arith, entries_some (texts bytes), packed_len bytes p, p.short)
 
 -- the bytes at a place are those of its node
-pub held_at : (m : Blocks) (nodes : List Node) (k : ℕ) (node : Node) (bytes : List ℕ) → All (IsNode m) nodes → k < length nodes → node ≡ node_at nodes k → bytes_of m node ≡ bytes → IsHeld node.container bytes
+pub held_at : (m : Blocks) (nodes : List Node) (k : ℕ) (node : Node) (bytes : List ℕ) → All (IsNode m) nodes → k < length nodes → node ≡ node_at nodes k → bytes_of m node ≡ bytes
+    → IsHeld node.container bytes
 held_at m nodes k node bytes each h is there =
     let one = subst (λ (n : Node). IsNode m n) (sym is) (node_of m nodes k each h) in
     subst (IsHeld node.container) there one.is_held
@@ -327,7 +346,8 @@ pub cut_one_len : (xs : List (List ℕ)) (j : ℕ) → j < length xs → length 
 cut_one_len xs j h = omega (arith, length-append (take j xs) (drop (j + 1) xs), length-take-le j xs (omega arith), length-drop (j + 1) xs)
 
 -- where a node of more elements than one loses one, the list loses it at its index, and the node has one less
-pub removed_list : (m : Blocks) (q : Chain) (index k j : ℕ) (node : Node) (bytes : List ℕ) (list : List (List ℕ)) → IsQuick m q → IsPlace q.nodes index k j → node ≡ node_at q.nodes k → bytes_of m node ≡ bytes
+pub removed_list : (m : Blocks) (q : Chain) (index k j : ℕ) (node : Node) (bytes : List ℕ) (list : List (List ℕ)) → IsQuick m q → IsPlace q.nodes index k j → node ≡ node_at q.nodes k
+    → bytes_of m node ≡ bytes
     → (node.count ≡ 1 → ⊥) → list ≡ remove_range (texts bytes) j (j + 1) → (respelled m q k list (k + 1) ≡ remove (elements m q) index) × (node.count ≡ length list + 1)
 removed_list m q index k j node bytes list s place is there many same =
     let count = count_at m q.nodes k node bytes s.chain.each place.inside is there in
@@ -391,7 +411,8 @@ pub front_left : (xs : List (List ℕ)) (i n : ℕ) → n ≡ length xs → remo
 front_left xs i n h = ap (λ (ys : List (List ℕ)). take i xs ++ ys) (drop_all n xs (omega (arith, h))) ∙ append-nil (take i xs)
 
 -- what is left of two nodes and of those between them
-pub across_is : (m : Blocks) (q : Chain) (first last i j gone : ℕ) (head tail : Node) (one two : List ℕ) (before behind : List (List ℕ)) → All (IsNode m) q.nodes → first < length q.nodes → first ≤ last
+pub across_is : (m : Blocks) (q : Chain) (first last i j gone : ℕ) (head tail : Node) (one two : List ℕ) (before behind : List (List ℕ)) → All (IsNode m) q.nodes → first < length q.nodes
+    → first ≤ last
     → head ≡ node_at q.nodes first → tail ≡ node_at q.nodes last → bytes_of m head ≡ one → bytes_of m tail ≡ two → gone ≡ last + 1 - first
     → before ≡ remove_range (held head.container one) i head.count → behind ≡ remove_range (held tail.container two) 0 j
     → respelled m q first (before ++ behind) (first + gone) ≡ respelled m q first (take i (node_list m (node_at q.nodes first)) ++ drop j (node_list m (node_at q.nodes last))) (last + 1)

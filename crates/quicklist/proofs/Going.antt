@@ -145,7 +145,15 @@ pub reach_tail : (r : Reach) (xs : List (List ℕ)) (many : ℕ) → r.from ≤ 
     → (many + length (cleared r 0 xs) ≡ length xs) × IsFromTail r.text.now many xs (cleared r 0 xs)
 reach_tail r xs many from to counted =
     let is = cleared_back r xs from to in (
-      omega (arith, ap length is, length-append (take r.from xs) (others r.text.now (drop r.from xs)), equals_others r.text.now (drop r.from xs), counted, length-take-le r.from xs from, length-drop r.from xs),
+      omega (
+        arith,
+        ap length is,
+        length-append (take r.from xs) (others r.text.now (drop r.from xs)),
+        equals_others r.text.now (drop r.from xs),
+        counted,
+        length-take-le r.from xs from,
+        length-drop r.from xs,
+      ),
       record { rest = take r.from xs; back = drop r.from xs; was = sym (take-append-drop r.from xs); is = is; counted = counted },
     )
 

@@ -1,5 +1,6 @@
 -- Chains that are copied, and chains whose blocks move.
-use Rattle.std.proofs.Common.{◌≡◌, ◌≢◌, ℕ, zero, suc, ◌+◌, ◌-◌, ◌<◌, ◌≤◌, List, [], ◌∷◌, ◌++◌, Option, Some, None, length, map, take, drop, get_or, set, refl, ap, ◌∙◌, sym, subst, arith, flat_map, unwrap_or, get_or-set_other, inl, inr}
+use Rattle.std.proofs.Common.{◌≡◌, ◌≢◌, ℕ, zero, suc, ◌+◌, ◌-◌, ◌<◌, ◌≤◌, List, [], ◌∷◌, ◌++◌, Option, Some, None, length, map, take, drop, get_or, set, refl, ap, ◌∙◌, sym, subst, arith}
+use Rattle.std.proofs.Common.{flat_map, unwrap_or, get_or-set_other, inl, inr}
 use Rattle.std.specs.Prelude.{IfSome, false}
 use Rattle.std.specs.List.{All}
 use Rattle.blocks.specs.Slabs.{Heap, wants}
@@ -12,7 +13,8 @@ use Rattle.blocks.proofs.Change.{live-once, Changes-then, Changes-owned, Changes
 use Rattle.quicklist.specs.declared.node.Container.{Container}
 use Rattle.quicklist.specs.declared.node.Node.{Node}
 use Rattle.quicklist.specs.declared.piece.Piece.{Piece}
-use Rattle.quicklist.specs.Nodes.{IsNode, IsChain, IsReadable, IsPiece, IsPlacedOf, filled, Placed, held, IsHeld, node_at, node_list, bytes_of, piece_list, refs_of, elements_of, container_of, container_of_piece}
+use Rattle.quicklist.specs.Nodes.{IsNode, IsChain, IsReadable, IsPiece, IsPlacedOf, filled, Placed, held, IsHeld, node_at, node_list, bytes_of, piece_list, refs_of, elements_of}
+use Rattle.quicklist.specs.Nodes.{container_of, container_of_piece}
 use Rattle.quicklist.specs.Chain.{IsCopied, IsSettled, IsPassed, IsOutside, ref_at, passed_to}
 use Rattle.quicklist.proofs.Chains.{Same, node_read, readable_as, times-refs, elements-same, each-same, one_placed, cut_at, one_self, all_same, length-placed}
 
@@ -50,10 +52,12 @@ one_copied m mid n nodes fresh k node copy c h is p put count container =
     let all : map (piece_for m) (take (k + 1) nodes) ≡ map (piece_for m) (take k nodes) ++ piece_for m node ∷ [] = ap (map (piece_for m)) more ∙ map-append (piece_for m) (take k nodes) (node ∷ []) in
     let node_is : IsNode m node = subst (λ (x : Node). IsNode m x) (sym is) (c.each k node h) in
     subst (λ (ps : List Piece). Placed m n ps (fresh ++ copy ∷ [])) (sym all)
-    (one_placed m mid n (map (piece_for m) (take k nodes)) (piece_for m node) fresh copy p (piece_for-is m node node_is) (subst (λ (bytes : List ℕ). IsPlacedOf mid n bytes copy) same put) count container)
+    (one_placed m mid n (map (piece_for m) (take k nodes)) (piece_for m node) fresh copy p (piece_for-is m node node_is) (subst (λ (bytes : List ℕ). IsPlacedOf mid n bytes copy) same put)
+    count container)
 
 -- the block of a node that is still to be copied is live, and holds what the node counts
-pub still_live : (m mid : Blocks) (nodes fresh : List Node) (pieces : List Piece) (k : ℕ) (node : Node) → IsChain m nodes → k < length nodes → node ≡ get_or nodes k node → Placed m mid pieces fresh → IsReadable mid node
+pub still_live : (m mid : Blocks) (nodes fresh : List Node) (pieces : List Piece) (k : ℕ) (node : Node) → IsChain m nodes → k < length nodes → node ≡ get_or nodes k node
+    → Placed m mid pieces fresh → IsReadable mid node
 still_live m mid nodes fresh pieces k node c h is p =
     let same = Owned-others m mid [] (refs_of fresh) (refs_of nodes) c.owned p.changes node.at (in_refs nodes k node h is) refl in
     readable_as m mid node (sym same) (node_read m nodes k node h is c)
@@ -74,7 +78,8 @@ copied_is m n nodes fresh p = record {
 }
 
 -- the block of one node moved
-module _ (m n : Blocks) (front back : List Node) (node : Node) (at : BlockRef) (own : Owned (refs_of (front ++ (node ∷ back))) m) (a : All (IsNode m) front) (is : IsNode m node) (b : All (IsNode m) back) (bytes : n at ≡ m node.at) (p : Changes m n (node.at ∷ []) (at ∷ [])) where
+module _ (m n : Blocks) (front back : List Node) (node : Node) (at : BlockRef) (own : Owned (refs_of (front ++ (node ∷ back))) m) (a : All (IsNode m) front) (is : IsNode m node)
+    (b : All (IsNode m) back) (bytes : n at ≡ m node.at) (p : Changes m n (node.at ∷ []) (at ∷ [])) where
   abbrev moved : Node
   moved = record { at = at; count = node.count; container = node.container }
 
@@ -82,7 +87,8 @@ module _ (m n : Blocks) (front back : List Node) (node : Node) (at : BlockRef) (
   whole r x = omega (arith, times-refs r front (x ∷ back))
 
   moved_changes : Changes m n (refs_of (front ++ (node ∷ back))) (refs_of (front ++ (moved ∷ back)))
-  moved_changes = Changes-beside m n (node.at ∷ []) (at ∷ []) (refs_of (front ++ (node ∷ back))) (refs_of (front ++ (moved ∷ back))) p own (λ r. times r (refs_of front) + times r (refs_of back)) (λ r. whole r node) (λ r. whole r moved)
+  moved_changes = Changes-beside m n (node.at ∷ []) (at ∷ []) (refs_of (front ++ (node ∷ back))) (refs_of (front ++ (moved ∷ back))) p own
+      (λ r. times r (refs_of front) + times r (refs_of back)) (λ r. whole r node) (λ r. whole r moved)
 
   stays_at : (r : BlockRef) → 0 < times r (refs_of front) + times r (refs_of back) → n r ≡ m r
   stays_at r isin =
@@ -97,14 +103,16 @@ module _ (m n : Blocks) (front back : List Node) (node : Node) (at : BlockRef) (
   moved_is : IsNode n moved
   moved_is = record { is_held = subst (IsHeld node.container) (sym same_bytes) is.is_held; counted = is.counted ∙ ap length (sym same_list); some = is.some }
 
-  pub moved_settled : (stays : ℕ → Type 0) → ((i : ℕ) → stays i → node_at (front ++ (moved ∷ back)) i ≡ node_at (front ++ (node ∷ back)) i) → IsSettled m n (front ++ (node ∷ back)) (front ++ (moved ∷ back)) stays
+  pub moved_settled : (stays : ℕ → Type 0) → ((i : ℕ) → stays i → node_at (front ++ (moved ∷ back)) i ≡ node_at (front ++ (node ∷ back)) i)
+      → IsSettled m n (front ++ (node ∷ back)) (front ++ (moved ∷ back)) stays
   moved_settled stays others = record {
     chain = record {
       owned = Changes-owned m n (refs_of (front ++ (node ∷ back))) (refs_of (front ++ (moved ∷ back))) moved_changes;
       each = All-append (IsNode n) front (moved ∷ back) (each-same m n front (λ r isin. stays_at r (omega (arith, isin))) a)
           (All-cons (IsNode n) moved back moved_is (each-same m n back (λ r isin. stays_at r (omega (arith, isin))) b));
     };
-    list_is = flat_map-append (node_list n) front (moved ∷ back) ∙ ap (λ (xs : List (List ℕ)). xs ++ (node_list n moved ++ elements_of n back)) (elements-same m n front (λ r isin. stays_at r (omega (arith, isin))))
+    list_is = flat_map-append (node_list n) front (moved ∷ back) ∙ ap (λ (xs : List (List ℕ)). xs ++ (node_list n moved ++ elements_of n back))
+        (elements-same m n front (λ r isin. stays_at r (omega (arith, isin))))
         ∙ ap (λ (xs : List (List ℕ)). elements_of m front ++ (xs ++ elements_of n back)) same_list
         ∙ ap (λ (xs : List (List ℕ)). elements_of m front ++ (node_list m node ++ xs)) (elements-same m n back (λ r isin. stays_at r (omega (arith, isin))))
         ∙ sym (flat_map-append (node_list m) front (node ∷ back));
@@ -113,7 +121,8 @@ module _ (m n : Blocks) (front back : List Node) (node : Node) (at : BlockRef) (
     others = others;
   }
 
-pub node_settled : (m n : Blocks) (nodes new : List Node) (k : ℕ) (node : Node) (at : BlockRef) → IsChain m nodes → k < length nodes → node ≡ get_or nodes k node → n at ≡ m node.at → Changes m n (node.at ∷ []) (at ∷ [])
+pub node_settled : (m n : Blocks) (nodes new : List Node) (k : ℕ) (node : Node) (at : BlockRef) → IsChain m nodes → k < length nodes → node ≡ get_or nodes k node → n at ≡ m node.at
+    → Changes m n (node.at ∷ []) (at ∷ [])
     → new ≡ set nodes k (record { at = at; count = node.count; container = node.container }) → IsSettled m n nodes new (λ i. i ≢ k)
 node_settled m n nodes new k node at c h is bytes p put =
     let moved : Node = record { at = at; count = node.count; container = node.container } in
@@ -125,11 +134,13 @@ node_settled m n nodes new k node at c h is bytes p put =
     let node_is : IsNode m node = subst (λ (x : Node). IsNode m x) (sym is) (c.each k node h) in
     let others : (i : ℕ) → i ≢ k → node_at (front ++ (moved ∷ back)) i ≡ node_at (front ++ (node ∷ back)) i =
     λ i ne. ap (λ (xs : List Node). node_at xs i) (sym now ∙ put) ∙ get_or-set_other nodes k i moved _ ne ∙ ap (λ (xs : List Node). node_at xs i) was in
-    let settled = moved_settled m n front back node at (subst (λ (xs : List Node). Owned (refs_of xs) m) was c.owned) (All-take (IsNode m) k nodes c.each) node_is (All-drop (IsNode m) (k + 1) nodes c.each) bytes p (λ i. i ≢ k) others in
+    let settled = moved_settled m n front back node at (subst (λ (xs : List Node). Owned (refs_of xs) m) was c.owned) (All-take (IsNode m) k nodes c.each) node_is
+    (All-drop (IsNode m) (k + 1) nodes c.each) bytes p (λ i. i ≢ k) others in
     subst (λ (xs : List Node). IsSettled m n nodes xs (λ i. i ≢ k)) (sym now) (subst (λ (xs : List Node). IsSettled m n xs (front ++ (moved ∷ back)) (λ i. i ≢ k)) (sym was) settled)
 
 -- one move after others
-pub more_settled : (m mid n : Blocks) (nodes between new : List Node) (start k : ℕ) → start ≤ k → IsSettled m mid nodes between (IsOutside start k) → IsSettled mid n between new (λ i. i ≢ k) → IsSettled m n nodes new (IsOutside start (k + 1))
+pub more_settled : (m mid n : Blocks) (nodes between new : List Node) (start k : ℕ) → start ≤ k → IsSettled m mid nodes between (IsOutside start k)
+    → IsSettled mid n between new (λ i. i ≢ k) → IsSettled m n nodes new (IsOutside start (k + 1))
 more_settled m mid n nodes between new start k h p q = record {
   chain = q.chain;
   list_is = q.list_is ∙ p.list_is;
@@ -162,7 +173,8 @@ passed_by heap m n old new from room end used next p calm so_many order few to o
   on = at_length next on;
   same_count = same;
   calm = λ i low high. ap (wants heap) (ref_node new i) ∙ calm i low (omega (arith, high, to, ap (λ k. passed_to k next) (same ∙ length-map old (λ (node : Node). node.at))));
-  stays = λ i out. ref_node new i ∙ ap (λ (node : Node). node.at) (p.others i (subst (λ e. IsOutside from e i) (ap (λ k. passed_to k next) (length-map old (λ (node : Node). node.at)) ∙ to) out)) ∙ sym (ref_node old i);
+  stays = λ i out. ref_node new i ∙ ap (λ (node : Node). node.at)
+      (p.others i (subst (λ e. IsOutside from e i) (ap (λ k. passed_to k next) (length-map old (λ (node : Node). node.at)) ∙ to) out)) ∙ sym (ref_node old i);
 }
   where
     same : length (refs_of new) ≡ length (refs_of old)

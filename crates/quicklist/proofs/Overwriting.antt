@@ -27,7 +27,8 @@ module _ (m n : Blocks) (front back : List Node) (node fresh : Node) (own : Owne
   whole r x = omega (arith, times-refs r front (x ∷ back))
 
   pub one_changes : Changes m n (refs_of (front ++ (node ∷ back))) (refs_of (front ++ (fresh ∷ back)))
-  one_changes = Changes-beside m n (node.at ∷ []) (fresh.at ∷ []) (refs_of (front ++ (node ∷ back))) (refs_of (front ++ (fresh ∷ back))) p own (λ r. times r (refs_of front) + times r (refs_of back)) (λ r. whole r node) (λ r. whole r fresh)
+  one_changes = Changes-beside m n (node.at ∷ []) (fresh.at ∷ []) (refs_of (front ++ (node ∷ back))) (refs_of (front ++ (fresh ∷ back))) p own
+      (λ r. times r (refs_of front) + times r (refs_of back)) (λ r. whole r node) (λ r. whole r fresh)
 
   stays_beside : (r : BlockRef) → 0 < times r (refs_of front) + times r (refs_of back) → n r ≡ m r
   stays_beside r isin =
@@ -47,14 +48,18 @@ module _ (m n : Blocks) (front back : List Node) (node fresh : Node) (own : Owne
       ∙ ap (λ (xs : List (List ℕ)). elements_of m front ++ (node_list n fresh ++ xs)) (elements-same m n back (λ r isin. stays_beside r (omega (arith, isin))))
 
 -- a block written over under the one reference that owned it
-written_one : (m n : Blocks) (nodes : List Node) (k : ℕ) (node : Node) (block : List ℕ) → IsChain m nodes → k < length nodes → node ≡ get_or nodes k node → n ≡ with_block m node.at (Some block) → Changes m n (node.at ∷ []) (node.at ∷ [])
+written_one : (m n : Blocks) (nodes : List Node) (k : ℕ) (node : Node) (block : List ℕ) → IsChain m nodes → k < length nodes → node ≡ get_or nodes k node
+    → n ≡ with_block m node.at (Some block) → Changes m n (node.at ∷ []) (node.at ∷ [])
 written_one m n nodes k node block c h is put =
     let own : Owned (node.at ∷ []) m = subst (λ (xs : List Node). Owned (refs_of xs) m) (part_one nodes k node h is) (Owned-part m nodes k 1 c.owned) in
-    Changes-counted m n (node.at ∷ []) (node.at ∷ []) own (Counts-written m n node.at block (node.at ∷ []) (node.at ∷ []) (node_live m nodes k node h is c.owned) put (omega (arith, one_self node.at)) (λ r. refl))
+    Changes-counted m n (node.at ∷ []) (node.at ∷ []) own
+    (Counts-written m n node.at block (node.at ∷ []) (node.at ∷ []) (node_live m nodes k node h is c.owned) put (omega (arith, one_self node.at)) (λ r. refl))
 
 -- the node k of what was written over its block, in its place
-pub node_written : (m n : Blocks) (nodes new : List Node) (k : ℕ) (node : Node) (piece : Piece) (block : List ℕ) → IsChain m nodes → k < length nodes → node ≡ get_or nodes k node → n ≡ with_block m node.at (Some block)
-    → IsPiece piece → filled piece.container block ≡ piece.bytes.now → new ≡ set nodes k (record { at = node.at; count = piece.count; container = piece.container }) → Exchanged m n nodes new k (k + 1) (piece ∷ [])
+pub node_written : (m n : Blocks) (nodes new : List Node) (k : ℕ) (node : Node) (piece : Piece) (block : List ℕ) → IsChain m nodes → k < length nodes → node ≡ get_or nodes k node
+    → n ≡ with_block m node.at (Some block)
+    → IsPiece piece → filled piece.container block ≡ piece.bytes.now → new ≡ set nodes k (record { at = node.at; count = piece.count; container = piece.container })
+    → Exchanged m n nodes new k (k + 1) (piece ∷ [])
 node_written m n nodes new k node piece block c h is put p bytes now =
     let fresh : Node = record { at = node.at; count = piece.count; container = piece.container } in
     let front = take k nodes in
@@ -69,8 +74,10 @@ node_written m n nodes new k node piece block c h is put p bytes now =
     let changes = one_changes m n front back node fresh own one in
     record {
       chain = subst (IsChain n) (sym stands) (one_chain m n front back node fresh own one (All-take (IsNode m) k nodes c.each) held_is.0 (All-drop (IsNode m) (k + 1) nodes c.each));
-      list = ap (elements_of n) stands ∙ one_list m n front back node fresh own one ∙ ap (λ (xs : List (List ℕ)). elements_of m front ++ (xs ++ elements_of m back)) (held_is.1 ∙ sym (append-nil (piece_list piece)));
-      changes = subst (λ (xs : List Node). Changes m n (refs_of nodes) (refs_of xs)) (sym stands) (subst (λ (xs : List Node). Changes m n (refs_of xs) (refs_of (front ++ (fresh ∷ back)))) (sym was) changes);
+      list = ap (elements_of n) stands ∙ one_list m n front back node fresh own one
+          ∙ ap (λ (xs : List (List ℕ)). elements_of m front ++ (xs ++ elements_of m back)) (held_is.1 ∙ sym (append-nil (piece_list piece)));
+      changes = subst (λ (xs : List Node). Changes m n (refs_of nodes) (refs_of xs)) (sym stands)
+          (subst (λ (xs : List Node). Changes m n (refs_of xs) (refs_of (front ++ (fresh ∷ back)))) (sym was) changes);
       containers = ap (map container_of) stands ∙ map-append container_of front (fresh ∷ back)
           ∙ ap (λ (xs : List Container). xs ++ (piece.container ∷ map container_of back)) (sym (take-map container_of k nodes))
           ∙ ap (λ (xs : List Container). take k (map container_of nodes) ++ (piece.container ∷ xs)) (sym (drop-map container_of (k + 1) nodes));
@@ -83,8 +90,10 @@ rewritten_over m n node bytes p put =
     record { block = overwritten (bytes_at m node.at) 0 bytes; put = put; packed = subst IsPacked (sym fills) p; list_is = ap texts fills }
 
 -- the list whose node k was written over, with so many elements now
-pub node_rewritten : (m n : Blocks) (old new : Chain) (k count : ℕ) (node : Node) (list : List (List ℕ)) → IsQuick m old → k < length old.nodes → node ≡ get_or old.nodes k node → IsRewritten m n node list → 0 < count → count ≡ length list
-    → new.nodes ≡ set old.nodes k (record { at = node.at; count = count; container = Packed }) → new.len ≡ length (respelled m old k list (k + 1)) → new.form ≡ old.form → IsWritten m n old new (respelled m old k list (k + 1))
+pub node_rewritten : (m n : Blocks) (old new : Chain) (k count : ℕ) (node : Node) (list : List (List ℕ)) → IsQuick m old → k < length old.nodes → node ≡ get_or old.nodes k node
+    → IsRewritten m n node list → 0 < count → count ≡ length list
+    → new.nodes ≡ set old.nodes k (record { at = node.at; count = count; container = Packed }) → new.len ≡ length (respelled m old k list (k + 1)) → new.form ≡ old.form
+    → IsWritten m n old new (respelled m old k list (k + 1))
 node_rewritten m n old new k count node list s h is r some counted now len form =
     let bytes = filled Packed r.block in
     let piece : Piece = record { container = Packed; count = count; bytes = record { ref_ptr = (0, 0); now = bytes } } in

@@ -1,5 +1,6 @@
 -- Nodes of a list made anew.
-use Rattle.std.proofs.Common.{◌≡◌, ◌⊎◌, ℕ, ◌+◌, ◌<◌, ◌≤◌, List, [], ◌∷◌, ◌++◌, Option, Some, length, map, take, drop, get_or, unwrap_or, refl, ap, ◌∙◌, sym, subst, inl, inr, arith, rules, length-append, deque_len}
+use Rattle.std.proofs.Common.{◌≡◌, ◌⊎◌, ℕ, ◌+◌, ◌<◌, ◌≤◌, List, [], ◌∷◌, ◌++◌, Option, Some, length, map, take, drop, get_or, unwrap_or, refl, ap, ◌∙◌, sym, subst, inl, inr, arith, rules}
+use Rattle.std.proofs.Common.{length-append, deque_len}
 use Rattle.std.specs.List.{All}
 use Rattle.std.proofs.lemmas.List.{append-nil, take_at, drop_at, take_more, take-append-drop}
 use Rattle.std.proofs.lemmas.List.Concat.{flat_map-append}
@@ -50,7 +51,8 @@ one_more : (r : BlockRef) (now before : List Node) (more : List Node) → now �
 one_more r now before more is = ap (λ (xs : List Node). times r (refs_of xs)) is ∙ times-refs r before more
 
 -- the nodes taken up so far own their blocks
-nodes_owned : (m mid : Blocks) (old : List Node) (list : List (List ℕ)) (r : Rebuilt) → Owned (refs_of old) m → IsRebuilt m mid old list r → Owned (refs_of r.nodes.items ++ refs_of r.replaced.items) mid
+nodes_owned : (m mid : Blocks) (old : List Node) (list : List (List ℕ)) (r : Rebuilt) → Owned (refs_of old) m → IsRebuilt m mid old list r
+    → Owned (refs_of r.nodes.items ++ refs_of r.replaced.items) mid
 nodes_owned m mid old list r own is at =
     let b = (Counts-changed m mid [] (refs_of r.placed.items) (λ q. omega arith) is.changes).balance at in
     omega (arith, own at, b, is.balance at, times-append at (refs_of r.nodes.items) (refs_of r.replaced.items))
@@ -67,7 +69,8 @@ All-front P xs ys all = subst (All P) (take_at xs ys (length xs) refl) (All-take
 All-behind : (P : Node → Type 0) (xs ys : List Node) → All P (xs ++ ys) → All P ys
 All-behind P xs ys all = subst (All P) (drop_at xs ys (length xs) refl) (All-drop P (length xs) (xs ++ ys) all)
 
-module _ (m mid n : Blocks) (old : List Node) (node : Node) (list rest : List (List ℕ)) (r after : Rebuilt) (own : Owned (refs_of (old ++ node ∷ [])) m) (is_node : IsNode m node) (is : IsRebuilt m mid old list r) where
+module _ (m mid n : Blocks) (old : List Node) (node : Node) (list rest : List (List ℕ)) (r after : Rebuilt) (own : Owned (refs_of (old ++ node ∷ [])) m) (is_node : IsNode m node)
+    (is : IsRebuilt m mid old list r) where
   -- the old nodes before the one that is taken up own their blocks
   own_old : Owned (refs_of old) m
   own_old at = omega (arith, own at, times-refs at old (node ∷ []))
@@ -84,12 +87,22 @@ module _ (m mid n : Blocks) (old : List Node) (node : Node) (list rest : List (L
   pub whole_more : n ≡ mid → IsGrown r after (node ∷ []) [] [] → rest ≡ node_list m node → IsRebuilt m n (old ++ node ∷ []) (list ++ rest) after
   whole_more same g left = subst (λ (b : Blocks). IsRebuilt m b (old ++ node ∷ []) (list ++ rest) after) (sym same) (record {
     changes = subst (λ (xs : List Node). Changes m mid [] (refs_of xs)) (sym (g.placed_is ∙ append-nil r.placed.items)) is.changes;
-    balance = λ at. omega (arith, is.balance at, one_more at after.nodes.items r.nodes.items (node ∷ []) g.nodes_is, one_more at after.placed.items r.placed.items [] g.placed_is, one_more at after.replaced.items r.replaced.items [] g.replaced_is, times-refs at old (node ∷ []));
+    balance = λ at. omega (
+      arith,
+      is.balance at,
+      one_more at after.nodes.items r.nodes.items (node ∷ []) g.nodes_is,
+      one_more at after.placed.items r.placed.items [] g.placed_is,
+      one_more at
+          after.replaced.items r.replaced.items [] g.replaced_is,
+      times-refs at old (node ∷ []),
+    );
     within = λ at. omega (arith, is.within at, one_more at after.replaced.items r.replaced.items [] g.replaced_is, times-refs at old (node ∷ []));
-    each = subst (All (IsNode mid)) (sym g.nodes_is) (All-append (IsNode mid) r.nodes.items (node ∷ []) is.each (each-same m mid (node ∷ []) same_node (All-cons (IsNode m) node [] is_node (All-nil (IsNode m)))));
+    each = subst (All (IsNode mid)) (sym g.nodes_is)
+        (All-append (IsNode mid) r.nodes.items (node ∷ []) is.each (each-same m mid (node ∷ []) same_node (All-cons (IsNode m) node [] is_node (All-nil (IsNode m)))));
     list_is = ap (elements_of mid) g.nodes_is ∙ flat_map-append (node_list mid) r.nodes.items (node ∷ []) ∙ ap (λ (xs : List (List ℕ)). xs ++ elements_of mid (node ∷ [])) is.list_is
         ∙ ap (λ (xs : List (List ℕ)). list ++ xs) (elements-same m mid (node ∷ []) same_node ∙ append-nil (node_list m node) ∙ sym left);
-    packed = λ all. subst (All IsPackedNode) (sym g.nodes_is) (All-append IsPackedNode r.nodes.items (node ∷ []) (is.packed (All-front IsPackedNode old (node ∷ []) all)) (All-behind IsPackedNode old (node ∷ []) all));
+    packed = λ all. subst (All IsPackedNode) (sym g.nodes_is)
+        (All-append IsPackedNode r.nodes.items (node ∷ []) (is.packed (All-front IsPackedNode old (node ∷ []) all)) (All-behind IsPackedNode old (node ∷ []) all));
     fewer = omega (arith, is.fewer, ap length g.nodes_is, length-append r.nodes.items (node ∷ []), length-append old (node ∷ []));
   })
 
@@ -97,7 +110,15 @@ module _ (m mid n : Blocks) (old : List Node) (node : Node) (list rest : List (L
   pub nothing_more : n ≡ mid → IsGrown r after [] [] (node ∷ []) → rest ≡ [] → IsRebuilt m n (old ++ node ∷ []) (list ++ rest) after
   nothing_more same g left = subst (λ (b : Blocks). IsRebuilt m b (old ++ node ∷ []) (list ++ rest) after) (sym same) (record {
     changes = subst (λ (xs : List Node). Changes m mid [] (refs_of xs)) (sym (g.placed_is ∙ append-nil r.placed.items)) is.changes;
-    balance = λ at. omega (arith, is.balance at, one_more at after.nodes.items r.nodes.items [] g.nodes_is, one_more at after.placed.items r.placed.items [] g.placed_is, one_more at after.replaced.items r.replaced.items (node ∷ []) g.replaced_is, times-refs at old (node ∷ []));
+    balance = λ at. omega (
+      arith,
+      is.balance at,
+      one_more at after.nodes.items r.nodes.items [] g.nodes_is,
+      one_more at after.placed.items r.placed.items [] g.placed_is,
+      one_more at after.replaced.items
+          r.replaced.items (node ∷ []) g.replaced_is,
+      times-refs at old (node ∷ []),
+    );
     within = λ at. omega (arith, is.within at, one_more at after.replaced.items r.replaced.items (node ∷ []) g.replaced_is, times-refs at old (node ∷ []));
     each = subst (All (IsNode mid)) (sym (g.nodes_is ∙ append-nil r.nodes.items)) is.each;
     list_is = ap (elements_of mid) (g.nodes_is ∙ append-nil r.nodes.items) ∙ is.list_is ∙ sym (append-nil list) ∙ ap (λ (xs : List (List ℕ)). list ++ xs) (sym left);
@@ -106,7 +127,8 @@ module _ (m mid n : Blocks) (old : List Node) (node : Node) (list rest : List (L
   })
 
   -- a fresh packed node of what is left of the old one is a node of those elements
-  part_node : (fresh : Node) (bytes : List ℕ) (count : ℕ) → IsFresh mid n fresh bytes count → IsPacked bytes → texts bytes ≡ rest → count ≡ length rest → 0 < count → IsNode n fresh × (node_list n fresh ≡ rest)
+  part_node : (fresh : Node) (bytes : List ℕ) (count : ℕ) → IsFresh mid n fresh bytes count → IsPacked bytes → texts bytes ≡ rest → count ≡ length rest → 0 < count → IsNode n fresh
+      × (node_list n fresh ≡ rest)
   part_node fresh bytes count f packed left counted some =
       let bytes_is : bytes_of n fresh ≡ bytes = f.placed.bytes_is in
       let list_here : node_list n fresh ≡ rest = ap (λ (c : Container). held c (bytes_of n fresh)) f.container ∙ ap texts bytes_is ∙ left in (
@@ -119,25 +141,40 @@ module _ (m mid n : Blocks) (old : List Node) (node : Node) (list rest : List (L
       )
 
   -- with a fresh node in the place of the old one, one old node more is rebuilt, with the elements that are left
-  pub part_more : (fresh : Node) (bytes : List ℕ) (count : ℕ) → IsFresh mid n fresh bytes count → IsGrown r after (fresh ∷ []) (fresh ∷ []) (node ∷ []) → IsPacked bytes → texts bytes ≡ rest → count ≡ length rest → 0 < count
+  pub part_more : (fresh : Node) (bytes : List ℕ) (count : ℕ) → IsFresh mid n fresh bytes count → IsGrown r after (fresh ∷ []) (fresh ∷ []) (node ∷ []) → IsPacked bytes
+      → texts bytes ≡ rest → count ≡ length rest → 0 < count
       → IsRebuilt m n (old ++ node ∷ []) (list ++ rest) after
   part_more fresh bytes count f g packed left counted some =
       let owned = nodes_owned m mid old list r own_old is in
       let apart = λ (at : BlockRef) (h : IsIn at (refs_of r.nodes.items)). live-is mid at (omega (arith, h, owned at, times-append at (refs_of r.nodes.items) (refs_of r.replaced.items))) in
-      let same : Same mid n r.nodes.items = λ at isin. ap (λ k. k at) f.placed.placed ∙ with_block-other mid fresh.at at (Some f.placed.block) (apart_live mid at fresh.at (apart at isin) f.placed.free) in
+      let same : Same mid n r.nodes.items = λ at isin. ap (λ k. k at) f.placed.placed
+      ∙ with_block-other mid fresh.at at (Some f.placed.block) (apart_live mid at fresh.at (apart at isin) f.placed.free) in
       let placed_own = Changes-owned m mid [] (refs_of r.placed.items) is.changes in
       let step : Changes mid n (refs_of r.placed.items) (refs_of (r.placed.items ++ fresh ∷ [])) =
       Changes-counted mid n (refs_of r.placed.items) (refs_of (r.placed.items ++ fresh ∷ [])) placed_own
-      (Counts-placed mid n fresh.at f.placed.block (refs_of r.placed.items) (refs_of (r.placed.items ++ fresh ∷ [])) f.placed.free f.placed.placed (λ at. omega (arith, times-refs at r.placed.items (fresh ∷ [])))) in
+      (Counts-placed mid n fresh.at f.placed.block (refs_of r.placed.items) (refs_of (r.placed.items ++ fresh ∷ [])) f.placed.free f.placed.placed
+      (λ at. omega (arith, times-refs at r.placed.items (fresh ∷ [])))) in
       let one' = part_node fresh bytes count f packed left counted some in
       record {
         changes = subst (λ (xs : List Node). Changes m n [] (refs_of xs)) (sym g.placed_is) (Changes-then m mid n [] (refs_of r.placed.items) (refs_of (r.placed.items ++ fresh ∷ [])) is.changes step);
-        balance = λ at. omega (arith, is.balance at, one_more at after.nodes.items r.nodes.items (fresh ∷ []) g.nodes_is, one_more at after.placed.items r.placed.items (fresh ∷ []) g.placed_is, one_more at after.replaced.items r.replaced.items (node ∷ []) g.replaced_is, times-refs at old (node ∷ []));
+        balance = λ at. omega (
+          arith,
+          is.balance at,
+          one_more at after.nodes.items r.nodes.items (fresh ∷ []) g.nodes_is,
+          one_more at after.placed.items r.placed.items (fresh ∷ []) g.placed_is,
+          one_more at
+              after.replaced.items r.replaced.items (node ∷ []) g.replaced_is,
+          times-refs at old (node ∷ []),
+        );
         within = λ at. omega (arith, is.within at, one_more at after.replaced.items r.replaced.items (node ∷ []) g.replaced_is, times-refs at old (node ∷ []));
-        each = subst (All (IsNode n)) (sym g.nodes_is) (All-append (IsNode n) r.nodes.items (fresh ∷ []) (each-same mid n r.nodes.items same is.each) (All-cons (IsNode n) fresh [] one'.0 (All-nil (IsNode n))));
-        list_is = ap (elements_of n) g.nodes_is ∙ flat_map-append (node_list n) r.nodes.items (fresh ∷ []) ∙ ap (λ (xs : List (List ℕ)). xs ++ elements_of n (fresh ∷ [])) (elements-same mid n r.nodes.items same ∙ is.list_is)
+        each = subst (All (IsNode n)) (sym g.nodes_is)
+            (All-append (IsNode n) r.nodes.items (fresh ∷ []) (each-same mid n r.nodes.items same is.each) (All-cons (IsNode n) fresh [] one'.0 (All-nil (IsNode n))));
+        list_is = ap (elements_of n) g.nodes_is ∙ flat_map-append (node_list n) r.nodes.items (fresh ∷ [])
+            ∙ ap (λ (xs : List (List ℕ)). xs ++ elements_of n (fresh ∷ [])) (elements-same mid n r.nodes.items same ∙ is.list_is)
             ∙ ap (λ (xs : List (List ℕ)). list ++ xs) (append-nil (node_list n fresh) ∙ one'.1);
-        packed = λ all. subst (All IsPackedNode) (sym g.nodes_is) (All-append IsPackedNode r.nodes.items (fresh ∷ []) (is.packed (All-front IsPackedNode old (node ∷ []) all)) (All-cons IsPackedNode fresh [] f.container (All-nil IsPackedNode)));
+        packed = λ all. subst (All IsPackedNode) (sym g.nodes_is)
+            (All-append IsPackedNode r.nodes.items (fresh ∷ []) (is.packed (All-front IsPackedNode old (node ∷ []) all))
+            (All-cons IsPackedNode fresh [] f.container (All-nil IsPackedNode)));
         fewer = omega (arith, is.fewer, ap length g.nodes_is, length-append r.nodes.items (fresh ∷ []), length-append old (node ∷ []));
       }
 
@@ -148,16 +185,19 @@ module _ (m mid n : Blocks) (old : List Node) (node : Node) (list rest : List (L
   rebuilt_more (Part pack count) a l = part_more a.0 pack.items count a.1 a.2 l.0 l.1 l.2 l.3
 
 -- the block of a node that is still to be taken up
-pub node_stays : (m mid : Blocks) (nodes placed : List Node) (k : ℕ) (node : Node) → IsChain m nodes → k < length nodes → node ≡ get_or nodes k node → Changes m mid [] (refs_of placed) → mid node.at ≡ m node.at
+pub node_stays : (m mid : Blocks) (nodes placed : List Node) (k : ℕ) (node : Node) → IsChain m nodes → k < length nodes → node ≡ get_or nodes k node → Changes m mid [] (refs_of placed)
+    → mid node.at ≡ m node.at
 node_stays m mid nodes placed k node c h is p = Owned-others m mid [] (refs_of placed) (refs_of nodes) c.owned p node.at (in_refs nodes k node h is) refl
 
 -- it is live, and holds what the node counts
-pub node_there : (m mid : Blocks) (nodes placed : List Node) (k : ℕ) (node : Node) → IsChain m nodes → k < length nodes → node ≡ get_or nodes k node → Changes m mid [] (refs_of placed) → IsReadable mid node
+pub node_there : (m mid : Blocks) (nodes placed : List Node) (k : ℕ) (node : Node) → IsChain m nodes → k < length nodes → node ≡ get_or nodes k node → Changes m mid [] (refs_of placed)
+    → IsReadable mid node
 node_there m mid nodes placed k node c h is p =
     readable_as m mid node (sym (node_stays m mid nodes placed k node c h is p)) (node_read m nodes k node h is c)
 
 -- what stands in it
-module _ (m mid : Blocks) (nodes placed : List Node) (k : ℕ) (node : Node) (bytes : List ℕ) (c : IsChain m nodes) (h : k < length nodes) (is : node ≡ get_or nodes k node) (p : Changes m mid [] (refs_of placed)) (there : bytes_of mid node ≡ bytes) where
+module _ (m mid : Blocks) (nodes placed : List Node) (k : ℕ) (node : Node) (bytes : List ℕ) (c : IsChain m nodes) (h : k < length nodes) (is : node ≡ get_or nodes k node)
+    (p : Changes m mid [] (refs_of placed)) (there : bytes_of mid node ≡ bytes) where
   -- over the blocks before, the node at the index holds what it counts
   pub is_node_of : IsNode m node
   is_node_of = subst (λ (x : Node). IsNode m x) (sym is) (c.each k node h)
@@ -184,7 +224,8 @@ module _ (m mid : Blocks) (nodes placed : List Node) (k : ℕ) (node : Node) (by
 
   -- the elements of the nodes up to and with the one at the index are those before it, and then its own
   pub elements_next : elements_of m (take (k + 1) nodes) ≡ elements_of m (take k nodes) ++ node_list m node
-  elements_next = ap (elements_of m) front_next ∙ flat_map-append (node_list m) (take k nodes) (node ∷ []) ∙ ap (λ (xs : List (List ℕ)). elements_of m (take k nodes) ++ xs) (append-nil (node_list m node))
+  elements_next = ap (elements_of m) front_next ∙ flat_map-append (node_list m) (take k nodes) (node ∷ [])
+      ∙ ap (λ (xs : List (List ℕ)). elements_of m (take k nodes) ++ xs) (append-nil (node_list m node))
 
   -- a node's start and its count add up to the number of the elements up to and with its own
   pub start_next : (start : ℕ) → start ≡ length (elements_of m (take k nodes)) → start + node.count ≡ length (elements_of m (take (k + 1) nodes))
@@ -204,7 +245,8 @@ module _ (m mid : Blocks) (nodes placed : List Node) (k : ℕ) (node : Node) (by
 
   -- with what is left of the next node taken up, one node more is rebuilt without the elements that go
   pub rebuilt_next : (n : Blocks) (reach : Reach) (start : ℕ) (left : Left) (r after : Rebuilt) → start ≡ length (elements_of m (take k nodes))
-      → IsRebuilt m mid (take k nodes) (cleared reach 0 (elements_of m (take k nodes))) r → IsLeft (held node.container bytes) (cleared reach start (held node.container bytes)) left → IsAdded mid n node left r after
+      → IsRebuilt m mid (take k nodes) (cleared reach 0 (elements_of m (take k nodes))) r → IsLeft (held node.container bytes) (cleared reach start (held node.container bytes)) left
+      → IsAdded mid n node left r after
       → IsRebuilt m n (take (k + 1) nodes) (cleared reach 0 (elements_of m (take (k + 1) nodes))) after
   rebuilt_next n reach start left r after at so_far l a =
       let xs = elements_of m (take k nodes) in
@@ -226,7 +268,8 @@ room_open r used most room h =
     record { nodes = omega (arith, n, h, room.nodes, room.nodes_used); placed = omega (arith, p, h, room.placed, room.placed_used); replaced = omega (arith, q, h, room.replaced, room.replaced_used) }
 
 -- where each part grew by one node at most, its room has one more node in use at most
-room_grown : (r after : Rebuilt) (nodes placed replaced : List Node) (used most : ℕ) → HasRoom r used most → IsGrown r after nodes placed replaced → length nodes ≤ 1 → length placed ≤ 1 → length replaced ≤ 1
+room_grown : (r after : Rebuilt) (nodes placed replaced : List Node) (used most : ℕ) → HasRoom r used most → IsGrown r after nodes placed replaced → length nodes ≤ 1 → length placed ≤ 1
+    → length replaced ≤ 1
     → HasRoom after (used + 1) most
 room_grown r after nodes placed replaced used most room g a b c = record {
   nodes = omega (arith, room.nodes, g.nodes_room);
@@ -244,7 +287,8 @@ room_more mid n node Nothing r after used most room a = room_grown r after [] []
 room_more mid n node (Part pack count) r after used most room a = room_grown r after (a.0 ∷ []) (a.0 ∷ []) (node ∷ []) used most room a.2 (omega arith) (omega arith) (omega arith)
 
 -- The old nodes that are in the list no more are given back.
-module _ (m mid n : Blocks) (nodes : List Node) (list : List (List ℕ)) (r : Rebuilt) (own : Owned (refs_of nodes) m) (is : IsRebuilt m mid nodes list r) (ended : Changes mid n (refs_of r.replaced.items) []) where
+module _ (m mid n : Blocks) (nodes : List Node) (list : List (List ℕ)) (r : Rebuilt) (own : Owned (refs_of nodes) m) (is : IsRebuilt m mid nodes list r)
+    (ended : Changes mid n (refs_of r.replaced.items) []) where
   -- the nodes that are in the list no more own their blocks until they are given back
   pub replaced_owned : Owned (refs_of r.replaced.items) mid
   replaced_owned at = omega (arith, nodes_owned m mid nodes list r own is at, times-append at (refs_of r.nodes.items) (refs_of r.replaced.items))
@@ -266,7 +310,8 @@ module _ (m mid n : Blocks) (nodes : List Node) (list : List (List ℕ)) (r : Re
 
   -- the blocks of the rebuilt nodes are the same after the replaced ones are given back
   same_nodes : Same mid n r.nodes.items
-  same_nodes at isin = ending.kept at (omega (arith, isin, nodes_owned m mid nodes list r own is at, times-append at (refs_of r.nodes.items) (refs_of r.replaced.items), live-once mid at)) (omega arith)
+  same_nodes at isin = ending.kept at (omega (arith, isin, nodes_owned m mid nodes list r own is at, times-append at (refs_of r.nodes.items) (refs_of r.replaced.items), live-once mid at))
+      (omega arith)
 
   -- the rebuilt nodes are a chain once the replaced ones are given back
   pub rebuilt_chain : IsChain n r.nodes.items

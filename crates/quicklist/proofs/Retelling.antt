@@ -74,7 +74,8 @@ packed_block n count ss rest each written size short counted few =
       length-append (little_bytes 2 count) (entries ss ++ end),
       length-append (entries ss) end,
     ) in
-    let is : IsPacked bytes = record { pack = e.pack; written = e.entries ∙ written ∙ ap (λ (ys : List (List ℕ)). map spelling (map text_of ys)) (sym e.entries); short = omega (arith, long, short) } in
+    let is : IsPacked bytes = record
+    { pack = e.pack; written = e.entries ∙ written ∙ ap (λ (ys : List (List ℕ)). map spelling (map text_of ys)) (sym e.entries); short = omega (arith, long, short) } in
     let fills = filled_pack bytes rest is in
     (subst IsPacked (sym fills) is, ap texts fills ∙ ap (map text_of) e.entries)
 
@@ -130,7 +131,8 @@ told_behind block more tail from count p q place tail_is short counted few =
     (subst (λ (b : List ℕ). IsPacked (filled Packed b)) (sym whole) t.0, ap (λ (b : List ℕ). texts (filled Packed b)) whole ∙ t.1 ∙ map-append text_of xs ys)
 
 -- so it is in the block of a packed node
-pub rewritten_behind : (m n : Blocks) (node : Node) (more tail : List ℕ) (from count : ℕ) → IsNode m node → node.container ≡ Packed → IsPacked more → from + 1 ≡ length (bytes_of m node) → tail ≡ drop 6 more
+pub rewritten_behind : (m n : Blocks) (node : Node) (more tail : List ℕ) (from count : ℕ) → IsNode m node → node.container ≡ Packed → IsPacked more → from + 1 ≡ length (bytes_of m node)
+    → tail ≡ drop 6 more
     → length (bytes_of m node) + length more ≤ 8199 → count ≡ length (node_list m node) + length (texts more) → count < 65535
     → n ≡ with_block m node.at (Some (rewritten (bytes_at m node.at) from tail count)) → IsRewritten m n node (node_list m node ++ texts more)
 rewritten_behind m n node more tail from count is packed q place tail_is short counted few put =
@@ -203,7 +205,8 @@ offset_room m node i from is packed off =
 -- two writes into one block
 module _ (m mid : Blocks) (at : BlockRef) (from : ℕ) (tail : List ℕ) (first : mid ≡ with_block m at (Some (overwritten (bytes_at m at) from tail))) where
   -- the second over what the first left
-  pub written_twice : (n : Blocks) (head : List ℕ) → n ≡ with_block mid at (Some (overwritten (bytes_at mid at) 0 head)) → n ≡ with_block m at (Some (overwritten (overwritten (bytes_at m at) from tail) 0 head))
+  pub written_twice : (n : Blocks) (head : List ℕ) → n ≡ with_block mid at (Some (overwritten (bytes_at mid at) 0 head))
+      → n ≡ with_block m at (Some (overwritten (overwritten (bytes_at m at) from tail) 0 head))
   written_twice n head second =
       let inner = overwritten (bytes_at m at) from tail in
       second

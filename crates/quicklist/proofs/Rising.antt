@@ -127,7 +127,8 @@ changed_from m n old new list x = record { quick = x.quick; list_is = x.list_is;
 
 -- pieces in the place of nodes, and too many elements for one listpack
 pub written_pieces : {A E : Type 0} (r : Result A E) (m n : Blocks) (old new : Chain) (list : List (List ℕ)) (k e len : ℕ) (pieces : List Piece) → flat_map piece_list pieces ≡ list
-    → IsFormed old.form (map container_of old.nodes) → IsOverfull old (respelled m old k list e) len → OnOk r (Exchanged m n old.nodes new.nodes k e pieces) → OnOk r (new.len ≡ len) → OnOk r (new.form ≡ Quicklist)
+    → IsFormed old.form (map container_of old.nodes) → IsOverfull old (respelled m old k list e) len → OnOk r (Exchanged m n old.nodes new.nodes k e pieces) → OnOk r (new.len ≡ len)
+    → OnOk r (new.form ≡ Quicklist)
     → OnOk r (IsWritten m n old new (respelled m old k list e))
 written_pieces r m n old new list k e len pieces is formed over x len_is form_is =
     let whole = respelled m old k list e in

@@ -92,12 +92,14 @@ pack_len-remove xs i j h =
 pub joined_is : (old new text : List ℕ) (i count : ℕ) → IsPacked old → length old + length (entry text) ≤ 8192 → IsEdited new (insert (spellings_of old) i (spelling text)) count
     → texts new ≡ insert (texts old) i text → IsPacked new
 joined_is old new text i count p room e is =
-    let written : IsEdited new (map spelling (insert (texts old) i text)) count = subst (λ (ss : List (List ℕ)). IsEdited new ss count) (ap (λ (ss : List (List ℕ)). insert ss i (spelling text)) p.written ∙ insert-map (texts old) i text) e in
+    let written : IsEdited new (map spelling (insert (texts old) i text)) count =
+    subst (λ (ss : List (List ℕ)). IsEdited new ss count) (ap (λ (ss : List (List ℕ)). insert ss i (spelling text)) p.written ∙ insert-map (texts old) i text) e in
     edited_written new (insert (texts old) i text) count written is
     (omega (arith, edited_len new (insert (texts old) i text) count written is, pack_len-insert (texts old) i text, packed_len old p, room))
 
 -- behind all others
-pub appended_is : (old new text : List ℕ) (count : ℕ) → IsPacked old → length old + length (entry text) ≤ 8192 → IsEdited new (spellings_of old ++ spelling text ∷ []) count → texts new ≡ texts old ++ text ∷ [] → IsPacked new
+pub appended_is : (old new text : List ℕ) (count : ℕ) → IsPacked old → length old + length (entry text) ≤ 8192 → IsEdited new (spellings_of old ++ spelling text ∷ []) count
+    → texts new ≡ texts old ++ text ∷ [] → IsPacked new
 appended_is old new text count p room e is =
     let written : IsEdited new (map spelling (texts old ++ text ∷ [])) count =
     subst (λ (ss : List (List ℕ)). IsEdited new ss count) (ap (λ (ss : List (List ℕ)). ss ++ spelling text ∷ []) p.written ∙ sym (map-append spelling (texts old) (text ∷ []))) e in
@@ -114,13 +116,15 @@ empty_is new e =
 pub replaced_len : (old new text : List ℕ) (i count : ℕ) → IsPacked old → IsEdited new (set (spellings_of old) i (spelling text)) count
     → texts new ≡ set (texts old) i text → IsEdited new (map spelling (set (texts old) i text)) count × (length new ≡ pack_len (set (texts old) i text))
 replaced_len old new text i count p e is =
-    let written : IsEdited new (map spelling (set (texts old) i text)) count = subst (λ (ss : List (List ℕ)). IsEdited new ss count) (ap (λ (ss : List (List ℕ)). set ss i (spelling text)) p.written ∙ set-map (texts old) i text) e in
+    let written : IsEdited new (map spelling (set (texts old) i text)) count =
+    subst (λ (ss : List (List ℕ)). IsEdited new ss count) (ap (λ (ss : List (List ℕ)). set ss i (spelling text)) p.written ∙ set-map (texts old) i text) e in
     (written, edited_len new (set (texts old) i text) count written is)
 
 -- and with some taken out
 pub cut_is : (old new : List ℕ) (i j count : ℕ) → i ≤ j → IsPacked old → IsEdited new (remove_range (spellings_of old) i j) count → texts new ≡ remove_range (texts old) i j → IsPacked new
 cut_is old new i j count h p e is =
-    let written : IsEdited new (map spelling (remove_range (texts old) i j)) count = subst (λ (ss : List (List ℕ)). IsEdited new ss count) (ap (λ (ss : List (List ℕ)). remove_range ss i j) p.written ∙ remove_range-map (texts old) i j) e in
+    let written : IsEdited new (map spelling (remove_range (texts old) i j)) count =
+    subst (λ (ss : List (List ℕ)). IsEdited new ss count) (ap (λ (ss : List (List ℕ)). remove_range ss i j) p.written ∙ remove_range-map (texts old) i j) e in
     edited_written new (remove_range (texts old) i j) count written is
     (omega (arith, edited_len new (remove_range (texts old) i j) count written is, pack_len-remove (texts old) i j h, packed_len old p, p.short))
 

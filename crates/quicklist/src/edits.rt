@@ -97,7 +97,8 @@ impl Quick {
         requires middle { IsPiece middle }
         requires behind { IsPart behind }
         requires overfull { IsOverfull self.old (respelled (B.blocks store.old) self.old k (three before middle behind) (k + 1)) len }
-        ensures written { OnOk result (IsWritten (B.blocks store.old) (B.blocks store.new) self.old self.new (respelled (B.blocks store.old) self.old k (three before.entry middle.entry behind.entry) (k + 1))) }
+        ensures written { OnOk result
+            (IsWritten (B.blocks store.old) (B.blocks store.new) self.old self.new (respelled (B.blocks store.old) self.old k (three before.entry middle.entry behind.entry) (k + 1))) }
         ensures served { Served B.step store.old store.new }
         ensures err_list { OnErr result (self.new ≡ self.old) }
         ensures err_blocks { OnErr result (B.blocks store.new ≡ B.blocks store.old) }
@@ -127,7 +128,9 @@ impl Quick {
         requires order { from ≤ to }
         requires bound { to ≤ (node_at self.old.nodes k).count }
         requires overfull { IsOverfull self.old (respelled (B.blocks store.old) self.old k (around from to element.now (node_list (B.blocks store.old) (node_at self.old.nodes k))) (k + 1)) len }
-        ensures written { OnOk result (IsWritten (B.blocks store.old) (B.blocks store.new) self.old self.new (respelled (B.blocks store.old) self.old k (around from to element.now (node_list (B.blocks store.old) (node_at self.old.nodes k))) (k + 1))) }
+        ensures written { OnOk result
+            (IsWritten (B.blocks store.old) (B.blocks store.new) self.old self.new
+            (respelled (B.blocks store.old) self.old k (around from to element.now (node_list (B.blocks store.old) (node_at self.old.nodes k))) (k + 1))) }
         ensures served { Served B.step store.old store.new }
         ensures err_list { OnErr result (self.new ≡ self.old) }
         ensures err_blocks { OnErr result (B.blocks store.new ≡ B.blocks store.old) }

@@ -58,7 +58,9 @@ impl Quick {
         requires before { IsPiece before }
         requires behind { IsPiece behind }
         requires len { len ≡ length (respelled (B.blocks store.old) self.old k (piece_list before ++ piece_list behind) (k + gone)) }
-        ensures changed { OnOk result (IsChanged (B.blocks store.old) (B.blocks store.new) self.old self.new (respelled (B.blocks store.old) self.old k (piece_list before.entry ++ piece_list behind.entry) (k + gone))) }
+        ensures changed { OnOk result
+            (IsChanged (B.blocks store.old) (B.blocks store.new) self.old self.new
+            (respelled (B.blocks store.old) self.old k (piece_list before.entry ++ piece_list behind.entry) (k + gone))) }
         ensures form { self.new.form ≡ self.old.form }
         ensures served { Served B.step store.old store.new }
         ensures err_list { OnErr result (self.new ≡ self.old) }
@@ -121,8 +123,13 @@ impl Quick {
         requires from { i < length (node_list (B.blocks store.old) (node_at self.old.nodes first)) }
         requires some { 0 < j }
         requires to { j ≤ length (node_list (B.blocks store.old) (node_at self.old.nodes last)) }
-        requires len { len ≡ length (respelled (B.blocks store.old) self.old first (take i (node_list (B.blocks store.old) (node_at self.old.nodes first)) ++ drop j (node_list (B.blocks store.old) (node_at self.old.nodes last))) (last + 1)) }
-        ensures changed { OnOk result (IsChanged (B.blocks store.old) (B.blocks store.new) self.old self.new (respelled (B.blocks store.old) self.old first (take i (node_list (B.blocks store.old) (node_at self.old.nodes first)) ++ drop j (node_list (B.blocks store.old) (node_at self.old.nodes last))) (last + 1))) }
+        requires len { len ≡ length
+            (respelled (B.blocks store.old) self.old first
+            (take i (node_list (B.blocks store.old) (node_at self.old.nodes first)) ++ drop j (node_list (B.blocks store.old) (node_at self.old.nodes last))) (last + 1)) }
+        ensures changed { OnOk result
+            (IsChanged (B.blocks store.old) (B.blocks store.new) self.old self.new
+            (respelled (B.blocks store.old) self.old first
+            (take i (node_list (B.blocks store.old) (node_at self.old.nodes first)) ++ drop j (node_list (B.blocks store.old) (node_at self.old.nodes last))) (last + 1))) }
         ensures form { self.new.form ≡ self.old.form }
         ensures served { Served B.step store.old store.new }
         ensures err_list { OnErr result (self.new ≡ self.old) }

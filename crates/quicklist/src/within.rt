@@ -32,7 +32,8 @@ fn write_from<B: BlockStore>(store: &mut B, at: BlockRef, from: usize, tail: &[u
     requires room { from + length tail.now ≤ length (bytes_at (B.blocks store.old) at) }
     requires header { 6 ≤ length (bytes_at (B.blocks store.old) at) }
     requires small { from + length tail.now < 2 ^ 32 }
-    ensures written { B.blocks store.new ≡ with_block (B.blocks store.old) at (Some (overwritten (overwritten (bytes_at (B.blocks store.old) at) from tail.now) 0 (little_bytes 4 (from + length tail.now) ++ little_bytes 2 count))) }
+    ensures written { B.blocks store.new ≡ with_block (B.blocks store.old) at
+        (Some (overwritten (overwritten (bytes_at (B.blocks store.old) at) from tail.now) 0 (little_bytes 4 (from + length tail.now) ++ little_bytes 2 count))) }
     ensures served { Served B.step store.old store.new }
 {
     let head = header_of((from + tail.len()) as u32, count);
@@ -122,7 +123,9 @@ impl Quick {
         requires inside { k < length self.old.nodes }
         requires space { HasSpace (B.blocks store.old) (node_at self.old.nodes k) (node_at self.old.nodes k).count element.now }
         requires len { len ≡ length (respelled (B.blocks store.old) self.old k (node_list (B.blocks store.old) (node_at self.old.nodes k) ++ element.now ∷ []) (k + 1)) }
-        ensures written { OnOk result (IsWritten (B.blocks store.old) (B.blocks store.new) self.old self.new (respelled (B.blocks store.old) self.old k (node_list (B.blocks store.old) (node_at self.old.nodes k) ++ element.now ∷ []) (k + 1))) }
+        ensures written { OnOk result
+            (IsWritten (B.blocks store.old) (B.blocks store.new) self.old self.new
+            (respelled (B.blocks store.old) self.old k (node_list (B.blocks store.old) (node_at self.old.nodes k) ++ element.now ∷ []) (k + 1))) }
         ensures served { Served B.step store.old store.new }
         ensures err_list { OnErr result (self.new ≡ self.old) }
         ensures err_blocks { OnErr result (B.blocks store.new ≡ B.blocks store.old) }
@@ -149,7 +152,8 @@ impl Quick {
         requires back { IsBack (node_at self.old.nodes k) i (node_at self.old.nodes k).count }
         requires from { i < length (node_list (B.blocks store.old) (node_at self.old.nodes k)) }
         requires len { len ≡ length (respelled (B.blocks store.old) self.old k (take i (node_list (B.blocks store.old) (node_at self.old.nodes k))) (k + 1)) }
-        ensures written { IsWritten (B.blocks store.old) (B.blocks store.new) self.old self.new (respelled (B.blocks store.old) self.old k (take i (node_list (B.blocks store.old) (node_at self.old.nodes k))) (k + 1)) }
+        ensures written { IsWritten (B.blocks store.old) (B.blocks store.new) self.old self.new
+            (respelled (B.blocks store.old) self.old k (take i (node_list (B.blocks store.old) (node_at self.old.nodes k))) (k + 1)) }
         ensures form { self.new.form ≡ self.old.form }
         ensures served { Served B.step store.old store.new }
     {

@@ -1,5 +1,6 @@
 -- How a key goes on at a node, from what is read of its bytes.
-use Rattle.std.proofs.Common.{◌≡◌, ◌≢◌, ◌∙◌, ℕ, zero, suc, ◌+◌, ◌*◌, ◌-◌, ◌<◌, ◌≤◌, List, [], ◌∷◌, ◌++◌, length, take, drop, replicate, get_or, refl, sym, ap, inl, inr, arith, append_assoc, length-append, length-drop}
+use Rattle.std.proofs.Common.{◌≡◌, ◌≢◌, ◌∙◌, ℕ, zero, suc, ◌+◌, ◌*◌, ◌-◌, ◌<◌, ◌≤◌, List, [], ◌∷◌, ◌++◌, length, take, drop, replicate, get_or, refl, sym, ap, inl, inr, arith}
+use Rattle.std.proofs.Common.{append_assoc, length-append, length-drop}
 use Rattle.std.proofs.lemmas.List.{drop_at, take_at, take_all, length-take-le, length-map, take-append-drop, drop_more, drop-drop, get_or_default}
 use Rattle.std.specs.Prelude.{slice_index}
 use Rattle.std.specs.List.{AllByRecursion}
@@ -35,7 +36,8 @@ parts_within rest bytes node = elim (node_cases rest bytes node) [
 ]
 
 -- a key that has the first bytes of a node's prefix, but another byte after them, leaves the prefix there
-pub parts_at : (node : Node) (prefix key : List ℕ) (shared : ℕ) → prefix_in node ≡ prefix → shared < length prefix → length prefix ≤ length key → take shared prefix ≡ take shared key → slice_index prefix shared ≢ slice_index key shared → PartsAt node key shared
+pub parts_at : (node : Node) (prefix key : List ℕ) (shared : ℕ) → prefix_in node ≡ prefix → shared < length prefix → length prefix ≤ length key → take shared prefix ≡ take shared key
+    → slice_index prefix shared ≢ slice_index key shared → PartsAt node key shared
 parts_at node prefix key shared is within upto alike apart =
     record {
       begin = take shared prefix;
@@ -55,14 +57,16 @@ begun prefix key shared is upto alike =
     sym (take-append-drop shared key) ∙ ap (λ xs. xs ++ drop shared key) (sym alike ∙ take_all shared prefix (omega arith))
 
 -- where a key has all of a leaf's prefix, the leaf is the key's
-pub leaf_way : (rest : ℕ) (bytes key : List ℕ) (shared : ℕ) → IsLeafAt rest bytes → length key ≡ rest → shared ≡ length (prefix_from bytes) → take shared (prefix_from bytes) ≡ take shared key → node_of bytes ≡ Leaf key (ref_from (body_from bytes))
+pub leaf_way : (rest : ℕ) (bytes key : List ℕ) (shared : ℕ) → IsLeafAt rest bytes → length key ≡ rest → shared ≡ length (prefix_from bytes)
+    → take shared (prefix_from bytes) ≡ take shared key → node_of bytes ≡ Leaf key (ref_from (body_from bytes))
 leaf_way rest bytes key shared leaf all is alike =
     let whole = leaf.whole in
     let same : prefix_from bytes ≡ key = sym (take_all shared (prefix_from bytes) (omega arith)) ∙ alike ∙ take_all shared key (omega arith) in
     leaf.node_is ∙ ap (λ p. Leaf p (ref_from (body_from bytes))) same
 
 -- the reference of a link
-pub ref_at : (links : List Link) (k : ℕ) (d : Link) (more : List ℕ) → k < length links → AllByRecursion (λ l. IsRef l.to) links → ref_from (drop (12 * k) (refs_bytes links ++ more)) ≡ (get_or links k d).to
+pub ref_at : (links : List Link) (k : ℕ) (d : Link) (more : List ℕ) → k < length links → AllByRecursion (λ l. IsRef l.to) links
+    → ref_from (drop (12 * k) (refs_bytes links ++ more)) ≡ (get_or links k d).to
 ref_at [] k d more h fit = absurd (omega arith)
 ref_at (l ∷ links) zero d more h fit = ap ref_from (append_assoc (ref_bytes l.to) (refs_bytes links) more) ∙ ref_from-bytes l.to (refs_bytes links ++ more) fit.0
 ref_at (l ∷ links) (suc k) d more h fit =
@@ -125,12 +129,14 @@ pub record IsRead (links : List Link) (edges refs : List ℕ) : Type 0 where
   pub refs_are : refs ≡ refs_bytes links ++ more
 
 -- the edges and the references read from an inner node's bytes are those of its links
-pub read_of : (rest : ℕ) (bytes edges refs : List ℕ) (inner : IsInnerAt rest bytes) → edges ≡ take (little_number 2 (body_from bytes)) (drop 2 (body_from bytes)) → refs ≡ drop (little_number 2 (body_from bytes)) (drop 2 (body_from bytes)) → IsRead inner.links edges refs
+pub read_of : (rest : ℕ) (bytes edges refs : List ℕ) (inner : IsInnerAt rest bytes) → edges ≡ take (little_number 2 (body_from bytes)) (drop 2 (body_from bytes))
+    → refs ≡ drop (little_number 2 (body_from bytes)) (drop 2 (body_from bytes)) → IsRead inner.links edges refs
 read_of rest bytes edges refs inner edges_is refs_is =
     let links = inner.links in
     let laid = inner.laid in
     record {
-      edges_are = edges_is ∙ ap (λ n. take n (drop 2 (body_from bytes))) laid.count ∙ ap (take (length links)) laid.edges ∙ take_at (edges_of links) (refs_bytes links ++ replicate laid.zeros 0) (length links) (length-map links (λ l. l.edge));
+      edges_are = edges_is ∙ ap (λ n. take n (drop 2 (body_from bytes))) laid.count ∙ ap (take (length links)) laid.edges
+          ∙ take_at (edges_of links) (refs_bytes links ++ replicate laid.zeros 0) (length links) (length-map links (λ l. l.edge));
       more = replicate laid.zeros 0;
       refs_are = refs_is ∙ ap (λ n. drop n (drop 2 (body_from bytes))) laid.count ∙ laid.refs;
     }
@@ -187,7 +193,8 @@ missing_way rest bytes key edges refs shared place inner read all is alike withi
       key_is = begun prefix key shared is (omega arith) alike ∙ ap (λ xs. prefix ++ xs) (drop_more key shared 0 (omega arith) ∙ ap (λ n. get_or key shared 0 ∷ drop n key) next);
       begins = omega arith;
       less = below_take links place byte (λ i less inside. less-cmp (get_or (edges_of links) i 0) byte (ap (λ xs. nat_cmp (get_or xs i 0) byte) (sym read.edges_are) ∙ point.0 i 0 (omega arith) less));
-      more = above_drop links place byte (λ i more inside. greater-cmp (get_or (edges_of links) i 0) byte (ap (λ xs. nat_cmp (get_or xs i 0) byte) (sym read.edges_are) ∙ point.1 i 0 more (omega arith)));
+      more = above_drop links place byte
+          (λ i more inside. greater-cmp (get_or (edges_of links) i 0) byte (ap (λ xs. nat_cmp (get_or xs i 0) byte) (sym read.edges_are) ∙ point.1 i 0 more (omega arith)));
     }
 
 -- the count of an inner node's links and their edges lie within what stands behind its prefix
@@ -196,7 +203,8 @@ links_within rest bytes body inner is =
     let links = inner.links in
     let laid = inner.laid in
     let count : little_number 2 body ≡ length links = ap (little_number 2) is ∙ laid.count in
-    let long : length (drop 2 body) ≡ length (edges_of links) + length (refs_bytes links ++ replicate laid.zeros 0) = ap (λ xs. length (drop 2 xs)) is ∙ ap length laid.edges ∙ length-append (edges_of links) (refs_bytes links ++ replicate laid.zeros 0) in
+    let long : length (drop 2 body) ≡ length (edges_of links) + length (refs_bytes links ++ replicate laid.zeros 0) = ap (λ xs. length (drop 2 xs)) is ∙ ap length laid.edges
+    ∙ length-append (edges_of links) (refs_bytes links ++ replicate laid.zeros 0) in
     let some = inner.inner.some in
     omega (arith, length-drop 2 body, length-map links (λ l. l.edge))
 
@@ -223,7 +231,8 @@ length-body_from : (bytes : List ℕ) → length (body_from bytes) ≡ length by
 length-body_from bytes = omega (arith, length-drop (slice_index bytes 1) (drop 2 bytes), length-drop 2 bytes)
 
 -- behind its prefix a leaf has twelve bytes, and an inner node two and thirteen for each link
-pub body_within : (rest len : ℕ) (bytes : List ℕ) → IsNode rest bytes → rest ≤ 16 → (slice_index bytes 0 ≡ 0 → len ≡ 12) → (slice_index bytes 0 ≢ 0 → len ≡ 2 + 13 * little_number 2 (body_from bytes)) → IsBody bytes len
+pub body_within : (rest len : ℕ) (bytes : List ℕ) → IsNode rest bytes → rest ≤ 16 → (slice_index bytes 0 ≡ 0 → len ≡ 12)
+    → (slice_index bytes 0 ≢ 0 → len ≡ 2 + 13 * little_number 2 (body_from bytes)) → IsBody bytes len
 body_within rest len bytes node few leaf inner = elim (node_cases rest bytes node) [
   | inl l ↦ (let is = leaf l.0 in let body = l.1.body in let whole = l.1.whole in record { within = omega arith; few = omega arith; short = omega arith })
   | inr i ↦

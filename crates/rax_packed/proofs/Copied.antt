@@ -21,7 +21,8 @@ module _ (a mid : Blocks) (tree copy : PackedTree) (s : IsSound a tree) (p : Cha
   both =
       subst (λ l. Owned (refs_of mid copy ++ l) mid) (sym original.refs_are)
       (Changes-owned a mid (refs_of a tree) (refs_of mid copy ++ refs_of a tree)
-      (Changes-beside a mid [] (refs_of mid copy) (refs_of a tree) (refs_of mid copy ++ refs_of a tree) p s.owned (λ r. times r (refs_of a tree)) (λ r. omega arith) (λ r. times-append r (refs_of mid copy) (refs_of a tree))))
+      (Changes-beside a mid [] (refs_of mid copy) (refs_of a tree) (refs_of mid copy ++ refs_of a tree) p s.owned (λ r. times r (refs_of a tree)) (λ r. omega arith)
+      (λ r. times-append r (refs_of mid copy) (refs_of a tree))))
 
   -- the copy stands when the original is given back
   pub copy_sound : (after : Blocks) → IsSound mid copy → Changes mid after (refs_of mid tree) [] → IsSound after copy

@@ -1,5 +1,6 @@
 -- A tree while it is copied: the copy's first links name copies, and the others still the nodes that are to be copied.
-use Rattle.std.proofs.Common.{◌≡◌, ◌∙◌, ℕ, suc, ◌+◌, ◌*◌, ◌-◌, ◌<◌, ◌≤◌, false, cond, is_some, List, [], ◌∷◌, ◌++◌, length, take, drop, get_or, map, Option, Some, None, IsSome, unwrap_or, refl, sym, ap, subst, inl, inr, arith, append_assoc, length-append, length-drop}
+use Rattle.std.proofs.Common.{◌≡◌, ◌∙◌, ℕ, suc, ◌+◌, ◌*◌, ◌-◌, ◌<◌, ◌≤◌, false, cond, is_some, List, [], ◌∷◌, ◌++◌, length, take, drop, get_or, map, Option, Some, None, IsSome, unwrap_or}
+use Rattle.std.proofs.Common.{refl, sym, ap, subst, inl, inr, arith, append_assoc, length-append, length-drop}
 use Rattle.std.proofs.lemmas.List.{append-nil, take_at, take_all, take_more, drop_more}
 use Rattle.std.proofs.Math.ListN.{drop_of_length-le}
 use Rattle.std.specs.List.{AllByRecursion, flat_map}
@@ -14,7 +15,8 @@ use Rattle.rax_packed.specs.Trees.{Entry, node_at, under, entries, refs, IsTree,
 use Rattle.rax_packed.specs.Ways.{IsInnerBytes, links_in, prefix_in}
 use Rattle.rax_packed.specs.Copies.{IsCopy}
 use Rattle.rax_packed.proofs.Entries.{below_links, all-append}
-use Rattle.rax_packed.proofs.Frames.{refs_below, SameTree, same_tree, SameBelow, same_below, LevelsBelow, levels_below, InnerAt, LeafAt, inner_at, inner_node, leaf_node, inner_tree, leaf_tree, inner_entries, leaf_entries, inner_refs, leaf_refs}
+use Rattle.rax_packed.proofs.Frames.{refs_below, SameTree, same_tree, SameBelow, same_below, LevelsBelow, levels_below, InnerAt, LeafAt, inner_at, inner_node, leaf_node, inner_tree}
+use Rattle.rax_packed.proofs.Frames.{leaf_tree, inner_entries, leaf_entries, inner_refs, leaf_refs}
 use Rattle.rax_packed.proofs.Links.{inner_relinked, relinked_bytes}
 use Rattle.rax_packed.proofs.Looks.{Named, named, node_read, tree_node, same_some}
 use Rattle.rax_packed.proofs.Releases.{node_refs, node_trees, all_at, refs_split, with_link}
@@ -85,7 +87,8 @@ copying_none left n (Inner prefix links) b m new fits put change = record {
 -- the tree below one more link is copied, and the copy's link names it
 module _ (left n : ℕ) (prefix : List ℕ) (links : List Link) (b m m2 m3 : Blocks) (new child : BlockRef) (k : ℕ) (d : Link) (c : Copying left n (Inner prefix links) b m new k) (h : k < length links)
     (source : SameTree (suc left) b m (get_or links k d).to) (copy : IsCopy left m m2 (get_or links k d).to child) (ref : IsRef child)
-    (written : (offset : ℕ) → offset ≡ 4 + length (prefix_in (node_of (bytes_at m2 new))) + length (links_in (node_of (bytes_at m2 new))) + 12 * k → m3 ≡ with_block m2 new (Some (overwritten (bytes_at m2 new) offset (ref_bytes child)))) where
+    (written : (offset : ℕ) → offset ≡ 4 + length (prefix_in (node_of (bytes_at m2 new))) + length (links_in (node_of (bytes_at m2 new))) + 12 * k
+    → m3 ≡ with_block m2 new (Some (overwritten (bytes_at m2 new) offset (ref_bytes child)))) where
   -- the link of the old node at the place, whose tree is copied next
   abbrev l : Link
   l = get_or links k d
@@ -137,7 +140,8 @@ module _ (left n : ℕ) (prefix : List ℕ) (links : List Link) (b m m2 m3 : Blo
   -- by the writing the reference of the tree's copy stands at that offset in the copy's bytes, and all else is the same
   is : m3 ≡ with_block m2 new (Some (overwritten (bytes_at m2 new) offset (ref_bytes child)))
   is = written offset
-      (ap (λ q. 4 + length (prefix_in q) + length (links_in q) + 12 * length c.done) (sym node) ∙ ap (λ j. 4 + length (prefix_in (node_of (bytes_at m2 new))) + length (links_in (node_of (bytes_at m2 new))) + 12 * j) c.many)
+      (ap (λ q. 4 + length (prefix_in q) + length (links_in q) + 12 * length c.done) (sym node)
+      ∙ ap (λ j. 4 + length (prefix_in (node_of (bytes_at m2 new))) + length (links_in (node_of (bytes_at m2 new))) + 12 * j) c.many)
 
   -- the writing leaves each block but the copy's own
   others : (r : BlockRef) → ref_eq r new ≡ false → m3 r ≡ m2 r
@@ -164,7 +168,8 @@ module _ (left n : ℕ) (prefix : List ℕ) (links : List Link) (b m m2 m3 : Blo
 
   -- the references below the old links up to the place are those before it and those of the tree there
   refs_more : refs_below (suc left) b (take (k + 1) links) ≡ refs_below (suc left) b (take k links) ++ refs (suc left) b l.to
-  refs_more = ap (refs_below (suc left) b) (take_more links k d h) ∙ flat_map-append (λ q. refs (suc left) b q.to) (take k links) (l ∷ []) ∙ ap (λ xs. refs_below (suc left) b (take k links) ++ xs) (append-nil (refs (suc left) b l.to))
+  refs_more = ap (refs_below (suc left) b) (take_more links k d h) ∙ flat_map-append (λ q. refs (suc left) b q.to) (take k links) (l ∷ [])
+      ∙ ap (λ xs. refs_below (suc left) b (take k links) ++ xs) (append-nil (refs (suc left) b l.to))
 
   -- before the link is written, the copy's block and the copied trees were placed, and no other block has changed
   placed : Changes b m2 [] ((new ∷ refs_below (suc left) m c.done) ++ refs_at left m2 child)
@@ -186,7 +191,8 @@ module _ (left n : ℕ) (prefix : List ℕ) (links : List Link) (b m m2 m3 : Blo
   copied_entries begin =
       let f : Blocks → Link → List Entry = λ x q. map (under (begin ++ q.edge ∷ [])) (entries (suc left) x q.to) in
       flat_map-append (f m3) c.done (now ∷ []) ∙ ap (λ xs. xs ++ flat_map (f m3) (now ∷ [])) (same_done.entries_are begin ∙ c.entries_are begin)
-      ∙ ap (λ xs. below_links begin (entries (suc left) b) (take k links) ++ xs) (append-nil (f m3 now) ∙ ap (map (under (begin ++ l.edge ∷ []))) (same_child.entries_are ∙ copy.entries_are ∙ source.entries_are) ∙ sym (append-nil (f b l)))
+      ∙ ap (λ xs. below_links begin (entries (suc left) b) (take k links) ++ xs)
+      (append-nil (f m3 now) ∙ ap (map (under (begin ++ l.edge ∷ []))) (same_child.entries_are ∙ copy.entries_are ∙ source.entries_are) ∙ sym (append-nil (f b l)))
       ∙ sym (ap (flat_map (f b)) (take_more links k d h) ∙ flat_map-append (f b) (take k links) (l ∷ []))
 
   -- where one more tree was copied and its link written, the trees below one more of the first links are copied
@@ -196,12 +202,22 @@ module _ (left n : ℕ) (prefix : List ℕ) (links : List Link) (b m m2 m3 : Blo
     many = omega (arith, length-append c.done (now ∷ []), c.many);
     bytes = overwritten c.bytes offset (ref_bytes child);
     block = ap (λ f. f new) is ∙ with_block-same m2 new (Some (overwritten (bytes_at m2 new) offset (ref_bytes child))) ∙ ap (λ xs. Some (overwritten xs offset (ref_bytes child))) stood;
-    holds = subst (λ ls. HoldsNode (overwritten c.bytes offset (ref_bytes child)) (Inner prefix ls)) (sym now_links) (relinked_bytes c.bytes prefix c.done behind l.edge offset l.to child holds_old refl);
+    holds = subst (λ ls. HoldsNode (overwritten c.bytes offset (ref_bytes child)) (Inner prefix ls)) (sym now_links)
+        (relinked_bytes c.bytes prefix c.done behind l.edge offset l.to child holds_old refl);
     fits = subst (λ ls. IsInner n prefix ls) (sym now_links) (inner_relinked n prefix c.done behind l.edge l.to child ref inner_old);
     trees = all-append (λ q. IsTreeAt left m3 q.to) c.done (now ∷ []) (same_done.trees left c.trees) (same_child.tree left copy.tree, tt);
     entries_are = copied_entries;
     as_many =
-        omega (arith, ap length refs_now, length-append (refs_below (suc left) m c.done) (refs_at left m2 child), c.as_many, copy.as_many, ap length source.refs_are, ap length refs_more, length-append (refs_below (suc left) b (take k links)) (refs (suc left) b l.to));
+        omega (
+          arith,
+          ap length refs_now,
+          length-append (refs_below (suc left) m c.done) (refs_at left m2 child),
+          c.as_many,
+          copy.as_many,
+          ap length source.refs_are,
+          ap length refs_more,
+          length-append (refs_below (suc left) b (take k links)) (refs (suc left) b l.to),
+        );
     changes = changed;
   }
 
@@ -211,7 +227,8 @@ no_links [] h = refl
 no_links (l ∷ links) h = absurd (omega arith)
 
 -- a node of either kind is copied where the trees below all its links are
-copied_by : (left n : ℕ) (node : Node) (b m : Blocks) (at new : BlockRef) (k : ℕ) → IsTreeAt n b at → node_at b at ≡ node → left ≡ n - suc (length (prefix_in node)) → k ≡ length (links_in node) → Copying left n node b m new k → IsCopy n b m at new
+copied_by : (left n : ℕ) (node : Node) (b m : Blocks) (at new : BlockRef) (k : ℕ) → IsTreeAt n b at → node_at b at ≡ node → left ≡ n - suc (length (prefix_in node))
+    → k ≡ length (links_in node) → Copying left n node b m new k → IsCopy n b m at new
 copied_by left n (Leaf prefix value) b m at new k t is few all c =
     let copy : LeafAt n m new prefix value = record { bytes = c.bytes; block = c.block; holds = c.holds; fits = c.fits } in
     let node = leaf_node n n m new prefix value copy in
@@ -244,17 +261,20 @@ copied_by left n (Inner prefix links) b m at new k t is few all c =
     let new_refs : refs_at n m new ≡ new ∷ refs_below (suc left) m c.done = inner_refs n m new prefix c.done node ∙ ap (λ xs. new ∷ xs) up.refs_are in
     record {
       tree = inner_tree n n m new prefix c.done copy;
-      entries_are = inner_entries n m new prefix c.done node ∙ up.entries_are prefix ∙ c.entries_are prefix ∙ ap (below_links prefix (entries (suc left) b)) taken ∙ down.entries_are prefix ∙ sym (inner_entries n b at prefix links is);
+      entries_are = inner_entries n m new prefix c.done node ∙ up.entries_are prefix ∙ c.entries_are prefix ∙ ap (below_links prefix (entries (suc left) b)) taken ∙ down.entries_are prefix
+          ∙ sym (inner_entries n b at prefix links is);
       as_many = ap length new_refs ∙ ap suc (c.as_many ∙ ap (λ ls. length (refs_below (suc left) b ls)) taken) ∙ sym (ap length old_refs);
       changes = subst (Changes b m []) (sym new_refs) c.changes;
     }
 
 -- a tree is copied where the trees below all links of its top node are
-pub copied_all : (left n : ℕ) (b m : Blocks) (at new : BlockRef) (k : ℕ) → IsTreeAt n b at → left ≡ n - suc (length (prefix_in (node_at b at))) → k ≡ length (links_in (node_at b at)) → Copying left n (node_at b at) b m new k → IsCopy n b m at new
+pub copied_all : (left n : ℕ) (b m : Blocks) (at new : BlockRef) (k : ℕ) → IsTreeAt n b at → left ≡ n - suc (length (prefix_in (node_at b at))) → k ≡ length (links_in (node_at b at))
+    → Copying left n (node_at b at) b m new k → IsCopy n b m at new
 copied_all left n b m at new k t few all c = copied_by left n (node_at b at) b m at new k t refl few all c
 
 -- the trees that are to be copied, while others are placed
-module _ (n : ℕ) (b m : Blocks) (at : BlockRef) (t : IsTreeAt n b at) (own : Owned (refs_at n b at) b) (news : List BlockRef) (p : Changes b m [] news) (k : ℕ) (d : Link) (h : k < length (links_in (node_at b at))) where
+module _ (n : ℕ) (b m : Blocks) (at : BlockRef) (t : IsTreeAt n b at) (own : Owned (refs_at n b at) b) (news : List BlockRef) (p : Changes b m [] news) (k : ℕ) (d : Link)
+    (h : k < length (links_in (node_at b at))) where
   -- how many bytes of each key are left below the node's links
   abbrev left : ℕ
   left = n - suc (length (prefix_in (node_at b at)))
@@ -319,7 +339,15 @@ module _ (left n : ℕ) (prefix : List ℕ) (links : List Link) (b m : Blocks) (
   pub copying_ready : Ready left k m new
   copying_ready = record {
     live = subst (λ o. IsSome o) (sym c.block) refl;
-    inner = record { rest = n; few = few; node = subst (IsNode n) (sym stands) (node_held n c.bytes (Inner prefix (c.done ++ drop k links)) c.holds c.fits); prefix = prefix; links = c.done ++ drop k links; is = whole };
+    inner = record {
+      rest = n;
+      few = few;
+      node = subst (IsNode n) (sym stands) (node_held n c.bytes (Inner prefix (c.done ++ drop k links)) c.holds c.fits);
+      prefix = prefix;
+      links = c.done
+          ++ drop k links;
+      is = whole;
+    };
     within = omega (arith, ap (λ q. length (links_in q)) whole, length-append c.done (drop k links), length-drop k links, c.many, h);
     trees = subst (AllByRecursion (λ l. IsTreeAt left m l.to)) (sym first) c.trees;
     owned = subst (λ ls. Owned (new ∷ refs_below (suc left) m ls) m) (sym first) (Changes-owned b m [] (new ∷ refs_below (suc left) m c.done) c.changes);
@@ -327,10 +355,12 @@ module _ (left n : ℕ) (prefix : List ℕ) (links : List Link) (b m : Blocks) (
 
   -- where the copy's node and its first trees are given back, the store is as before the copy
   pub uncopied : (after : Blocks) → Changes m after (new ∷ refs_below (suc left) m (take k (links_in (node_at m new)))) [] → after ≡ b
-  uncopied after ended = all_same b after (Changes-then b m after [] (new ∷ refs_below (suc left) m c.done) [] c.changes (subst (λ ls. Changes m after (new ∷ refs_below (suc left) m ls) []) first ended))
+  uncopied after ended = all_same b after
+      (Changes-then b m after [] (new ∷ refs_below (suc left) m c.done) [] c.changes (subst (λ ls. Changes m after (new ∷ refs_below (suc left) m ls) []) first ended))
 
 -- one turn of the loop that copies the trees below a node's links
-module _ (n below count : ℕ) (b m : Blocks) (at new : BlockRef) (k : ℕ) (d : Link) (bytes : List ℕ) (t : IsTreeAt n b at) (own : Owned (refs_at n b at) b) (few : n ≤ 16) (read : b at ≡ Some bytes) (below_is : below ≡ n - suc (length (prefix_in (node_of bytes)))) (count_is : count ≡ length (links_in (node_of bytes))) (less : k < count)
+module _ (n below count : ℕ) (b m : Blocks) (at new : BlockRef) (k : ℕ) (d : Link) (bytes : List ℕ) (t : IsTreeAt n b at) (own : Owned (refs_at n b at) b) (few : n ≤ 16)
+    (read : b at ≡ Some bytes) (below_is : below ≡ n - suc (length (prefix_in (node_of bytes)))) (count_is : count ≡ length (links_in (node_of bytes))) (less : k < count)
     (c : Copying below n (node_at b at) b m new k) where
   -- the references placed so far: the copy's own, and those of the copied trees
   abbrev placed_news : List BlockRef
@@ -431,8 +461,12 @@ module _ (n below count : ℕ) (b m : Blocks) (at new : BlockRef) (k : ℕ) (d :
     }
 
     -- where the turn's link was written to name its tree's copy, the trees below one more of the links are copied
-    pub turn_more : (m3 : Blocks) → IsRef child → ((offset : ℕ) → offset ≡ 4 + length (prefix_in (node_of (bytes_at m2 new))) + length (links_in (node_of (bytes_at m2 new))) + 12 * k → m3 ≡ with_block m2 new (Some (overwritten (bytes_at m2 new) offset (ref_bytes child))))
+    pub turn_more : (m3 : Blocks) → IsRef child →
+        ((offset : ℕ) → offset ≡ 4 + length (prefix_in (node_of (bytes_at m2 new))) + length (links_in (node_of (bytes_at m2 new))) + 12 * k
+        → m3 ≡ with_block m2 new (Some (overwritten (bytes_at m2 new) offset (ref_bytes child))))
         → Copying below n (node_at b at) b m3 new (k + 1)
     turn_more m3 ref written =
         let one : goes_to ≡ (get_or links_told k d).to = ap (λ q. (get_or (links_in q) k d).to) node_told_is in
-        subst (λ q. Copying below n q b m3 new (k + 1)) (sym node_told_is) (copying_more below n prefix_told links_told b m m2 m3 new child k d inner_copying inside_links (subst (SameTree (suc below) b m) one source_stays) (subst (λ r. IsCopy below m m2 r child) one copy) ref written)
+        subst (λ q. Copying below n q b m3 new (k + 1)) (sym node_told_is)
+        (copying_more below n prefix_told links_told b m m2 m3 new child k d inner_copying inside_links (subst (SameTree (suc below) b m) one source_stays)
+        (subst (λ r. IsCopy below m m2 r child) one copy) ref written)

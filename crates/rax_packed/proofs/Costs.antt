@@ -36,7 +36,8 @@ module _ (levels : ℕ) (b : Blocks) (each : (nodes : ℕ) (to : BlockRef) → m
   links_keys nodes prefix (l ∷ links) =
       let begin = prefix ++ l.edge ∷ [] in
       let here : map cost_key (map (cost_under begin) (costs levels b nodes l.to)) ≡ map entry_key (map (under begin) (entries levels b l.to)) =
-      keys_under cost_key (cost_under begin) begin (costs levels b nodes l.to) (λ c. refl) ∙ ap (map (λ k. begin ++ k)) (each nodes l.to) ∙ sym (keys_under entry_key (under begin) begin (entries levels b l.to) (λ e. refl)) in
+      keys_under cost_key (cost_under begin) begin (costs levels b nodes l.to) (λ c. refl) ∙ ap (map (λ k. begin ++ k)) (each nodes l.to)
+      ∙ sym (keys_under entry_key (under begin) begin (entries levels b l.to) (λ e. refl)) in
       map-append cost_key (map (cost_under begin) (costs levels b nodes l.to)) (costs_below (costs levels b) 1 prefix links)
       ∙ (λ i. here i ++ links_keys 1 prefix links i)
       ∙ sym (map-append entry_key (map (under begin) (entries levels b l.to)) (below_links prefix (entries levels b) links))
@@ -60,7 +61,8 @@ tree_keys b tree = by_root tree.root
     by_root (Some at) = keys_are 17 b 1 at
 
 -- what holds of the names of one list's elements holds of those of another list that has the same names
-pub by_names : {X Y : Type 0} (name : X → List ℕ) (other : Y → List ℕ) (P : List ℕ → Type 0) (xs : List X) (ys : List Y) → map name xs ≡ map other ys → AllByRecursion (λ x. P (name x)) xs → AllByRecursion (λ y. P (other y)) ys
+pub by_names : {X Y : Type 0} (name : X → List ℕ) (other : Y → List ℕ) (P : List ℕ → Type 0) (xs : List X) (ys : List Y) → map name xs ≡ map other ys → AllByRecursion (λ x. P (name x)) xs
+    → AllByRecursion (λ y. P (other y)) ys
 by_names name other P [] [] same a = tt
 by_names name other P [] (y ∷ ys) same a = absurd (cc)
 by_names name other P (x ∷ xs) [] same a = absurd (cc)
@@ -70,22 +72,27 @@ by_names name other P (x ∷ xs) (y ∷ ys) same a =
     (subst P first a.0, by_names name other P xs ys more a.1)
 
 -- where the entries below links stand alike to a key, so do the costs there
-pub links_alike : (o : Ordering) (key : List ℕ) (levels : ℕ) (b : Blocks) (nodes : ℕ) (prefix : List ℕ) (links : List Link) → All o key (below_links prefix (entries levels b) links) → AllByRecursion (λ (c : Cost). order c.key key ≡ o) (costs_below (costs levels b) nodes prefix links)
+pub links_alike : (o : Ordering) (key : List ℕ) (levels : ℕ) (b : Blocks) (nodes : ℕ) (prefix : List ℕ) (links : List Link) → All o key (below_links prefix (entries levels b) links)
+    → AllByRecursion (λ (c : Cost). order c.key key ≡ o) (costs_below (costs levels b) nodes prefix links)
 links_alike o key levels b nodes prefix links a =
-    by_names entry_key cost_key (λ k. order k key ≡ o) (below_links prefix (entries levels b) links) (costs_below (costs levels b) nodes prefix links) (sym (links_keys levels b (keys_are levels b) nodes prefix links)) a
+    by_names entry_key cost_key (λ k. order k key ≡ o) (below_links prefix (entries levels b) links) (costs_below (costs levels b) nodes prefix links)
+    (sym (links_keys levels b (keys_are levels b) nodes prefix links)) a
 
 -- where the entries of a tree stand alike to a key, so do its costs
-pub tree_alike : (o : Ordering) (key : List ℕ) (levels : ℕ) (b : Blocks) (nodes : ℕ) (at : BlockRef) → All o key (entries levels b at) → AllByRecursion (λ (c : Cost). order c.key key ≡ o) (costs levels b nodes at)
+pub tree_alike : (o : Ordering) (key : List ℕ) (levels : ℕ) (b : Blocks) (nodes : ℕ) (at : BlockRef) → All o key (entries levels b at)
+    → AllByRecursion (λ (c : Cost). order c.key key ≡ o) (costs levels b nodes at)
 tree_alike o key levels b nodes at a = by_names entry_key cost_key (λ k. order k key ≡ o) (entries levels b at) (costs levels b nodes at) (sym (keys_are levels b nodes at)) a
 
 -- The costs of a tree are the same for each number of levels greater than the length of its keys.
 
-same_links : (m k rest : ℕ) (b : Blocks) → ((nodes : ℕ) (to : BlockRef) → IsTree m rest b to → costs k b nodes to ≡ costs m b nodes to) → (nodes : ℕ) (prefix : List ℕ) (links : List Link) → AllByRecursion (λ l. IsTree m rest b l.to) links
+same_links : (m k rest : ℕ) (b : Blocks) → ((nodes : ℕ) (to : BlockRef) → IsTree m rest b to → costs k b nodes to ≡ costs m b nodes to) → (nodes : ℕ) (prefix : List ℕ) (links : List Link)
+    → AllByRecursion (λ l. IsTree m rest b l.to) links
     → costs_below (costs k b) nodes prefix links ≡ costs_below (costs m b) nodes prefix links
 same_links m k rest b each nodes prefix [] h = refl
 same_links m k rest b each nodes prefix (l ∷ links) h = λ i. map (cost_under (prefix ++ l.edge ∷ [])) (each nodes l.to h.0 i) ++ same_links m k rest b each 1 prefix links h.1 i
 
-same_in : (m k rest : ℕ) (b : Blocks) (nodes : ℕ) (node : Node) → ((left nodes : ℕ) (to : BlockRef) → left < rest → IsTree m left b to → costs k b nodes to ≡ costs m b nodes to) → Fits rest node → Below (λ left to. IsTree m left b to) rest node
+same_in : (m k rest : ℕ) (b : Blocks) (nodes : ℕ) (node : Node) → ((left nodes : ℕ) (to : BlockRef) → left < rest → IsTree m left b to → costs k b nodes to ≡ costs m b nodes to)
+    → Fits rest node → Below (λ left to. IsTree m left b to) rest node
     → costs_in (costs k b) nodes node ≡ costs_in (costs m b) nodes node
 same_in m k rest b nodes (Leaf prefix value) each fits h = refl
 same_in m k rest b nodes (Inner prefix links) each fits h =
@@ -105,17 +112,22 @@ same_costs (suc m) (suc k) rest b nodes at h t =
 
 -- A key has no more blocks than a way has nodes, and one more.
 
-few_links : (most : ℕ) (levels left : ℕ) (b : Blocks) → ((nodes : ℕ) (to : BlockRef) → nodes + left ≤ most → IsTree levels left b to → AllByRecursion (λ (c : Cost). c.blocks ≤ most + 1) (costs levels b nodes to))
-    → (nodes : ℕ) (prefix : List ℕ) (links : List Link) → nodes + left ≤ most → 1 + left ≤ most → AllByRecursion (λ l. IsTree levels left b l.to) links → AllByRecursion (λ (c : Cost). c.blocks ≤ most + 1) (costs_below (costs levels b) nodes prefix links)
+few_links : (most : ℕ) (levels left : ℕ) (b : Blocks) →
+    ((nodes : ℕ) (to : BlockRef) → nodes + left ≤ most → IsTree levels left b to → AllByRecursion (λ (c : Cost). c.blocks ≤ most + 1) (costs levels b nodes to))
+    → (nodes : ℕ) (prefix : List ℕ) (links : List Link) → nodes + left ≤ most → 1 + left ≤ most → AllByRecursion (λ l. IsTree levels left b l.to) links
+    → AllByRecursion (λ (c : Cost). c.blocks ≤ most + 1) (costs_below (costs levels b) nodes prefix links)
 few_links most levels left b each nodes prefix [] room other h = tt
 few_links most levels left b each nodes prefix (l ∷ links) room other h =
-    all-append (λ (c : Cost). c.blocks ≤ most + 1) (map (cost_under (prefix ++ l.edge ∷ [])) (costs levels b nodes l.to)) (costs_below (costs levels b) 1 prefix links) (behind (costs levels b nodes l.to) (each nodes l.to room h.0)) (few_links most levels left b each 1 prefix links other other h.1)
+    all-append (λ (c : Cost). c.blocks ≤ most + 1) (map (cost_under (prefix ++ l.edge ∷ [])) (costs levels b nodes l.to)) (costs_below (costs levels b) 1 prefix links)
+    (behind (costs levels b nodes l.to) (each nodes l.to room h.0)) (few_links most levels left b each 1 prefix links other other h.1)
   where
     behind : (cs : List Cost) → AllByRecursion (λ (c : Cost). c.blocks ≤ most + 1) cs → AllByRecursion (λ (c : Cost). c.blocks ≤ most + 1) (map (cost_under (prefix ++ l.edge ∷ [])) cs)
     behind [] a = tt
     behind (c ∷ cs) a = (a.0, behind cs a.1)
 
-few_in : (most levels rest : ℕ) (b : Blocks) (node : Node) → ((left nodes : ℕ) (to : BlockRef) → nodes + left ≤ most → IsTree levels left b to → AllByRecursion (λ (c : Cost). c.blocks ≤ most + 1) (costs levels b nodes to)) → Fits rest node → Below (λ left to. IsTree levels left b to) rest node → (nodes : ℕ) → nodes + rest ≤ most
+few_in : (most levels rest : ℕ) (b : Blocks) (node : Node) →
+    ((left nodes : ℕ) (to : BlockRef) → nodes + left ≤ most → IsTree levels left b to → AllByRecursion (λ (c : Cost). c.blocks ≤ most + 1) (costs levels b nodes to)) → Fits rest node
+    → Below (λ left to. IsTree levels left b to) rest node → (nodes : ℕ) → nodes + rest ≤ most
     → AllByRecursion (λ (c : Cost). c.blocks ≤ most + 1) (costs_in (costs levels b) nodes node)
 few_in most levels rest b (Leaf prefix value) each fits h nodes room = (omega arith, tt)
 few_in most levels rest b (Inner prefix links) each fits h nodes room =
@@ -123,12 +135,14 @@ few_in most levels rest b (Inner prefix links) each fits h nodes room =
     let left = rest - suc (length prefix) in
     few_links most levels left b (λ more to upto t. each left more to upto t) (nodes + 1) prefix links (omega arith) (omega arith) h
 
-few_tree : (most levels rest : ℕ) (b : Blocks) (at : BlockRef) → IsTree levels rest b at → (nodes : ℕ) → nodes + rest ≤ most → AllByRecursion (λ (c : Cost). c.blocks ≤ most + 1) (costs levels b nodes at)
+few_tree : (most levels rest : ℕ) (b : Blocks) (at : BlockRef) → IsTree levels rest b at → (nodes : ℕ) → nodes + rest ≤ most
+    → AllByRecursion (λ (c : Cost). c.blocks ≤ most + 1) (costs levels b nodes at)
 unfolding costs IsTree
 few_tree most zero rest b at t nodes room = absurd t
 few_tree most (suc levels) rest b at t nodes room =
     let told : node_of t.0 ≡ node_at b at = sym (block_node levels rest b at t.0 t.1) in
-    few_in most levels rest b (node_at b at) (λ left more to upto u. few_tree most levels left b to u more upto) (subst (Fits rest) told t.2.fits) (subst (Below (λ left to. IsTree levels left b to) rest) told t.3) nodes room
+    few_in most levels rest b (node_at b at) (λ left more to upto u. few_tree most levels left b to u more upto) (subst (Fits rest) told t.2.fits)
+    (subst (Below (λ left to. IsTree levels left b to) rest) told t.3) nodes room
 
 pub tree_few : (b : Blocks) (tree : PackedTree) → IsSound b tree → AllByRecursion (λ (c : Cost). c.blocks ≤ 18) (costs_of b tree)
 tree_few b tree sound = by_root tree.root sound.stands
@@ -171,19 +185,22 @@ abbrev IsSum : ℕ → Blocks → (List ℕ → Bool) → ℕ → BlockRef → T
 IsSum levels b test above at =
     blocks_by test (costs levels b (above + 1) at) ≡ entries_by test (entries levels b at) + marks_by test (marks levels b at) + cond (test (first_key (entries levels b at))) above 0
 
-module _ (levels left : ℕ) (b : Blocks) (each : (to : BlockRef) → IsTree levels left b to → (test : List ℕ → Bool) (above : ℕ) → IsSum levels b test above to) (test : List ℕ → Bool) (prefix : List ℕ) where
+module _ (levels left : ℕ) (b : Blocks) (each : (to : BlockRef) → IsTree levels left b to → (test : List ℕ → Bool) (above : ℕ) → IsSum levels b test above to) (test : List ℕ → Bool)
+    (prefix : List ℕ) where
   -- below a link and those behind it
   sum_first : (above : ℕ) (l : Link) (links : List Link) → IsTree levels left b l.to
       → blocks_by test (costs_below (costs levels b) 1 prefix links) ≡ entries_by test (below_links prefix (entries levels b) links) + marks_by test (marks_below prefix (marks levels b) links)
       → blocks_by test (costs_below (costs levels b) (above + 1) prefix (l ∷ links))
-      ≡ entries_by test (below_links prefix (entries levels b) (l ∷ links)) + marks_by test (marks_below prefix (marks levels b) (l ∷ links)) + cond (test (first_key (below_links prefix (entries levels b) (l ∷ links)))) above 0
+      ≡ entries_by test (below_links prefix (entries levels b) (l ∷ links)) + marks_by test (marks_below prefix (marks levels b) (l ∷ links)) + cond
+      (test (first_key (below_links prefix (entries levels b) (l ∷ links)))) above 0
   sum_first above l links t rest =
       let begin = prefix ++ l.edge ∷ [] in
       let cs = costs levels b (above + 1) l.to in
       let es = entries levels b l.to in
       let ms = marks levels b l.to in
       let more = below_links prefix (entries levels b) links in
-      let first : cond (test (first_key (map (under begin) es ++ more))) above 0 ≡ cond (test (begin ++ first_key es)) above 0 = ap (λ k. cond (test k) above 0) (first_behind begin es more (tree_some levels left b l.to t)) in
+      let first : cond (test (first_key (map (under begin) es ++ more))) above 0 ≡ cond (test (begin ++ first_key es)) above 0 =
+      ap (λ k. cond (test k) above 0) (first_behind begin es more (tree_some levels left b l.to t)) in
       omega (
         arith,
         first,
@@ -207,8 +224,11 @@ module _ (levels left : ℕ) (b : Blocks) (each : (to : BlockRef) → IsTree lev
 abbrev marks_here : ℕ → Blocks → BlockRef → Node → List Mark
 marks_here levels b at node = (record { least = first_key (entries_in (entries levels b) node); at = at }) ∷ marks_in (marks levels b) node
 
-sum_in : (levels rest : ℕ) (b : Blocks) (at : BlockRef) (node : Node) → ((left : ℕ) (to : BlockRef) → IsTree levels left b to → (test : List ℕ → Bool) (above : ℕ) → IsSum levels b test above to) → Fits rest node → Below (λ left to. IsTree levels left b to) rest node → (test : List ℕ → Bool) (above : ℕ)
-    → blocks_by test (costs_in (costs levels b) (above + 1) node) ≡ entries_by test (entries_in (entries levels b) node) + marks_by test (marks_here levels b at node) + cond (test (first_key (entries_in (entries levels b) node))) above 0
+sum_in : (levels rest : ℕ) (b : Blocks) (at : BlockRef) (node : Node)
+    → ((left : ℕ) (to : BlockRef) → IsTree levels left b to → (test : List ℕ → Bool) (above : ℕ) → IsSum levels b test above to) → Fits rest node
+    → Below (λ left to. IsTree levels left b to) rest node → (test : List ℕ → Bool) (above : ℕ)
+    → blocks_by test (costs_in (costs levels b) (above + 1) node) ≡ entries_by test (entries_in (entries levels b) node) + marks_by test (marks_here levels b at node) + cond
+    (test (first_key (entries_in (entries levels b) node))) above 0
 sum_in levels rest b at (Leaf prefix value) each fits h test above = by_test (test prefix)
   where
     by_test : (t : Bool) → 0 + cond t (above + 1 + 1) 0 ≡ 0 + cond t 1 0 + (0 + cond t 1 0) + cond t above 0

@@ -1,5 +1,6 @@
 -- A tree without a key.
-use Rattle.std.proofs.Common.{◌≡◌, ◌∙◌, Bool, true, false, not, ℕ, suc, ◌+◌, ◌*◌, ◌-◌, ◌<◌, ◌≤◌, List, [], ◌∷◌, ◌++◌, length, drop, take, replicate, map, Option, Some, None, IsSome, unwrap_or, refl, sym, ap, subst, arith, length-append, append_assoc}
+use Rattle.std.proofs.Common.{◌≡◌, ◌∙◌, Bool, true, false, not, ℕ, suc, ◌+◌, ◌*◌, ◌-◌, ◌<◌, ◌≤◌, List, [], ◌∷◌, ◌++◌, length, drop, take, replicate, map, Option, Some, None, IsSome}
+use Rattle.std.proofs.Common.{unwrap_or, refl, sym, ap, subst, arith, length-append, append_assoc}
 use Rattle.std.proofs.lemmas.List.{append-nil, take_at, drop_at, length-map, length-drop, length-take-le, replicate-append-replicate}
 use Rattle.std.specs.List.{remove}
 use Rattle.std.specs.Ordering.{is_ne}
@@ -30,10 +31,12 @@ unfolding without
 cut_leaf b at value bytes key read is =
     ap (λ es. without es key) (leaf_entries (length key) b at key value (node_read b at bytes read ∙ is)) ∙ cond-false _ _ _ (ap is_ne (order-same key))
 
-pub cut_leaf_ended : (b after : Blocks) (at value : BlockRef) (bytes key : List ℕ) → IsTreeAt (length key) b at → Owned (refs_at (length key) b at) b → b at ≡ Some bytes → node_of bytes ≡ Leaf key value → after ≡ with_block b at None → Changes b after (refs_at (length key) b at) []
+pub cut_leaf_ended : (b after : Blocks) (at value : BlockRef) (bytes key : List ℕ) → IsTreeAt (length key) b at → Owned (refs_at (length key) b at) b → b at ≡ Some bytes
+    → node_of bytes ≡ Leaf key value → after ≡ with_block b at None → Changes b after (refs_at (length key) b at) []
 cut_leaf_ended b after at value bytes key t own read is ended =
     let all = leaf_refs (length key) b at key value (node_read b at bytes read ∙ is) in
-    Changes-counted b after (refs_at (length key) b at) [] own (Counts-ended b after at (refs_at (length key) b at) [] (tree_live (suc (length key)) (length key) b at t) ended (λ r. omega (arith, ap (times r) all)))
+    Changes-counted b after (refs_at (length key) b at) [] own
+    (Counts-ended b after at (refs_at (length key) b at) [] (tree_live (suc (length key)) (length key) b at t) ended (λ r. omega (arith, ap (times r) all)))
 
 -- the link at a place taken out of its list
 remove_at : (before after : List Link) (link : Link) (place : ℕ) → length before ≡ place → remove (before ++ link ∷ after) place ≡ before ++ after
@@ -44,17 +47,36 @@ remove_at before after link place many =
 
 length-spelled : (prefix : List ℕ) (links : List Link) → length (spelled (Inner prefix links)) ≡ 4 + length prefix + 13 * length links
 length-spelled prefix links =
-    omega (arith, length-append prefix (little_bytes 2 (length links) ++ (edges_of links ++ refs_bytes links)), length-append (little_bytes 2 (length links)) (edges_of links ++ refs_bytes links), length-append (edges_of links) (refs_bytes links), length-map links (λ l. l.edge), length-refs_bytes links, length-bytes_low_first 0 2 (length links))
+    omega (
+      arith,
+      length-append prefix (little_bytes 2 (length links) ++ (edges_of links ++ refs_bytes links)),
+      length-append (little_bytes 2 (length links))
+          (edges_of links ++ refs_bytes links),
+      length-append (edges_of links) (refs_bytes links),
+      length-map links (λ l. l.edge),
+      length-refs_bytes links,
+      length-bytes_low_first 0 2
+          (length links),
+    )
 
 -- an inner node written over with one link less
-pub narrowed_bytes : (bytes prefix : List ℕ) (before after : List Link) (link : Link) → HoldsNode bytes (Inner prefix (before ++ link ∷ after)) → HoldsNode (overwritten bytes 0 (spelled (Inner prefix (before ++ after)) ++ replicate 13 0)) (Inner prefix (before ++ after))
+pub narrowed_bytes : (bytes prefix : List ℕ) (before after : List Link) (link : Link) → HoldsNode bytes (Inner prefix (before ++ link ∷ after))
+    → HoldsNode (overwritten bytes 0 (spelled (Inner prefix (before ++ after)) ++ replicate 13 0)) (Inner prefix (before ++ after))
 narrowed_bytes bytes prefix before after link holds =
     let thirteen : List ℕ = replicate 13 0 in
     let zeros : List ℕ = replicate holds.0 0 in
     let less = spelled (Inner prefix (before ++ after)) in
     let more = spelled (Inner prefix (before ++ link ∷ after)) in
     let long : length more ≡ length (less ++ thirteen) =
-    omega (arith, length-append less thirteen, length-spelled prefix (before ++ link ∷ after), length-spelled prefix (before ++ after), length-append before (link ∷ after), length-append before after) in
+    omega (
+      arith,
+      length-append less thirteen,
+      length-spelled prefix (before ++ link ∷ after),
+      length-spelled prefix (before ++ after),
+      length-append before (link ∷ after),
+      length-append
+          before after,
+    ) in
     let none : 0 + length (less ++ thirteen) ≡ length (less ++ thirteen) = omega arith in (
       13 + holds.0,
       ap (λ n. (less ++ thirteen) ++ drop n bytes) none
@@ -67,12 +89,14 @@ one_link [] [] link h = (refl, refl)
 one_link [] (x ∷ after) link h = absurd (omega arith)
 one_link (x ∷ before) after link h = absurd (omega (arith, length-append before (link ∷ after)))
 
-module _ (b : Blocks) (at to : BlockRef) (bytes key : List ℕ) (place from : ℕ) (t : IsTreeAt (length key) b at) (read : b at ≡ Some bytes) (leads : LeadsTo (node_of bytes) key place from to) (own : Owned (refs_at (length key) b at) b) where
+module _ (b : Blocks) (at to : BlockRef) (bytes key : List ℕ) (place from : ℕ) (t : IsTreeAt (length key) b at) (read : b at ≡ Some bytes)
+    (leads : LeadsTo (node_of bytes) key place from to) (own : Owned (refs_at (length key) b at) b) where
   before : List Link
   before = (split b at to bytes key place from t read leads).before
 
   -- the tree below has lost the key, and stays
-  pub cut_kept : (mid : Blocks) → Becomes (length (drop from key)) b mid to to (without (entries_at (length (drop from key)) b to) (drop from key)) → Becomes (length key) b mid at at (without (entries_at (length key) b at) key)
+  pub cut_kept : (mid : Blocks) → Becomes (length (drop from key)) b mid to to (without (entries_at (length (drop from key)) b to) (drop from key))
+      → Becomes (length key) b mid at at (without (entries_at (length key) b at) key)
   cut_kept mid below =
       let s = split b at to bytes key place from t read leads in
       let es = without (entries_at (length (drop from key)) b to) (drop from key) in
@@ -80,7 +104,8 @@ module _ (b : Blocks) (at to : BlockRef) (bytes key : List ℕ) (place from : �
       let ref : IsRef to = all-middle (λ l. IsRef l.to) s.before s.after (record { edge = s.edge; to = to }) s.node.inner.refs in
       record {
         tree = step_tree b at to bytes key place from t read leads mid mid to es own below s.node.bytes block s.node.holds ref (λ r h. refl);
-        entries_are = step_entries b at to bytes key place from t read leads mid mid to es own below s.node.bytes block s.node.holds ref (λ r h. refl) ∙ sym (step_without b at to bytes key place from t read leads);
+        entries_are = step_entries b at to bytes key place from t read leads mid mid to es own below s.node.bytes block s.node.holds ref (λ r h. refl)
+            ∙ sym (step_without b at to bytes key place from t read leads);
         changes = step_changes b at to bytes key place from t read leads mid mid to es own below s.node.bytes block s.node.holds ref (λ r h. refl);
       }
 
@@ -89,12 +114,17 @@ module _ (b : Blocks) (at to : BlockRef) (bytes key : List ℕ) (place from : �
     pub mid_same : mid at ≡ b at
     mid_same = kept_block b at to bytes key place from t read leads mid [] own ended
 
-    rest_entries : without (entries_at (length key) b at) key ≡ below_links (split b at to bytes key place from t read leads).prefix (entries (length key) b) (split b at to bytes key place from t read leads).before ++ below_links (split b at to bytes key place from t read leads).prefix (entries (length key) b) (split b at to bytes key place from t read leads).after
+    rest_entries : without (entries_at (length key) b at) key ≡ below_links (split b at to bytes key place from t read leads).prefix (entries (length key) b)
+        (split b at to bytes key place from t read leads).before ++ below_links (split b at to bytes key place from t read leads).prefix (entries (length key) b)
+        (split b at to bytes key place from t read leads).after
     rest_entries =
         let s = split b at to bytes key place from t read leads in
-        step_without b at to bytes key place from t read leads ∙ ap (λ es. below_links s.prefix (entries (length key) b) s.before ++ (map (under (s.prefix ++ s.edge ∷ [])) es ++ below_links s.prefix (entries (length key) b) s.after)) gone
+        step_without b at to bytes key place from t read leads ∙ ap
+        (λ es. below_links s.prefix (entries (length key) b) s.before ++ (map (under (s.prefix ++ s.edge ∷ [])) es ++ below_links s.prefix (entries (length key) b) s.after)) gone
 
-    node_is : node_of (bytes_at mid at) ≡ Inner (split b at to bytes key place from t read leads).prefix ((split b at to bytes key place from t read leads).before ++ (record { edge = (split b at to bytes key place from t read leads).edge; to = to }) ∷ (split b at to bytes key place from t read leads).after)
+    node_is : node_of (bytes_at mid at) ≡ Inner (split b at to bytes key place from t read leads).prefix
+        ((split b at to bytes key place from t read leads).before ++ (record { edge = (split b at to bytes key place from t read leads).edge; to = to })
+        ∷ (split b at to bytes key place from t read leads).after)
     node_is =
         let s = split b at to bytes key place from t read leads in
         let links = s.before ++ (record { edge = s.edge; to = to }) ∷ s.after in
@@ -105,7 +135,8 @@ module _ (b : Blocks) (at to : BlockRef) (bytes key : List ℕ) (place from : �
     cut_alone alone =
         let s = split b at to bytes key place from t read leads in
         let none = one_link s.before s.after (record { edge = s.edge; to = to }) (sym (ap (λ n. length (links_in n)) node_is) ∙ alone) in
-        rest_entries ∙ ap (λ ls. below_links s.prefix (entries (length key) b) ls ++ below_links s.prefix (entries (length key) b) s.after) none.0 ∙ ap (below_links s.prefix (entries (length key) b)) none.1
+        rest_entries ∙ ap (λ ls. below_links s.prefix (entries (length key) b) ls ++ below_links s.prefix (entries (length key) b) s.after) none.0
+        ∙ ap (below_links s.prefix (entries (length key) b)) none.1
 
     pub cut_alone_ended : (after : Blocks) → length (links_in (node_of (bytes_at mid at))) ≡ 1 → after ≡ with_block mid at None → Changes b after (refs_at (length key) b at) []
     cut_alone_ended after alone back =
@@ -113,15 +144,18 @@ module _ (b : Blocks) (at to : BlockRef) (bytes key : List ℕ) (place from : �
         let none = one_link s.before s.after (record { edge = s.edge; to = to }) (sym (ap (λ n. length (links_in n)) node_is) ∙ alone) in
         let low : refs_below (length key) b s.before ≡ [] = ap (refs_below (length key) b) none.0 in
         let high : refs_below (length key) b s.after ≡ [] = ap (refs_below (length key) b) none.1 in
-        let all : (r : BlockRef) → times r (refs_at (length key) b at) ≡ one r at + times r (refs_at (length (drop from key)) b to) = λ r. omega (arith, times_owns b at to bytes key place from t read leads r, ap (times r) low, ap (times r) high) in
+        let all : (r : BlockRef) → times r (refs_at (length key) b at) ≡ one r at + times r (refs_at (length (drop from key)) b to) =
+        λ r. omega (arith, times_owns b at to bytes key place from t read leads r, ap (times r) low, ap (times r) high) in
         let part : Owned (refs_at (length (drop from key)) b to) b = λ r. omega (arith, own r, all r) in
-        let first = Counts-beside b mid (refs_at (length (drop from key)) b to) [] (refs_at (length key) b at) (at ∷ []) (Counts-changed b mid (refs_at (length (drop from key)) b to) [] part ended) (λ r. one r at) (λ r. omega (arith, all r)) (λ r. omega arith) in
+        let first = Counts-beside b mid (refs_at (length (drop from key)) b to) [] (refs_at (length key) b at) (at ∷ [])
+        (Counts-changed b mid (refs_at (length (drop from key)) b to) [] part ended) (λ r. one r at) (λ r. omega (arith, all r)) (λ r. omega arith) in
         Changes-counted b after (refs_at (length key) b at) [] own (Counts-then b mid after (refs_at (length key) b at) (at ∷ []) [] first
         (Counts-ended mid after at (at ∷ []) [] (subst (λ o. IsSome o) (sym mid_same) (tree_live (suc (length key)) (length key) b at t)) back (λ r. omega arith)))
 
     -- the node has other links
     pub cut_unlinked : (after : Blocks) → 1 < length (links_in (node_of (bytes_at mid at)))
-        → after ≡ with_block mid at (Some (overwritten (bytes_at mid at) 0 (spelled (Inner (prefix_in (node_of (bytes_at mid at))) (remove (links_in (node_of (bytes_at mid at))) place)) ++ replicate 13 0)))
+        → after ≡ with_block mid at
+        (Some (overwritten (bytes_at mid at) 0 (spelled (Inner (prefix_in (node_of (bytes_at mid at))) (remove (links_in (node_of (bytes_at mid at))) place)) ++ replicate 13 0)))
         → Becomes (length key) b after at at (without (entries_at (length key) b at) key)
     cut_unlinked after others written =
         let s = split b at to bytes key place from t read leads in
@@ -134,7 +168,9 @@ module _ (b : Blocks) (at to : BlockRef) (bytes key : List ℕ) (place from : �
         let is : overwritten (bytes_at mid at) 0 (spelled (Inner (prefix_in (node_of (bytes_at mid at))) (remove (links_in (node_of (bytes_at mid at))) place)) ++ thirteen) ≡ now =
         ap (λ m. overwritten (bytes_at mid at) 0 (spelled (Inner (prefix_in m) (remove (links_in m) place)) ++ thirteen)) node_is
         ∙ ap (λ ls. overwritten (bytes_at mid at) 0 (spelled (Inner s.prefix ls) ++ thirteen)) left ∙ ap (λ xs. overwritten xs 0 (spelled (Inner s.prefix (s.before ++ s.after)) ++ thirteen)) stood in
-        let block : after at ≡ Some now = ap (λ m. m at) written ∙ with_block-same mid at (Some (overwritten (bytes_at mid at) 0 (spelled (Inner (prefix_in (node_of (bytes_at mid at))) (remove (links_in (node_of (bytes_at mid at))) place)) ++ thirteen))) ∙ ap Some is in
+        let block : after at ≡ Some now = ap (λ m. m at) written ∙ with_block-same mid at
+        (Some (overwritten (bytes_at mid at) 0 (spelled (Inner (prefix_in (node_of (bytes_at mid at))) (remove (links_in (node_of (bytes_at mid at))) place)) ++ thirteen)))
+        ∙ ap Some is in
         let several : 0 < length (s.before ++ s.after) = omega (arith, ap (λ n. length (links_in n)) node_is, length-append s.before (link ∷ s.after), length-append s.before s.after) in
         let named = child b at to bytes key place from t read leads in
         let graft : IsGraft (length key) (length key) b mid after at s.prefix s.before (link ∷ []) [] s.after = record {
@@ -146,13 +182,15 @@ module _ (b : Blocks) (at to : BlockRef) (bytes key : List ℕ) (place from : �
           block = block;
           holds = narrowed_bytes s.node.bytes s.prefix s.before s.after link s.node.holds;
           inner = inner_skip (length key) s.prefix s.before s.after link several s.node.inner;
-          others = λ r other. ap (λ m. m r) written ∙ with_block-other mid at r (Some (overwritten (bytes_at mid at) 0 (spelled (Inner (prefix_in (node_of (bytes_at mid at))) (remove (links_in (node_of (bytes_at mid at))) place)) ++ thirteen))) other;
+          others = λ r other. ap (λ m. m r) written ∙ with_block-other mid at r
+              (Some (overwritten (bytes_at mid at) 0 (spelled (Inner (prefix_in (node_of (bytes_at mid at))) (remove (links_in (node_of (bytes_at mid at))) place)) ++ thirteen))) other;
         } in
         let done = grafted (length key) (length key) b mid after at s.prefix s.before (link ∷ []) [] s.after graft in
         record { tree = done.tree; entries_are = done.entries_are ∙ sym rest_entries; changes = done.changes }
 
 -- an inner node has room for itself without a link, and for zero bytes
-pub narrow_room : (bytes : List ℕ) (place : ℕ) → IsInnerBytes bytes → place < length (links_in (node_of bytes)) → length (spelled (Inner (prefix_in (node_of bytes)) (remove (links_in (node_of bytes)) place)) ++ replicate 13 0) ≤ length bytes
+pub narrow_room : (bytes : List ℕ) (place : ℕ) → IsInnerBytes bytes → place < length (links_in (node_of bytes))
+    → length (spelled (Inner (prefix_in (node_of bytes)) (remove (links_in (node_of bytes)) place)) ++ replicate 13 0) ≤ length bytes
 narrow_room bytes place told within =
     let inner = inner_told bytes told in
     let links = links_in (node_of bytes) in
@@ -160,7 +198,14 @@ narrow_room bytes place told within =
     let less = remove links place in
     let long = inner.laid.long in
     let fewer : length less ≡ length links - 1 = omega (arith, length-append (take place links) (drop (suc place) links), length-take-le place links (omega arith), length-drop (suc place) links) in
-    omega (arith, length-append (spelled (Inner (prefix_in (node_of bytes)) less)) thirteen, length-spelled (prefix_in (node_of bytes)) less, ap (λ n. length (links_in n)) inner.node_is, ap (λ n. length (prefix_in n)) inner.node_is)
+    omega (
+      arith,
+      length-append (spelled (Inner (prefix_in (node_of bytes)) less)) thirteen,
+      length-spelled (prefix_in (node_of bytes)) less,
+      ap (λ n. length (links_in n)) inner.node_is,
+      ap
+          (λ n. length (prefix_in n)) inner.node_is,
+    )
 
 pub no_value : {o : Option BlockRef} → o ≡ None → IsSome o → ⊥
 no_value {o = o} is some = by_case (subst (λ p. IsSome p) is some)

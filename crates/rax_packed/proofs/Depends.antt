@@ -1,5 +1,6 @@
 -- Maps over blocks that others change, and the keys of their nodes.
-use Rattle.std.proofs.Common.{◌≡◌, ◌∙◌, ℕ, zero, suc, ◌-◌, ◌<◌, cond, is_some, List, [], ◌∷◌, ◌++◌, length, map, Option, Some, None, IsSome, refl, sym, ap, subst, inl, inr, arith, append_assoc, Bool, true, false}
+use Rattle.std.proofs.Common.{◌≡◌, ◌∙◌, ℕ, zero, suc, ◌-◌, ◌<◌, cond, is_some, List, [], ◌∷◌, ◌++◌, length, map, Option, Some, None, IsSome, refl, sym, ap, subst, inl, inr, arith}
+use Rattle.std.proofs.Common.{append_assoc, Bool, true, false}
 use Rattle.std.specs.List.{AllByRecursion, find}
 use Rattle.std.specs.Option.{option_map}
 use Rattle.std.specs.Ordering.{is_eq}
@@ -74,7 +75,8 @@ Stand es ms = AllByRecursion (λ m. IsSome (value_at es m.least)) ms
 
 module _ (levels left : ℕ) (b : Blocks) (prefix : List ℕ) (each : (to : BlockRef) → IsTree levels left b to → Stand (entries levels b to) (marks levels b to)) where
   -- below one link among others
-  stand_under : (before after : List Link) (l : Link) (ms : List Mark) → Rising (before ++ l ∷ after) → Stand (entries levels b l.to) ms → Stand (below_links prefix (entries levels b) (before ++ l ∷ after)) (map (mark_under (prefix ++ l.edge ∷ [])) ms)
+  stand_under : (before after : List Link) (l : Link) (ms : List Mark) → Rising (before ++ l ∷ after) → Stand (entries levels b l.to) ms
+      → Stand (below_links prefix (entries levels b) (before ++ l ∷ after)) (map (mark_under (prefix ++ l.edge ∷ [])) ms)
   stand_under before after l [] rising h = tt
   stand_under before after l (m ∷ ms) rising h =
       let sides = rising_split before after l rising in
@@ -83,15 +85,19 @@ module _ (levels left : ℕ) (b : Blocks) (prefix : List ℕ) (each : (to : Bloc
         stand_under before after l ms rising h.1,
       )
 
-  stand_links : (before links : List Link) → Rising (before ++ links) → AllByRecursion (λ l. IsTree levels left b l.to) links → Stand (below_links prefix (entries levels b) (before ++ links)) (marks_below prefix (marks levels b) links)
+  stand_links : (before links : List Link) → Rising (before ++ links) → AllByRecursion (λ l. IsTree levels left b l.to) links
+      → Stand (below_links prefix (entries levels b) (before ++ links)) (marks_below prefix (marks levels b) links)
   stand_links before [] rising trees = tt
   stand_links before (l ∷ links) rising trees =
       let all = below_links prefix (entries levels b) (before ++ l ∷ links) in
       let moved : (before ++ l ∷ []) ++ links ≡ before ++ l ∷ links = append_assoc before (l ∷ []) links in
-      all-append (λ m. IsSome (value_at all m.least)) (map (mark_under (prefix ++ l.edge ∷ [])) (marks levels b l.to)) (marks_below prefix (marks levels b) links) (stand_under before links l (marks levels b l.to) rising (each l.to trees.0))
-      (subst (λ ls. Stand (below_links prefix (entries levels b) ls) (marks_below prefix (marks levels b) links)) moved (stand_links (before ++ l ∷ []) links (subst Rising (sym moved) rising) trees.1))
+      all-append (λ m. IsSome (value_at all m.least)) (map (mark_under (prefix ++ l.edge ∷ [])) (marks levels b l.to)) (marks_below prefix (marks levels b) links)
+      (stand_under before links l (marks levels b l.to) rising (each l.to trees.0))
+      (subst (λ ls. Stand (below_links prefix (entries levels b) ls) (marks_below prefix (marks levels b) links)) moved
+      (stand_links (before ++ l ∷ []) links (subst Rising (sym moved) rising) trees.1))
 
-stand_node : (levels rest : ℕ) (b : Blocks) (node : Node) → ((left : ℕ) (to : BlockRef) → IsTree levels left b to → Stand (entries levels b to) (marks levels b to)) → Fits rest node → Below (λ left to. IsTree levels left b to) rest node → Stand (entries_in (entries levels b) node) (marks_in (marks levels b) node)
+stand_node : (levels rest : ℕ) (b : Blocks) (node : Node) → ((left : ℕ) (to : BlockRef) → IsTree levels left b to → Stand (entries levels b to) (marks levels b to)) → Fits rest node
+    → Below (λ left to. IsTree levels left b to) rest node → Stand (entries_in (entries levels b) node) (marks_in (marks levels b) node)
 stand_node levels rest b (Leaf prefix value) each fits below = tt
 stand_node levels rest b (Inner prefix links) each fits below = stand_links levels (rest - suc (length prefix)) b prefix (λ to t. each (rest - suc (length prefix)) to t) [] links fits.rising below
 

@@ -49,17 +49,22 @@ abbrev pub side_of : Bool → List Entry → List Entry → List Entry
 side_of true before after = after
 side_of false before after = before
 
-pub nearest-parts : (up : Bool) (key : List ℕ) (before middle after : List Entry) → All Less key before → All Greater key after → nearest up (before ++ (middle ++ after)) key ≡ or_else (nearest up middle key) (end_of up (side_of up before after))
+pub nearest-parts : (up : Bool) (key : List ℕ) (before middle after : List Entry) → All Less key before → All Greater key after
+    → nearest up (before ++ (middle ++ after)) key ≡ or_else (nearest up middle key) (end_of up (side_of up before after))
 unfolding nearest
 nearest-parts true key before middle after less more =
     let test : Ordering → Bool = λ o. not (is_lt o) in
     let f : Entry → Bool = λ e. test (order e.key key) in
-    ap first_of (filter-append f before (middle ++ after) ∙ ap (λ xs. xs ++ filter f (middle ++ after)) (drops test Less key before refl less) ∙ filter-append f middle after ∙ ap (λ xs. filter f middle ++ xs) (keeps test Greater key after refl more))
+    ap first_of
+    (filter-append f before (middle ++ after) ∙ ap (λ xs. xs ++ filter f (middle ++ after)) (drops test Less key before refl less) ∙ filter-append f middle after
+    ∙ ap (λ xs. filter f middle ++ xs) (keeps test Greater key after refl more))
     ∙ first_of-append (filter f middle) after
 nearest-parts false key before middle after less more =
     let test : Ordering → Bool = λ o. not (is_gt o) in
     let f : Entry → Bool = λ e. test (order e.key key) in
-    ap last_of (filter-append f before (middle ++ after) ∙ ap (λ xs. xs ++ filter f (middle ++ after)) (keeps test Less key before refl less) ∙ ap (λ xs. before ++ xs) (filter-append f middle after ∙ ap (λ xs. filter f middle ++ xs) (drops test Greater key after refl more) ∙ append-nil (filter f middle)))
+    ap last_of
+    (filter-append f before (middle ++ after) ∙ ap (λ xs. xs ++ filter f (middle ++ after)) (keeps test Less key before refl less)
+    ∙ ap (λ xs. before ++ xs) (filter-append f middle after ∙ ap (λ xs. filter f middle ++ xs) (drops test Greater key after refl more) ∙ append-nil (filter f middle)))
     ∙ last_of-append before (filter f middle)
 
 pub nearest-under : (up : Bool) (begin key : List ℕ) (es : List Entry) → nearest up (map (under begin) es) (begin ++ key) ≡ option_map (under begin) (nearest up es key)
@@ -101,7 +106,9 @@ take_upto (l ∷ links) (suc k) link h = ap (λ xs. l ∷ xs) (take_upto links k
 
 -- the end of the entries below the links on one side stands below the next link, if anything does
 pub side_end : (up : Bool) (prefix : List ℕ) (entries : Link → List Entry) (links : List Link) (place : ℕ) (link : Link) → beside up links place ≡ Some link
-    → (other : Option Entry) × (end_of up (flat_map (λ l. map (under (prefix ++ l.edge ∷ [])) (entries l)) (side_links up place links)) ≡ or_else (option_map (under (prefix ++ link.edge ∷ [])) (end_of up (entries link))) other)
+    → (other : Option Entry) ×
+    (end_of up (flat_map (λ l. map (under (prefix ++ l.edge ∷ [])) (entries l)) (side_links up place links)) ≡ or_else
+    (option_map (under (prefix ++ link.edge ∷ [])) (end_of up (entries link))) other)
 side_end true prefix entries links place link is =
     let f : Link → List Entry = λ l. map (under (prefix ++ l.edge ∷ [])) (entries l) in (
       first_of (flat_map f (drop (suc place) links)),
@@ -112,7 +119,8 @@ side_end false prefix entries links zero link is = cc
 side_end false prefix entries links (suc place) link is =
     let f : Link → List Entry = λ l. map (under (prefix ++ l.edge ∷ [])) (entries l) in (
       last_of (flat_map f (take place links)),
-      ap (λ ls. last_of (flat_map f ls)) (take_upto links place link is) ∙ ap last_of (flat_map-append f (take place links) (link ∷ []) ∙ ap (λ xs. flat_map f (take place links) ++ xs) (append-nil (f link)))
+      ap (λ ls. last_of (flat_map f ls)) (take_upto links place link is)
+          ∙ ap last_of (flat_map-append f (take place links) (link ∷ []) ∙ ap (λ xs. flat_map f (take place links) ++ xs) (append-nil (f link)))
           ∙ last_of-append (flat_map f (take place links)) (f link)
           ∙ ap (λ o. or_else o (last_of (flat_map f (take place links)))) (end_of-under false (prefix ++ link.edge ∷ []) (entries link)),
     )
@@ -134,6 +142,7 @@ side_none false (l ∷ links) (suc (suc place)) h is = absurd (by_get links plac
     by_get (x ∷ xs) (suc k) h e = by_get xs k (omega arith) e
 
 -- what is found below, behind the bytes that lead there
-pub found_under : (front begin : List ℕ) (k : List ℕ) (o other : Option Entry) → Some k ≡ option_map (λ e. (front ++ begin) ++ e.key) o → Some k ≡ option_map (λ e. front ++ e.key) (or_else (option_map (under begin) o) other)
+pub found_under : (front begin : List ℕ) (k : List ℕ) (o other : Option Entry) → Some k ≡ option_map (λ e. (front ++ begin) ++ e.key) o
+    → Some k ≡ option_map (λ e. front ++ e.key) (or_else (option_map (under begin) o) other)
 found_under front begin k None other h = cc
 found_under front begin k (Some e) other h = h ∙ ap Some (append_assoc front begin e.key)

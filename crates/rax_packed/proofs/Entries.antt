@@ -36,11 +36,13 @@ all-weaker P Q [] f a = tt
 all-weaker P Q (x ∷ xs) f a = (f x a.0, all-weaker P Q xs f a.1)
 
 -- a test of the order keeps all or none of what stands alike to a key, by the names of its elements
-pub keeps_by : {X : Type 0} (name : X → List ℕ) (test : Ordering → Bool) (o : Ordering) (key : List ℕ) (xs : List X) → test o ≡ true → AllByRecursion (λ x. order (name x) key ≡ o) xs → filter (λ x. test (order (name x) key)) xs ≡ xs
+pub keeps_by : {X : Type 0} (name : X → List ℕ) (test : Ordering → Bool) (o : Ordering) (key : List ℕ) (xs : List X) → test o ≡ true → AllByRecursion (λ x. order (name x) key ≡ o) xs
+    → filter (λ x. test (order (name x) key)) xs ≡ xs
 keeps_by name test o key [] t a = refl
 keeps_by name test o key (x ∷ xs) t a = cond-true _ _ _ (ap test a.0 ∙ t) ∙ ap (λ ys. x ∷ ys) (keeps_by name test o key xs t a.1)
 
-pub drops_by : {X : Type 0} (name : X → List ℕ) (test : Ordering → Bool) (o : Ordering) (key : List ℕ) (xs : List X) → test o ≡ false → AllByRecursion (λ x. order (name x) key ≡ o) xs → filter (λ x. test (order (name x) key)) xs ≡ []
+pub drops_by : {X : Type 0} (name : X → List ℕ) (test : Ordering → Bool) (o : Ordering) (key : List ℕ) (xs : List X) → test o ≡ false → AllByRecursion (λ x. order (name x) key ≡ o) xs
+    → filter (λ x. test (order (name x) key)) xs ≡ []
 drops_by name test o key [] t a = refl
 drops_by name test o key (x ∷ xs) t a = cond-false _ _ _ (ap test a.0 ∙ t) ∙ drops_by name test o key xs t a.1
 
@@ -60,8 +62,10 @@ stops o key [] more t a = ap (find (λ e. is_eq (order e.key key))) (sym (append
 stops o key (e ∷ es) more t a = ap (λ r. cond (is_eq (order e.key key)) (Some e) r) (stops o key es more t a)
 
 module _ (key : List ℕ) (before middle after : List Entry) (less : All Less key before) (greater : All Greater key after) where
-  three : (test : Ordering → Bool) → filter (λ e. test (order e.key key)) (before ++ (middle ++ after)) ≡ filter (λ e. test (order e.key key)) before ++ (filter (λ e. test (order e.key key)) middle ++ filter (λ e. test (order e.key key)) after)
-  three test = filter-append (λ e. test (order e.key key)) before (middle ++ after) ∙ ap (λ xs. filter (λ e. test (order e.key key)) before ++ xs) (filter-append (λ e. test (order e.key key)) middle after)
+  three : (test : Ordering → Bool) → filter (λ e. test (order e.key key)) (before ++ (middle ++ after)) ≡ filter (λ e. test (order e.key key)) before
+      ++ (filter (λ e. test (order e.key key)) middle ++ filter (λ e. test (order e.key key)) after)
+  three test = filter-append (λ e. test (order e.key key)) before (middle ++ after)
+      ∙ ap (λ xs. filter (λ e. test (order e.key key)) before ++ xs) (filter-append (λ e. test (order e.key key)) middle after)
 
   pub value_at-parts : value_at (before ++ (middle ++ after)) key ≡ value_at middle key
   unfolding value_at
@@ -73,7 +77,8 @@ module _ (key : List ℕ) (before middle after : List Entry) (less : All Less ke
       let new : Entry = record { key = key; value = value } in
       let front : filter (λ e. is_lt (order e.key key)) (before ++ (middle ++ after)) ≡ before ++ filter (λ e. is_lt (order e.key key)) middle =
       three is_lt ∙ ap (λ xs. xs ++ (filter (λ e. is_lt (order e.key key)) middle ++ filter (λ e. is_lt (order e.key key)) after)) (keeps is_lt Less key before refl less)
-      ∙ ap (λ xs. before ++ (filter (λ e. is_lt (order e.key key)) middle ++ xs)) (drops is_lt Greater key after refl greater) ∙ ap (λ xs. before ++ xs) (append-nil (filter (λ e. is_lt (order e.key key)) middle)) in
+      ∙ ap (λ xs. before ++ (filter (λ e. is_lt (order e.key key)) middle ++ xs)) (drops is_lt Greater key after refl greater)
+      ∙ ap (λ xs. before ++ xs) (append-nil (filter (λ e. is_lt (order e.key key)) middle)) in
       let back : filter (λ e. is_gt (order e.key key)) (before ++ (middle ++ after)) ≡ filter (λ e. is_gt (order e.key key)) middle ++ after =
       three is_gt ∙ ap (λ xs. xs ++ (filter (λ e. is_gt (order e.key key)) middle ++ filter (λ e. is_gt (order e.key key)) after)) (drops is_gt Less key before refl less)
       ∙ ap (λ xs. filter (λ e. is_gt (order e.key key)) middle ++ xs) (keeps is_gt Greater key after refl greater) in
@@ -89,19 +94,23 @@ module _ (key : List ℕ) (before middle after : List Entry) (less : All Less ke
       ∙ ap (λ xs. before ++ (filter (λ e. is_ne (order e.key key)) middle ++ xs)) (keeps is_ne Greater key after refl greater)
 
 -- the same behind more bytes
-pub filter-under_by : {X : Type 0} (name : X → List ℕ) (more : X → X) (test : Ordering → Bool) (begin key : List ℕ) (xs : List X) → ((x : X) → name (more x) ≡ begin ++ name x) → filter (λ x. test (order (name x) (begin ++ key))) (map more xs) ≡ map more (filter (λ x. test (order (name x) key)) xs)
+pub filter-under_by : {X : Type 0} (name : X → List ℕ) (more : X → X) (test : Ordering → Bool) (begin key : List ℕ) (xs : List X) → ((x : X) → name (more x) ≡ begin ++ name x)
+    → filter (λ x. test (order (name x) (begin ++ key))) (map more xs) ≡ map more (filter (λ x. test (order (name x) key)) xs)
 filter-under_by name more test begin key [] same = refl
 filter-under_by name more test begin key (x ∷ xs) same =
-    by_test (test (order (name (more x)) (begin ++ key))) (test (order (name x) key)) (ap test (ap (λ k. order k (begin ++ key)) (same x) ∙ order-append begin (name x) key)) (filter-under_by name more test begin key xs same)
+    by_test (test (order (name (more x)) (begin ++ key))) (test (order (name x) key)) (ap test (ap (λ k. order k (begin ++ key)) (same x) ∙ order-append begin (name x) key))
+    (filter-under_by name more test begin key xs same)
   where
     by_test : (s t : Bool) → s ≡ t → filter (λ x. test (order (name x) (begin ++ key))) (map more xs) ≡ map more (filter (λ x. test (order (name x) key)) xs)
-        → cond s (more x ∷ filter (λ x. test (order (name x) (begin ++ key))) (map more xs)) (filter (λ x. test (order (name x) (begin ++ key))) (map more xs)) ≡ map more (cond t (x ∷ filter (λ x. test (order (name x) key)) xs) (filter (λ x. test (order (name x) key)) xs))
+        → cond s (more x ∷ filter (λ x. test (order (name x) (begin ++ key))) (map more xs)) (filter (λ x. test (order (name x) (begin ++ key))) (map more xs)) ≡ map more
+        (cond t (x ∷ filter (λ x. test (order (name x) key)) xs) (filter (λ x. test (order (name x) key)) xs))
     by_test true true same rest = ap (λ ys. more x ∷ ys) rest
     by_test false false same rest = rest
     by_test true false same rest = cc
     by_test false true same rest = cc
 
-pub filter-under : (test : Ordering → Bool) (begin key : List ℕ) (es : List Entry) → filter (λ e. test (order e.key (begin ++ key))) (map (under begin) es) ≡ map (under begin) (filter (λ e. test (order e.key key)) es)
+pub filter-under : (test : Ordering → Bool) (begin key : List ℕ) (es : List Entry)
+    → filter (λ e. test (order e.key (begin ++ key))) (map (under begin) es) ≡ map (under begin) (filter (λ e. test (order e.key key)) es)
 filter-under test begin key es = filter-under_by (λ (e : Entry). e.key) (under begin) test begin key es (λ e. refl)
 
 find-under : (begin key : List ℕ) (es : List Entry) → find (λ e. is_eq (order e.key (begin ++ key))) (map (under begin) es) ≡ option_map (under begin) (find (λ e. is_eq (order e.key key)) es)
@@ -143,21 +152,26 @@ side : (o : Ordering) (prefix key : List ℕ) (edge : ℕ) (es : List Entry) →
 side o prefix key edge [] h = tt
 side o prefix key edge (e ∷ es) h = (ap (λ xs. order xs key) (append_assoc prefix (edge ∷ []) e.key) ∙ h e.key, side o prefix key edge es h)
 
-pub links_less : (prefix below : List ℕ) (edge : ℕ) (entries : BlockRef → List Entry) (links : List Link) → AllByRecursion (λ l. l.edge < edge) links → All Less (prefix ++ edge ∷ below) (below_links prefix entries links)
+pub links_less : (prefix below : List ℕ) (edge : ℕ) (entries : BlockRef → List Entry) (links : List Link) → AllByRecursion (λ l. l.edge < edge) links
+    → All Less (prefix ++ edge ∷ below) (below_links prefix entries links)
 links_less prefix below edge entries [] h = tt
 links_less prefix below edge entries (l ∷ links) h =
-    all-append (λ e. order e.key (prefix ++ edge ∷ below) ≡ Less) (map (under (prefix ++ l.edge ∷ [])) (entries l.to)) (below_links prefix entries links) (side Less prefix (prefix ++ edge ∷ below) l.edge (entries l.to) (λ rest. order-less prefix rest below l.edge edge h.0)) (links_less prefix below edge entries links h.1)
+    all-append (λ e. order e.key (prefix ++ edge ∷ below) ≡ Less) (map (under (prefix ++ l.edge ∷ [])) (entries l.to)) (below_links prefix entries links)
+    (side Less prefix (prefix ++ edge ∷ below) l.edge (entries l.to) (λ rest. order-less prefix rest below l.edge edge h.0)) (links_less prefix below edge entries links h.1)
 
-pub links_greater : (prefix below : List ℕ) (edge : ℕ) (entries : BlockRef → List Entry) (links : List Link) → AllByRecursion (λ l. edge < l.edge) links → All Greater (prefix ++ edge ∷ below) (below_links prefix entries links)
+pub links_greater : (prefix below : List ℕ) (edge : ℕ) (entries : BlockRef → List Entry) (links : List Link) → AllByRecursion (λ l. edge < l.edge) links
+    → All Greater (prefix ++ edge ∷ below) (below_links prefix entries links)
 links_greater prefix below edge entries [] h = tt
 links_greater prefix below edge entries (l ∷ links) h =
-    all-append (λ e. order e.key (prefix ++ edge ∷ below) ≡ Greater) (map (under (prefix ++ l.edge ∷ [])) (entries l.to)) (below_links prefix entries links) (side Greater prefix (prefix ++ edge ∷ below) l.edge (entries l.to) (λ rest. order-greater prefix rest below l.edge edge h.0)) (links_greater prefix below edge entries links h.1)
+    all-append (λ e. order e.key (prefix ++ edge ∷ below) ≡ Greater) (map (under (prefix ++ l.edge ∷ [])) (entries l.to)) (below_links prefix entries links)
+    (side Greater prefix (prefix ++ edge ∷ below) l.edge (entries l.to) (λ rest. order-greater prefix rest below l.edge edge h.0)) (links_greater prefix below edge entries links h.1)
 
 -- the key of an edge and of what follows it
 pub key_under : (prefix below : List ℕ) (edge : ℕ) → prefix ++ edge ∷ below ≡ (prefix ++ edge ∷ []) ++ below
 key_under prefix below edge = sym (append_assoc prefix (edge ∷ []) below)
 
-module _ (prefix below : List ℕ) (entries : BlockRef → List Entry) (before after : List Link) (link : Link) (less : AllByRecursion (λ l. l.edge < link.edge) before) (more : AllByRecursion (λ l. link.edge < l.edge) after) where
+module _ (prefix below : List ℕ) (entries : BlockRef → List Entry) (before after : List Link) (link : Link) (less : AllByRecursion (λ l. l.edge < link.edge) before)
+    (more : AllByRecursion (λ l. link.edge < l.edge) after) where
   key : List ℕ
   key = prefix ++ link.edge ∷ below
 
@@ -167,20 +181,26 @@ module _ (prefix below : List ℕ) (entries : BlockRef → List Entry) (before a
   pub value_at-link : value_at (below_links prefix entries (before ++ link ∷ after)) (prefix ++ link.edge ∷ below) ≡ value_at (entries link.to) below
   value_at-link =
       ap (λ es. value_at es (prefix ++ link.edge ∷ below)) joined
-      ∙ value_at-parts (prefix ++ link.edge ∷ below) (below_links prefix entries before) (map (under (prefix ++ link.edge ∷ [])) (entries link.to)) (below_links prefix entries after) (links_less prefix below link.edge entries before less) (links_greater prefix below link.edge entries after more)
+      ∙ value_at-parts (prefix ++ link.edge ∷ below) (below_links prefix entries before) (map (under (prefix ++ link.edge ∷ [])) (entries link.to)) (below_links prefix entries after)
+      (links_less prefix below link.edge entries before less) (links_greater prefix below link.edge entries after more)
       ∙ ap (value_at (map (under (prefix ++ link.edge ∷ [])) (entries link.to))) (key_under prefix below link.edge)
       ∙ value_at-under (prefix ++ link.edge ∷ []) below (entries link.to)
 
-  pub with_entry-link : (value : BlockRef) → with_entry (below_links prefix entries (before ++ link ∷ after)) (prefix ++ link.edge ∷ below) value ≡ below_links prefix entries before ++ (map (under (prefix ++ link.edge ∷ [])) (with_entry (entries link.to) below value) ++ below_links prefix entries after)
+  pub with_entry-link : (value : BlockRef) → with_entry (below_links prefix entries (before ++ link ∷ after)) (prefix ++ link.edge ∷ below) value ≡ below_links prefix entries before
+      ++ (map (under (prefix ++ link.edge ∷ [])) (with_entry (entries link.to) below value) ++ below_links prefix entries after)
   with_entry-link value =
       ap (λ es. with_entry es (prefix ++ link.edge ∷ below) value) joined
-      ∙ with_entry-parts (prefix ++ link.edge ∷ below) (below_links prefix entries before) (map (under (prefix ++ link.edge ∷ [])) (entries link.to)) (below_links prefix entries after) (links_less prefix below link.edge entries before less) (links_greater prefix below link.edge entries after more) value
-      ∙ ap (λ k. below_links prefix entries before ++ (with_entry (map (under (prefix ++ link.edge ∷ [])) (entries link.to)) k value ++ below_links prefix entries after)) (key_under prefix below link.edge)
+      ∙ with_entry-parts (prefix ++ link.edge ∷ below) (below_links prefix entries before) (map (under (prefix ++ link.edge ∷ [])) (entries link.to)) (below_links prefix entries after)
+      (links_less prefix below link.edge entries before less) (links_greater prefix below link.edge entries after more) value
+      ∙ ap (λ k. below_links prefix entries before ++ (with_entry (map (under (prefix ++ link.edge ∷ [])) (entries link.to)) k value ++ below_links prefix entries after))
+      (key_under prefix below link.edge)
       ∙ ap (λ es. below_links prefix entries before ++ (es ++ below_links prefix entries after)) (with_entry-under (prefix ++ link.edge ∷ []) below (entries link.to) value)
 
-  pub without-link : without (below_links prefix entries (before ++ link ∷ after)) (prefix ++ link.edge ∷ below) ≡ below_links prefix entries before ++ (map (under (prefix ++ link.edge ∷ [])) (without (entries link.to) below) ++ below_links prefix entries after)
+  pub without-link : without (below_links prefix entries (before ++ link ∷ after)) (prefix ++ link.edge ∷ below) ≡ below_links prefix entries before
+      ++ (map (under (prefix ++ link.edge ∷ [])) (without (entries link.to) below) ++ below_links prefix entries after)
   without-link =
       ap (λ es. without es (prefix ++ link.edge ∷ below)) joined
-      ∙ without-parts (prefix ++ link.edge ∷ below) (below_links prefix entries before) (map (under (prefix ++ link.edge ∷ [])) (entries link.to)) (below_links prefix entries after) (links_less prefix below link.edge entries before less) (links_greater prefix below link.edge entries after more)
+      ∙ without-parts (prefix ++ link.edge ∷ below) (below_links prefix entries before) (map (under (prefix ++ link.edge ∷ [])) (entries link.to)) (below_links prefix entries after)
+      (links_less prefix below link.edge entries before less) (links_greater prefix below link.edge entries after more)
       ∙ ap (λ k. below_links prefix entries before ++ (without (map (under (prefix ++ link.edge ∷ [])) (entries link.to)) k ++ below_links prefix entries after)) (key_under prefix below link.edge)
       ∙ ap (λ es. below_links prefix entries before ++ (es ++ below_links prefix entries after)) (without-under (prefix ++ link.edge ∷ []) below (entries link.to))

@@ -17,7 +17,11 @@ exact_same b = λ r bytes none there. absurd (let bad : None ≡ Some bytes = sy
 -- one node more was placed
 pub exact_put : (b m after : Blocks) (at : BlockRef) (bytes : List ℕ) (node : Node) → PlacesExactly b m → after ≡ with_block m at (Some bytes) → bytes ≡ spelled node → PlacesExactly b after
 exact_put b m after at bytes node was is spelt = λ r held none there. elim (cases_ref r at) [
-  | inl same ↦ (node, let one : Some bytes ≡ Some held = sym (with_block-same m at (Some bytes)) ∙ sym (ap (λ q. with_block m at (Some bytes) q) same) ∙ sym (ap (λ f. f r) is) ∙ there in sym (ap (λ o. unwrap_or o []) one) ∙ spelt)
+  | inl same ↦ (
+    node,
+    let one : Some bytes ≡ Some held = sym (with_block-same m at (Some bytes)) ∙ sym (ap (λ q. with_block m at (Some bytes) q) same) ∙ sym (ap (λ f. f r) is)
+        ∙ there in sym (ap (λ o. unwrap_or o []) one) ∙ spelt,
+  )
   | inr other ↦ was r held none (sym (with_block-other m at r (Some bytes) other) ∙ sym (ap (λ f. f r) is) ∙ there)
 ]
 

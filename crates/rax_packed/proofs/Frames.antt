@@ -46,16 +46,22 @@ below_from levels b after each (l ∷ links) h =
     let first = each l.to (λ r is. h r (omega (arith, times-append r (refs levels b l.to) (refs_below levels b links), is))) in
     let rest = below_from levels b after each links (λ r is. h r (omega (arith, times-append r (refs levels b l.to) (refs_below levels b links), is))) in
     record {
-      entries_are = λ prefix. joined (map (under (prefix ++ l.edge ∷ [])) (entries levels after l.to)) (map (under (prefix ++ l.edge ∷ [])) (entries levels b l.to)) (below_links prefix (entries levels after) links) (below_links prefix (entries levels b) links) (ap (map (under (prefix ++ l.edge ∷ []))) first.entries_are) (rest.entries_are prefix);
+      entries_are = λ prefix. joined (map (under (prefix ++ l.edge ∷ [])) (entries levels after l.to)) (map (under (prefix ++ l.edge ∷ [])) (entries levels b l.to))
+          (below_links prefix (entries levels after) links) (below_links prefix (entries levels b) links) (ap (map (under (prefix ++ l.edge ∷ []))) first.entries_are)
+          (rest.entries_are prefix);
       refs_are = joined (refs levels after l.to) (refs levels b l.to) (refs_below levels after links) (refs_below levels b links) first.refs_are rest.refs_are;
-      marks_are = λ prefix. joined (map (mark_under (prefix ++ l.edge ∷ [])) (marks levels after l.to)) (map (mark_under (prefix ++ l.edge ∷ [])) (marks levels b l.to)) (marks_below prefix (marks levels after) links) (marks_below prefix (marks levels b) links) (ap (map (mark_under (prefix ++ l.edge ∷ []))) first.marks_are) (rest.marks_are prefix);
+      marks_are = λ prefix. joined (map (mark_under (prefix ++ l.edge ∷ [])) (marks levels after l.to)) (map (mark_under (prefix ++ l.edge ∷ [])) (marks levels b l.to))
+          (marks_below prefix (marks levels after) links) (marks_below prefix (marks levels b) links) (ap (map (mark_under (prefix ++ l.edge ∷ []))) first.marks_are)
+          (rest.marks_are prefix);
       trees = λ n t. (first.tree n t.0, rest.trees n t.1);
     }
 
 -- the same node over the same trees
 pub in_node : (levels : ℕ) (b after : Blocks) (node : Node) → ((to : BlockRef) → ((r : BlockRef) → IsIn r (refs levels b to) → after r ≡ b r) → SameTree levels b after to)
     → ((r : BlockRef) → IsIn r (refs_in (refs levels b) node) → after r ≡ b r)
-    → (entries_in (entries levels after) node ≡ entries_in (entries levels b) node) × (refs_in (refs levels after) node ≡ refs_in (refs levels b) node) × (marks_in (marks levels after) node ≡ marks_in (marks levels b) node) × ((rest : ℕ) → Below (λ left to. IsTree levels left b to) rest node → Below (λ left to. IsTree levels left after to) rest node)
+    → (entries_in (entries levels after) node ≡ entries_in (entries levels b) node) × (refs_in (refs levels after) node ≡ refs_in (refs levels b) node)
+    × (marks_in (marks levels after) node ≡ marks_in (marks levels b) node)
+    × ((rest : ℕ) → Below (λ left to. IsTree levels left b to) rest node → Below (λ left to. IsTree levels left after to) rest node)
 in_node levels b after (Leaf prefix value) each h = (refl, refl, refl, λ rest t. t)
 in_node levels b after (Inner prefix links) each h =
     let same = below_from levels b after each links h in
@@ -75,9 +81,15 @@ same_tree (suc levels) b after at h =
     record {
       entries_are = all;
       refs_are = ap (λ n. at ∷ refs_in (refs levels after) n) node ∙ ap (λ xs. at ∷ xs) parts.1;
-      marks_are = ap (λ es. record { least = first_key es; at = at } ∷ marks_in (marks levels after) (node_at after at)) all ∙ ap (λ ms. record { least = first_key (entries (suc levels) b at); at = at } ∷ ms) below;
-      tree = λ rest t. (let told : bytes_at b at ≡ t.0 = ap (λ o. unwrap_or o []) t.1 in
-          (t.0, block ∙ t.1, t.2, subst (Below (λ left to. IsTree levels left after to) rest) (ap node_of told) (parts.3 rest (subst (Below (λ left to. IsTree levels left b to) rest) (sym (ap node_of told)) t.3))));
+      marks_are = ap (λ es. record { least = first_key es; at = at } ∷ marks_in (marks levels after) (node_at after at)) all
+          ∙ ap (λ ms. record { least = first_key (entries (suc levels) b at); at = at } ∷ ms) below;
+      tree = λ rest t. (let told : bytes_at b at ≡ t.0 = ap (λ o. unwrap_or o []) t.1 in (
+        t.0,
+        block ∙ t.1,
+        t.2,
+        subst (Below (λ left to. IsTree levels left after to) rest) (ap node_of told)
+            (parts.3 rest (subst (Below (λ left to. IsTree levels left b to) rest) (sym (ap node_of told)) t.3)),
+      ));
     }
 
 -- the trees below links are the same in both stores where the blocks of their references are
@@ -109,7 +121,14 @@ module _ (levels rest : ℕ) (b : Blocks) (at : BlockRef) where
   unfolding IsTree
   inner_at prefix links t is =
       let told : node_of t.0 ≡ Inner prefix links = sym (block_node t.0 t.1) ∙ is in
-      record { bytes = t.0; block = t.1; holds = subst (HoldsNode t.0) told t.2.holds; inner = subst (Fits rest) told t.2.fits; below = subst (Below (λ left to. IsTree levels left b to) rest) told t.3 }
+      record {
+        bytes = t.0;
+        block = t.1;
+        holds = subst (HoldsNode t.0) told t.2.holds;
+        inner = subst (Fits rest) told t.2.fits;
+        below =
+            subst (Below (λ left to. IsTree levels left b to) rest) told t.3;
+      }
 
   -- where a tree's top node is a leaf, its block holds that leaf
   pub leaf_at : (prefix : List ℕ) (value : BlockRef) → IsTree (suc levels) rest b at → node_at b at ≡ Leaf prefix value → LeafAt rest b at prefix value
@@ -162,7 +181,8 @@ module _ (levels : ℕ) (b : Blocks) (at : BlockRef) where
   leaf_refs prefix value is = ap (λ n. at ∷ refs_in (refs levels b) n) is
 
 -- the marks of an inner node are its own, with the first key of its entries, and those below its links
-pub inner_marks : (levels : ℕ) (b : Blocks) (at : BlockRef) (prefix : List ℕ) (links : List Link) → node_at b at ≡ Inner prefix links → marks (suc levels) b at ≡ (record { least = first_key (entries (suc levels) b at); at = at }) ∷ marks_below prefix (marks levels b) links
+pub inner_marks : (levels : ℕ) (b : Blocks) (at : BlockRef) (prefix : List ℕ) (links : List Link) → node_at b at ≡ Inner prefix links
+    → marks (suc levels) b at ≡ (record { least = first_key (entries (suc levels) b at); at = at }) ∷ marks_below prefix (marks levels b) links
 unfolding marks
 inner_marks levels b at prefix links is = ap (λ n. (record { least = first_key (entries (suc levels) b at); at = at }) ∷ marks_in (marks levels b) n) is
 
@@ -188,21 +208,26 @@ pub record LevelsBelow (m k rest : ℕ) (b : Blocks) (links : List Link) : Type 
   pub trees : AllByRecursion (λ l. IsTree k rest b l.to) links
 
 -- where each tree is the same for both numbers of levels, so are the trees below links
-levels_from : (m k rest : ℕ) (b : Blocks) → ((to : BlockRef) → IsTree m rest b to → SameLevels m k rest b to) → (links : List Link) → AllByRecursion (λ l. IsTree m rest b l.to) links → LevelsBelow m k rest b links
+levels_from : (m k rest : ℕ) (b : Blocks) → ((to : BlockRef) → IsTree m rest b to → SameLevels m k rest b to) → (links : List Link) → AllByRecursion (λ l. IsTree m rest b l.to) links
+    → LevelsBelow m k rest b links
 levels_from m k rest b each [] h = record { entries_are = λ prefix. refl; refs_are = refl; marks_are = λ prefix. refl; trees = tt }
 levels_from m k rest b each (l ∷ links) h =
     let first = each l.to h.0 in
     let more = levels_from m k rest b each links h.1 in
     record {
-      entries_are = λ prefix. joined (map (under (prefix ++ l.edge ∷ [])) (entries k b l.to)) (map (under (prefix ++ l.edge ∷ [])) (entries m b l.to)) (below_links prefix (entries k b) links) (below_links prefix (entries m b) links) (ap (map (under (prefix ++ l.edge ∷ []))) first.entries_are) (more.entries_are prefix);
+      entries_are = λ prefix. joined (map (under (prefix ++ l.edge ∷ [])) (entries k b l.to)) (map (under (prefix ++ l.edge ∷ [])) (entries m b l.to))
+          (below_links prefix (entries k b) links) (below_links prefix (entries m b) links) (ap (map (under (prefix ++ l.edge ∷ []))) first.entries_are) (more.entries_are prefix);
       refs_are = joined (refs k b l.to) (refs m b l.to) (refs_below k b links) (refs_below m b links) first.refs_are more.refs_are;
-      marks_are = λ prefix. joined (map (mark_under (prefix ++ l.edge ∷ [])) (marks k b l.to)) (map (mark_under (prefix ++ l.edge ∷ [])) (marks m b l.to)) (marks_below prefix (marks k b) links) (marks_below prefix (marks m b) links) (ap (map (mark_under (prefix ++ l.edge ∷ []))) first.marks_are) (more.marks_are prefix);
+      marks_are = λ prefix. joined (map (mark_under (prefix ++ l.edge ∷ [])) (marks k b l.to)) (map (mark_under (prefix ++ l.edge ∷ [])) (marks m b l.to))
+          (marks_below prefix (marks k b) links) (marks_below prefix (marks m b) links) (ap (map (mark_under (prefix ++ l.edge ∷ []))) first.marks_are) (more.marks_are prefix);
       trees = (first.tree, more.trees);
     }
 
 -- a node has the same for both numbers of levels where the trees below it are the same
-levels_in : (m k rest : ℕ) (b : Blocks) (node : Node) → ((left : ℕ) (to : BlockRef) → left < rest → IsTree m left b to → SameLevels m k left b to) → Fits rest node → Below (λ left to. IsTree m left b to) rest node
-    → (entries_in (entries k b) node ≡ entries_in (entries m b) node) × (refs_in (refs k b) node ≡ refs_in (refs m b) node) × (marks_in (marks k b) node ≡ marks_in (marks m b) node) × Below (λ left to. IsTree k left b to) rest node
+levels_in : (m k rest : ℕ) (b : Blocks) (node : Node) → ((left : ℕ) (to : BlockRef) → left < rest → IsTree m left b to → SameLevels m k left b to) → Fits rest node
+    → Below (λ left to. IsTree m left b to) rest node
+    → (entries_in (entries k b) node ≡ entries_in (entries m b) node) × (refs_in (refs k b) node ≡ refs_in (refs m b) node) × (marks_in (marks k b) node ≡ marks_in (marks m b) node)
+    × Below (λ left to. IsTree k left b to) rest node
 levels_in m k rest b (Leaf prefix value) each fits h = (refl, refl, refl, tt)
 levels_in m k rest b (Inner prefix links) each fits h =
     let short = fits.short in
@@ -222,7 +247,8 @@ same_levels (suc m) (suc k) rest b at h t =
     record {
       entries_are = parts.0;
       refs_are = ap (λ xs. at ∷ xs) parts.1;
-      marks_are = ap (λ es. record { least = first_key es; at = at } ∷ marks_in (marks k b) (node_at b at)) parts.0 ∙ ap (λ ms. record { least = first_key (entries (suc m) b at); at = at } ∷ ms) parts.2;
+      marks_are = ap (λ es. record { least = first_key es; at = at } ∷ marks_in (marks k b) (node_at b at)) parts.0
+          ∙ ap (λ ms. record { least = first_key (entries (suc m) b at); at = at } ∷ ms) parts.2;
       tree = (t.0, t.1, t.2, subst (Below (λ left to. IsTree k left b to) rest) (sym told) parts.3);
     }
 

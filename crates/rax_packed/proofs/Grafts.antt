@@ -21,16 +21,22 @@ pub times-owned_by : (r at : BlockRef) (xs ys zs : List BlockRef) → times r (o
 unfolding owned_by
 times-owned_by r at xs ys zs = omega (arith, times-append r xs (ys ++ zs), times-append r ys zs)
 
-pub three_refs : (n : ℕ) (b : Blocks) (at : BlockRef) (before middle after : List Link) → at ∷ refs_below n b (before ++ (middle ++ after)) ≡ owned_by at (refs_below n b before) (refs_below n b middle) (refs_below n b after)
+pub three_refs : (n : ℕ) (b : Blocks) (at : BlockRef) (before middle after : List Link) → at
+    ∷ refs_below n b (before ++ (middle ++ after)) ≡ owned_by at (refs_below n b before) (refs_below n b middle) (refs_below n b after)
 unfolding owned_by
-three_refs n b at before middle after = ap (λ xs. at ∷ xs) (flat_map-append (λ l. refs n b l.to) before (middle ++ after) ∙ ap (λ xs. refs_below n b before ++ xs) (flat_map-append (λ l. refs n b l.to) middle after))
+three_refs n b at before middle after = ap (λ xs. at ∷ xs)
+    (flat_map-append (λ l. refs n b l.to) before (middle ++ after) ∙ ap (λ xs. refs_below n b before ++ xs) (flat_map-append (λ l. refs n b l.to) middle after))
 
-pub three_entries : (prefix : List ℕ) (n : ℕ) (b : Blocks) (before middle after : List Link) → below_links prefix (entries n b) (before ++ (middle ++ after)) ≡ below_links prefix (entries n b) before ++ (below_links prefix (entries n b) middle ++ below_links prefix (entries n b) after)
+pub three_entries : (prefix : List ℕ) (n : ℕ) (b : Blocks) (before middle after : List Link)
+    → below_links prefix (entries n b) (before ++ (middle ++ after)) ≡ below_links prefix (entries n b) before
+    ++ (below_links prefix (entries n b) middle ++ below_links prefix (entries n b) after)
 three_entries prefix n b before middle after =
     let f : Link → List Entry = λ l. map (under (prefix ++ l.edge ∷ [])) (entries n b l.to) in
     flat_map-append f before (middle ++ after) ∙ ap (λ xs. below_links prefix (entries n b) before ++ xs) (flat_map-append f middle after)
 
-pub three_marks : (prefix : List ℕ) (n : ℕ) (b : Blocks) (before middle after : List Link) → marks_below prefix (marks n b) (before ++ (middle ++ after)) ≡ marks_below prefix (marks n b) before ++ (marks_below prefix (marks n b) middle ++ marks_below prefix (marks n b) after)
+pub three_marks : (prefix : List ℕ) (n : ℕ) (b : Blocks) (before middle after : List Link)
+    → marks_below prefix (marks n b) (before ++ (middle ++ after)) ≡ marks_below prefix (marks n b) before
+    ++ (marks_below prefix (marks n b) middle ++ marks_below prefix (marks n b) after)
 three_marks prefix n b before middle after =
     let f : Link → List Mark = λ l. map (mark_under (prefix ++ l.edge ∷ [])) (marks n b l.to) in
     flat_map-append f before (middle ++ after) ∙ ap (λ xs. marks_below prefix (marks n b) before ++ xs) (flat_map-append f middle after)
@@ -51,7 +57,8 @@ pub record Grafted (n rest : ℕ) (b mid later : Blocks) (at : BlockRef) (prefix
   pub tree : IsTree (suc n) rest later at
   pub entries_are : entries (suc n) later at ≡ below_links prefix (entries n b) before ++ (below_links prefix (entries n mid) new ++ below_links prefix (entries n b) after)
   pub changes : Changes b later (refs (suc n) b at) (refs (suc n) later at)
-  pub marks_are : marks (suc n) later at ≡ (record { least = first_key (entries (suc n) later at); at = at }) ∷ (marks_below prefix (marks n b) before ++ (marks_below prefix (marks n mid) new ++ marks_below prefix (marks n b) after))
+  pub marks_are : marks (suc n) later at ≡ (record { least = first_key (entries (suc n) later at); at = at })
+      ∷ (marks_below prefix (marks n b) before ++ (marks_below prefix (marks n mid) new ++ marks_below prefix (marks n b) after))
 
 module _ (n rest : ℕ) (b mid later : Blocks) (at : BlockRef) (prefix : List ℕ) (before old new after : List Link) (g : IsGraft n rest b mid later at prefix before old new after) where
   all : List BlockRef
@@ -160,5 +167,6 @@ module _ (n rest : ℕ) (b mid later : Blocks) (at : BlockRef) (prefix : List �
         ∙ ap (λ xs. xs ++ (marks_below prefix (marks n later) new ++ marks_below prefix (marks n later) after)) (same_before.marks_are prefix)
         ∙ ap (λ xs. marks_below prefix (marks n b) before ++ (xs ++ marks_below prefix (marks n later) after)) (same_new.marks_are prefix)
         ∙ ap (λ xs. marks_below prefix (marks n b) before ++ (marks_below prefix (marks n mid) new ++ xs)) (same_after.marks_are prefix));
-    changes = Changes-counted b later (refs (suc n) b at) (refs (suc n) later at) g.own (subst (λ xs. Counts b later xs (refs (suc n) later at)) (sym refs_are) (subst (Counts b later all) (sym now_refs) (Counts-then b mid later all left left first second)));
+    changes = Changes-counted b later (refs (suc n) b at) (refs (suc n) later at) g.own
+        (subst (λ xs. Counts b later xs (refs (suc n) later at)) (sym refs_are) (subst (Counts b later all) (sym now_refs) (Counts-then b mid later all left left first second)));
   }

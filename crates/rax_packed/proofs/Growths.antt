@@ -1,5 +1,6 @@
 -- A tree with one key more.
-use Rattle.std.proofs.Common.{◌≡◌, ◌∙◌, ℕ, zero, suc, ◌+◌, ◌-◌, ◌<◌, ◌≤◌, false, List, [], ◌∷◌, ◌++◌, length, drop, get_or, lit<, map, Option, Some, None, IsSome, unwrap_or, refl, sym, ap, subst, arith, length-append}
+use Rattle.std.proofs.Common.{◌≡◌, ◌∙◌, ℕ, zero, suc, ◌+◌, ◌-◌, ◌<◌, ◌≤◌, false, List, [], ◌∷◌, ◌++◌, length, drop, get_or, lit<, map, Option, Some, None, IsSome, unwrap_or, refl, sym, ap}
+use Rattle.std.proofs.Common.{subst, arith, length-append}
 use Rattle.std.proofs.lemmas.List.{append-nil, take_at, drop_at, get_or_at}
 use Rattle.std.specs.List.{AllByRecursion, insert}
 use Rattle.std.proofs.lemmas.List.Concat.{flat_map-append}
@@ -76,21 +77,26 @@ fresh_before b m r news puts fresh = by_case (b r) refl
     by_case (Some xs) is = absurd (let bad : ◌≡◌ {A = Option (List ℕ)} (Some xs) None = sym (puts.kept r (subst (λ o. IsSome o) (sym is) refl) ∙ is) ∙ fresh in cc)
 
 -- the entries that a missing key makes of a node with links
-pub lacking_entries : (n : ℕ) (b : Blocks) (key prefix below : List ℕ) (before after : List Link) (edge : ℕ) (value : BlockRef) → key ≡ prefix ++ edge ∷ below → AllByRecursion (λ l. l.edge < edge) before → AllByRecursion (λ l. edge < l.edge) after
-    → with_entry (below_links prefix (entries n b) (before ++ after)) key value ≡ below_links prefix (entries n b) before ++ ((under (prefix ++ edge ∷ []) (record { key = below; value = value })) ∷ below_links prefix (entries n b) after)
+pub lacking_entries : (n : ℕ) (b : Blocks) (key prefix below : List ℕ) (before after : List Link) (edge : ℕ) (value : BlockRef) → key ≡ prefix ++ edge ∷ below
+    → AllByRecursion (λ l. l.edge < edge) before → AllByRecursion (λ l. edge < l.edge) after
+    → with_entry (below_links prefix (entries n b) (before ++ after)) key value ≡ below_links prefix (entries n b) before
+    ++ ((under (prefix ++ edge ∷ []) (record { key = below; value = value })) ∷ below_links prefix (entries n b) after)
 unfolding with_entry
 lacking_entries n b key prefix below before after edge value is less more =
     let f : Link → List Entry = λ l. map (under (prefix ++ l.edge ∷ [])) (entries n b l.to) in
     let full = prefix ++ edge ∷ below in
     ap (λ es. with_entry es key value) (flat_map-append f before after)
     ∙ ap (λ k. with_entry (below_links prefix (entries n b) before ++ ([] ++ below_links prefix (entries n b) after)) k value) is
-    ∙ with_entry-parts full (below_links prefix (entries n b) before) [] (below_links prefix (entries n b) after) (links_less prefix below edge (entries n b) before less) (links_greater prefix below edge (entries n b) after more) value
+    ∙ with_entry-parts full (below_links prefix (entries n b) before) [] (below_links prefix (entries n b) after) (links_less prefix below edge (entries n b) before less)
+    (links_greater prefix below edge (entries n b) after more) value
     ∙ ap (λ k. below_links prefix (entries n b) before ++ ((record { key = k; value = value }) ∷ below_links prefix (entries n b) after)) (key_under prefix below edge)
 
 -- A new leaf hangs at a node, which stands in another block then.
-module _ (b later : Blocks) (at leaf new : BlockRef) (key : List ℕ) (place from : ℕ) (value : BlockRef) (t : IsTreeAt (length key) b at) (own : Owned (refs_at (length key) b at) b) (lacks : Lacks (node_at b at) key place from)
+module _ (b later : Blocks) (at leaf new : BlockRef) (key : List ℕ) (place from : ℕ) (value : BlockRef) (t : IsTreeAt (length key) b at) (own : Owned (refs_at (length key) b at) b)
+    (lacks : Lacks (node_at b at) key place from)
     (changed : Swaps b later at (new ∷ leaf ∷ [])) (hangs : later leaf ≡ Some (spelled (Leaf lacks.below value)))
-    (stands : later new ≡ Some (spelled (Inner lacks.prefix (lacks.before ++ (record { edge = lacks.edge; to = leaf }) ∷ lacks.after)))) (byte : lacks.edge < 256) (named : IsRef leaf) (valued : IsRef value) where
+    (stands : later new ≡ Some (spelled (Inner lacks.prefix (lacks.before ++ (record { edge = lacks.edge; to = leaf }) ∷ lacks.after)))) (byte : lacks.edge < 256) (named : IsRef leaf)
+    (valued : IsRef value) where
   -- the length of the key
   n : ℕ
   n = length key
@@ -144,7 +150,8 @@ module _ (b later : Blocks) (at leaf new : BlockRef) (key : List ℕ) (place fro
   leaf_low = record { bytes = spelled (Leaf lacks.below value); block = hangs; holds = refl; fits = (left_is, valued) }
 
   -- a leaf has as many levels as are wanted
-  leaf_many : (m : ℕ) → 0 < m → IsTree m (length key - suc (length lacks.prefix)) later leaf × (entries m later leaf ≡ (record { key = lacks.below; value = value }) ∷ []) × (refs m later leaf ≡ leaf ∷ [])
+  leaf_many : (m : ℕ) → 0 < m → IsTree m (length key - suc (length lacks.prefix)) later leaf × (entries m later leaf ≡ (record { key = lacks.below; value = value }) ∷ [])
+      × (refs m later leaf ≡ leaf ∷ [])
   leaf_many zero h = absurd (omega arith)
   leaf_many (suc m) h =
       let is = leaf_node m (length key - suc (length lacks.prefix)) later leaf lacks.below value leaf_low in
@@ -155,7 +162,8 @@ module _ (b later : Blocks) (at leaf new : BlockRef) (key : List ℕ) (place fro
   longer = omega (arith, ap length lacks.key_is, length-append lacks.prefix (lacks.edge ∷ lacks.below))
 
   -- the new leaf is a tree of one entry and one reference with as many levels as the key has bytes
-  hung : IsTree (length key) (length key - suc (length lacks.prefix)) later leaf × (entries (length key) later leaf ≡ (record { key = lacks.below; value = value }) ∷ []) × (refs (length key) later leaf ≡ leaf ∷ [])
+  hung : IsTree (length key) (length key - suc (length lacks.prefix)) later leaf × (entries (length key) later leaf ≡ (record { key = lacks.below; value = value }) ∷ [])
+      × (refs (length key) later leaf ≡ leaf ∷ [])
   hung = leaf_many (length key) longer
 
   -- the block of the new reference holds the node with the new leaf's link, over the trees of all its links
@@ -187,21 +195,30 @@ module _ (b later : Blocks) (at leaf new : BlockRef) (key : List ℕ) (place fro
       ∙ ap (λ xs. new ∷ (refs_below (length key) b lacks.before ++ ((leaf ∷ []) ++ xs))) same_after.refs_are
 
   -- the tree's entries are now the new leaf's one between those below the other links as they were
-  now_entries : entries_at (length key) later new ≡ below_links lacks.prefix (entries (length key) b) lacks.before ++ ((under (lacks.prefix ++ lacks.edge ∷ []) (record { key = lacks.below; value = value })) ∷ below_links lacks.prefix (entries (length key) b) lacks.after)
+  now_entries : entries_at (length key) later new ≡ below_links lacks.prefix (entries (length key) b) lacks.before
+      ++ ((under (lacks.prefix ++ lacks.edge ∷ []) (record { key = lacks.below; value = value })) ∷ below_links lacks.prefix (entries (length key) b) lacks.after)
   unfolding link
   now_entries =
       inner_entries (length key) later new lacks.prefix (lacks.before ++ link ∷ lacks.after) now_node ∙ three_entries lacks.prefix (length key) later lacks.before (link ∷ []) lacks.after
       ∙ ap (λ xs. xs ++ (below_links lacks.prefix (entries (length key) later) (link ∷ []) ++ below_links lacks.prefix (entries (length key) later) lacks.after)) (same_before.entries_are lacks.prefix)
-      ∙ ap (λ xs. below_links lacks.prefix (entries (length key) b) lacks.before ++ (xs ++ below_links lacks.prefix (entries (length key) later) lacks.after)) (append-nil (map (under (lacks.prefix ++ lacks.edge ∷ [])) (entries (length key) later leaf)) ∙ ap (map (under (lacks.prefix ++ lacks.edge ∷ []))) hung.1)
-      ∙ ap (λ xs. below_links lacks.prefix (entries (length key) b) lacks.before ++ ((under (lacks.prefix ++ lacks.edge ∷ []) (record { key = lacks.below; value = value })) ∷ xs)) (same_after.entries_are lacks.prefix)
+      ∙ ap (λ xs. below_links lacks.prefix (entries (length key) b) lacks.before ++ (xs ++ below_links lacks.prefix (entries (length key) later) lacks.after))
+      (append-nil (map (under (lacks.prefix ++ lacks.edge ∷ [])) (entries (length key) later leaf)) ∙ ap (map (under (lacks.prefix ++ lacks.edge ∷ []))) hung.1)
+      ∙ ap (λ xs. below_links lacks.prefix (entries (length key) b) lacks.before ++ ((under (lacks.prefix ++ lacks.edge ∷ []) (record { key = lacks.below; value = value })) ∷ xs))
+      (same_after.entries_are lacks.prefix)
 
   -- the tree has become one at the new reference with the value at the key, and no other block has changed
   pub attached : Becomes (length key) b later at new (with_entry (entries_at (length key) b at) key value)
   attached = record {
     tree = inner_tree (length key) (length key) later new lacks.prefix (lacks.before ++ link ∷ lacks.after) now;
-    entries_are = now_entries ∙ sym (ap (λ es. with_entry es key value) (inner_entries (length key) b at lacks.prefix (lacks.before ++ lacks.after) lacks.node_is) ∙ lacking_entries (length key) b key lacks.prefix lacks.below lacks.before lacks.after lacks.edge value lacks.key_is lacks.less lacks.more);
+    entries_are = now_entries ∙ sym
+        (ap (λ es. with_entry es key value) (inner_entries (length key) b at lacks.prefix (lacks.before ++ lacks.after) lacks.node_is)
+        ∙ lacking_entries (length key) b key lacks.prefix lacks.below lacks.before lacks.after lacks.edge value lacks.key_is lacks.less lacks.more);
     changes = Changes-counted b later (refs_at (length key) b at) (refs_at (length key) later new) own
-        (changed.counts (refs_at (length key) b at) (refs_at (length key) later new) (λ r. (let now_in : times r (refs_at (length key) later new) ≡ one r new + (times r (refs_below (length key) b lacks.before) + (times r (leaf ∷ []) + times r (refs_below (length key) b lacks.after))) = ap (times r) now_refs ∙ times-owned_by r new (refs_below (length key) b lacks.before) (leaf ∷ []) (refs_below (length key) b lacks.after) in
+        (changed.counts (refs_at (length key) b at) (refs_at (length key) later new)
+        (λ r.
+        (let now_in : times r (refs_at (length key) later new) ≡ one r new +
+        (times r (refs_below (length key) b lacks.before) + (times r (leaf ∷ []) + times r (refs_below (length key) b lacks.after))) = ap (times r) now_refs
+        ∙ times-owned_by r new (refs_below (length key) b lacks.before) (leaf ∷ []) (refs_below (length key) b lacks.after) in
         omega (arith, now_in, in_refs r))));
   }
 
@@ -214,9 +231,11 @@ edge_of : (prefix below key : List ℕ) (edge from : ℕ) → key ≡ prefix ++ 
 edge_of prefix below key edge from is begins = ap (λ k. get_or k (from - 1) 0) is ∙ get_or_at prefix edge below 0 (from - 1) (omega arith)
 
 -- what code attaches
-pub attach_done : (b b1 b2 later : Blocks) (at leaf new : BlockRef) (key : List ℕ) (place from : ℕ) (value : BlockRef) → IsTreeAt (length key) b at → Owned (refs_at (length key) b at) b → Lacks (node_at b at) key place from
+pub attach_done : (b b1 b2 later : Blocks) (at leaf new : BlockRef) (key : List ℕ) (place from : ℕ) (value : BlockRef) → IsTreeAt (length key) b at → Owned (refs_at (length key) b at) b
+    → Lacks (node_at b at) key place from
     → b leaf ≡ None → (first : List ℕ) → b1 ≡ with_block b leaf (Some first) → first ≡ spelled (Leaf (drop from key) value)
-    → (seen : List ℕ) → b1 at ≡ Some seen → (second : List ℕ) → second ≡ spelled (Inner (prefix_in (node_of seen)) (insert (links_in (node_of seen)) place (record { edge = get_or key (from - 1) 0; to = leaf })))
+    → (seen : List ℕ) → b1 at ≡ Some seen → (second : List ℕ) → second ≡ spelled
+    (Inner (prefix_in (node_of seen)) (insert (links_in (node_of seen)) place (record { edge = get_or key (from - 1) 0; to = leaf })))
     → b1 new ≡ None → b2 ≡ with_block b1 new (Some second) → later ≡ with_block b2 at None → ((i : ℕ) → get_or key i 0 < 256) → IsRef leaf → IsRef value
     → Becomes (length key) b later at new (with_entry (entries_at (length key) b at) key value)
 attach_done b b1 b2 later at leaf new key place from value t own lacks fresh1 first put1 first_is seen read second second_is fresh2 put2 ended small named valued =
@@ -233,14 +252,16 @@ attach_done b b1 b2 later at leaf new key place from value t own lacks fresh1 fi
     ∙ ap (λ e. spelled (Inner lacks.prefix (insert (lacks.before ++ lacks.after) place (record { edge = e; to = leaf })))) edge
     ∙ ap (λ ls. spelled (Inner lacks.prefix ls)) (insert_at lacks.before lacks.after link place lacks.many) in
     let hangs : later leaf ≡ Some (spelled (Leaf lacks.below value)) =
-    ended_stays b b2 later at leaf first (put_stays b1 b2 new leaf second first (put_here b b1 leaf first put1) fresh2 put2) was fresh1 ended ∙ ap Some (first_is ∙ ap (λ k. spelled (Leaf k value)) below) in
+    ended_stays b b2 later at leaf first (put_stays b1 b2 new leaf second first (put_here b b1 leaf first put1) fresh2 put2) was fresh1 ended
+    ∙ ap Some (first_is ∙ ap (λ k. spelled (Leaf k value)) below) in
     let stands : later new ≡ Some (spelled (Inner lacks.prefix (lacks.before ++ link ∷ lacks.after))) =
     ended_stays b b2 later at new second (put_here b1 b2 new second put2) was (fresh_before b b1 new (leaf ∷ []) one_put fresh2) ended ∙ ap Some wide in
     let byte : lacks.edge < 256 = subst (λ e. e < 256) edge (small (from - 1)) in
     attached b later at leaf new key place from value t own lacks changed hangs stands byte named valued
 
 -- what code asks of the bytes that it widens
-pub attach_ready : (b b1 : Blocks) (at leaf : BlockRef) (key : List ℕ) (place from : ℕ) → IsTreeAt (length key) b at → length key ≤ 16 → Lacks (node_at b at) key place from → Puts b b1 (leaf ∷ []) → (seen : List ℕ) → b1 at ≡ Some seen → ((i : ℕ) → get_or key i 0 < 256)
+pub attach_ready : (b b1 : Blocks) (at leaf : BlockRef) (key : List ℕ) (place from : ℕ) → IsTreeAt (length key) b at → length key ≤ 16 → Lacks (node_at b at) key place from
+    → Puts b b1 (leaf ∷ []) → (seen : List ℕ) → b1 at ≡ Some seen → ((i : ℕ) → get_or key i 0 < 256)
     → IsInnerBytes seen × (place ≤ length (links_in (node_of seen))) × (length (links_in (node_of seen)) < 256)
 attach_ready b b1 at leaf key place from t few lacks puts seen read small =
     let was : IsSome (b at) = tree_live (suc (length key)) (length key) b at t in
@@ -251,7 +272,9 @@ attach_ready b b1 at leaf key place from t few lacks puts seen read small =
     let edge : get_or key (from - 1) 0 ≡ lacks.edge = edge_of lacks.prefix lacks.below key lacks.edge from lacks.key_is lacks.begins in
     let byte : lacks.edge < 256 = subst (λ e. e < 256) edge (small (from - 1)) in
     let some_ref : BlockRef = record { slab = 0; slot = 0 } in
-    let more : IsInner (length key) lacks.prefix (lacks.before ++ (record { edge = lacks.edge; to = some_ref }) ∷ lacks.after) = inner_join (length key) lacks.prefix lacks.before lacks.after (record { edge = lacks.edge; to = some_ref }) inner.inner byte (record { slab = lit< tt; slot = lit< tt }) lacks.less lacks.more in
+    let more : IsInner (length key) lacks.prefix (lacks.before ++ (record { edge = lacks.edge; to = some_ref }) ∷ lacks.after) =
+    inner_join (length key) lacks.prefix lacks.before lacks.after (record { edge = lacks.edge; to = some_ref }) inner.inner byte (record { slab = lit< tt; slot = lit< tt }) lacks.less
+    lacks.more in
     let most = count_most (lacks.before ++ (record { edge = lacks.edge; to = some_ref }) ∷ lacks.after) more.rising more.edges in (
       record { rest = length key; few = few; node = tree_node (suc (length key)) (length key) b at seen t here; prefix = lacks.prefix; links = lacks.before ++ lacks.after; is = node },
       omega (arith, ap length links, length-append lacks.before lacks.after, lacks.many),

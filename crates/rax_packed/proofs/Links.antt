@@ -11,11 +11,13 @@ use Rattle.rax_packed.proofs.Entries.{all-append, all-front, all-weaker}
 use Rattle.rax_packed.proofs.Spellings.{length-ref_bytes, length-refs_bytes, refs_bytes-append}
 
 -- all links behind one that all of them are above
-above_link : (n : ℕ) (before after : List Link) (link : Link) → AllByRecursion (λ m. n < m.edge) before → n < link.edge → AllByRecursion (λ m. link.edge < m.edge) after → AllByRecursion (λ m. n < m.edge) (before ++ link ∷ after)
+above_link : (n : ℕ) (before after : List Link) (link : Link) → AllByRecursion (λ m. n < m.edge) before → n < link.edge → AllByRecursion (λ m. link.edge < m.edge) after
+    → AllByRecursion (λ m. n < m.edge) (before ++ link ∷ after)
 above_link n before after link low here high = all-append (λ m. n < m.edge) before (link ∷ after) low (here, all-weaker (λ m. link.edge < m.edge) (λ m. n < m.edge) after (λ m h. omega arith) high)
 
 -- links rise with one between those below it and those above it
-pub rising_join : (before after : List Link) (link : Link) → Rising (before ++ after) → AllByRecursion (λ l. l.edge < link.edge) before → AllByRecursion (λ l. link.edge < l.edge) after → Rising (before ++ link ∷ after)
+pub rising_join : (before after : List Link) (link : Link) → Rising (before ++ after) → AllByRecursion (λ l. l.edge < link.edge) before → AllByRecursion (λ l. link.edge < l.edge) after
+    → Rising (before ++ link ∷ after)
 rising_join [] after link rising less more = (more, rising)
 rising_join (l ∷ before) after link rising less more =
     (above_link l.edge before after link (all-front (λ m. l.edge < m.edge) before after rising.0) less.0 more, rising_join before after link rising.1 less.1 more)
@@ -38,7 +40,8 @@ all_here P [] ys x h = h.0
 all_here P (y ∷ xs) ys x h = all_here P xs ys x h.1
 
 -- an inner node with one more link
-pub inner_join : (rest : ℕ) (prefix : List ℕ) (before after : List Link) (link : Link) → IsInner rest prefix (before ++ after) → link.edge < 256 → IsRef link.to → AllByRecursion (λ l. l.edge < link.edge) before → AllByRecursion (λ l. link.edge < l.edge) after → IsInner rest prefix (before ++ link ∷ after)
+pub inner_join : (rest : ℕ) (prefix : List ℕ) (before after : List Link) (link : Link) → IsInner rest prefix (before ++ after) → link.edge < 256 → IsRef link.to
+    → AllByRecursion (λ l. l.edge < link.edge) before → AllByRecursion (λ l. link.edge < l.edge) after → IsInner rest prefix (before ++ link ∷ after)
 inner_join rest prefix before after link inner byte ref less more =
     record {
       short = inner.short;
@@ -49,7 +52,8 @@ inner_join rest prefix before after link inner byte ref less more =
     }
 
 -- with one less
-pub inner_skip : (rest : ℕ) (prefix : List ℕ) (before after : List Link) (link : Link) → 0 < length (before ++ after) → IsInner rest prefix (before ++ link ∷ after) → IsInner rest prefix (before ++ after)
+pub inner_skip : (rest : ℕ) (prefix : List ℕ) (before after : List Link) (link : Link) → 0 < length (before ++ after) → IsInner rest prefix (before ++ link ∷ after)
+    → IsInner rest prefix (before ++ after)
 inner_skip rest prefix before after link some inner =
     record {
       short = inner.short;
@@ -62,10 +66,14 @@ inner_skip rest prefix before after link some inner =
 -- with a link that names another node
 rising_same : (before after : List Link) (edge : ℕ) (to new : BlockRef) → Rising (before ++ (record { edge = edge; to = to }) ∷ after) → Rising (before ++ (record { edge = edge; to = new }) ∷ after)
 rising_same [] after edge to new rising = rising
-rising_same (l ∷ before) after edge to new rising =
-    (all-join (λ m. l.edge < m.edge) before after (record { edge = edge; to = new }) (all-skip (λ m. l.edge < m.edge) before after (record { edge = edge; to = to }) rising.0) (all_here (λ m. l.edge < m.edge) before after (record { edge = edge; to = to }) rising.0), rising_same before after edge to new rising.1)
+rising_same (l ∷ before) after edge to new rising = (
+  all-join (λ m. l.edge < m.edge) before after (record { edge = edge; to = new }) (all-skip (λ m. l.edge < m.edge) before after (record { edge = edge; to = to }) rising.0)
+      (all_here (λ m. l.edge < m.edge) before after (record { edge = edge; to = to }) rising.0),
+  rising_same before after edge to new rising.1,
+)
 
-pub inner_relinked : (rest : ℕ) (prefix : List ℕ) (before after : List Link) (edge : ℕ) (to new : BlockRef) → IsRef new → IsInner rest prefix (before ++ (record { edge = edge; to = to }) ∷ after) → IsInner rest prefix (before ++ (record { edge = edge; to = new }) ∷ after)
+pub inner_relinked : (rest : ℕ) (prefix : List ℕ) (before after : List Link) (edge : ℕ) (to new : BlockRef) → IsRef new
+    → IsInner rest prefix (before ++ (record { edge = edge; to = to }) ∷ after) → IsInner rest prefix (before ++ (record { edge = edge; to = new }) ∷ after)
 inner_relinked rest prefix before after edge to new ref inner =
     let old : Link = record { edge = edge; to = to } in
     let now : Link = record { edge = edge; to = new } in
@@ -93,9 +101,20 @@ link_front prefix links before = 1 ∷ length prefix ∷ (prefix ++ (little_byte
 length-link_front : (prefix : List ℕ) (links before : List Link) → length (link_front prefix links before) ≡ 4 + length prefix + length links + 12 * length before
 unfolding link_front
 length-link_front prefix links before =
-    omega (arith, length-append prefix (little_bytes 2 (length links) ++ (edges_of links ++ refs_bytes before)), length-append (little_bytes 2 (length links)) (edges_of links ++ refs_bytes before), length-append (edges_of links) (refs_bytes before), length-map links (λ l. l.edge), length-refs_bytes before, length-bytes_low_first 0 2 (length links))
+    omega (
+      arith,
+      length-append prefix (little_bytes 2 (length links) ++ (edges_of links ++ refs_bytes before)),
+      length-append (little_bytes 2 (length links))
+          (edges_of links ++ refs_bytes before),
+      length-append (edges_of links) (refs_bytes before),
+      length-map links (λ l. l.edge),
+      length-refs_bytes before,
+      length-bytes_low_first 0 2
+          (length links),
+    )
 
-at_link : (prefix : List ℕ) (before after : List Link) (link : Link) (zeros : List ℕ) → spelled (Inner prefix (before ++ link ∷ after)) ++ zeros ≡ link_front prefix (before ++ link ∷ after) before ++ (ref_bytes link.to ++ (refs_bytes after ++ zeros))
+at_link : (prefix : List ℕ) (before after : List Link) (link : Link) (zeros : List ℕ) → spelled (Inner prefix (before ++ link ∷ after))
+    ++ zeros ≡ link_front prefix (before ++ link ∷ after) before ++ (ref_bytes link.to ++ (refs_bytes after ++ zeros))
 unfolding link_front
 at_link prefix before after link zeros =
     ap (λ refs. (1 ∷ length prefix ∷ (prefix ++ (little_bytes 2 (length (before ++ link ∷ after)) ++ (edges_of (before ++ link ∷ after) ++ refs)))) ++ zeros) (refs_bytes-append before (link ∷ after))
@@ -104,11 +123,14 @@ at_link prefix before after link zeros =
 same_length : (before after : List Link) (x y : Link) → length (before ++ x ∷ after) ≡ length (before ++ y ∷ after)
 same_length before after x y = omega (arith, length-append before (x ∷ after), length-append before (y ∷ after))
 
-same_edges : (before after : List Link) (edge : ℕ) (to new : BlockRef) → edges_of (before ++ (record { edge = edge; to = to }) ∷ after) ≡ edges_of (before ++ (record { edge = edge; to = new }) ∷ after)
+same_edges : (before after : List Link) (edge : ℕ) (to new : BlockRef)
+    → edges_of (before ++ (record { edge = edge; to = to }) ∷ after) ≡ edges_of (before ++ (record { edge = edge; to = new }) ∷ after)
 same_edges before after edge to new = map-append (λ l. l.edge) before ((record { edge = edge; to = to }) ∷ after) ∙ sym (map-append (λ l. l.edge) before ((record { edge = edge; to = new }) ∷ after))
 
 -- a reference written over that of a link
-pub relinked_bytes : (bytes prefix : List ℕ) (before after : List Link) (edge at : ℕ) (to new : BlockRef) → HoldsNode bytes (Inner prefix (before ++ (record { edge = edge; to = to }) ∷ after)) → at ≡ 4 + length prefix + length (before ++ (record { edge = edge; to = to }) ∷ after) + 12 * length before
+pub relinked_bytes : (bytes prefix : List ℕ) (before after : List Link) (edge at : ℕ) (to new : BlockRef)
+    → HoldsNode bytes (Inner prefix (before ++ (record { edge = edge; to = to }) ∷ after))
+    → at ≡ 4 + length prefix + length (before ++ (record { edge = edge; to = to }) ∷ after) + 12 * length before
     → HoldsNode (overwritten bytes at (ref_bytes new)) (Inner prefix (before ++ (record { edge = edge; to = new }) ∷ after))
 unfolding link_front
 relinked_bytes bytes prefix before after edge at to new holds is =
@@ -121,7 +143,8 @@ relinked_bytes bytes prefix before after edge at to new holds is =
     ∙ ap (λ es. 1 ∷ length prefix ∷ (prefix ++ (little_bytes 2 (length (before ++ now ∷ after)) ++ (es ++ refs_bytes before)))) (same_edges before after edge to new) in (
       holds.0,
       ap (λ xs. overwritten xs at (ref_bytes new)) (holds.1 ∙ at_link prefix before after old zeros)
-          ∙ overwritten-between front (ref_bytes to) (ref_bytes new) (refs_bytes after ++ zeros) at (length-link_front prefix (before ++ old ∷ after) before ∙ sym is) (length-ref_bytes to ∙ sym (length-ref_bytes new))
+          ∙ overwritten-between front (ref_bytes to) (ref_bytes new) (refs_bytes after ++ zeros) at (length-link_front prefix (before ++ old ∷ after) before ∙ sym is)
+          (length-ref_bytes to ∙ sym (length-ref_bytes new))
           ∙ ap (λ xs. xs ++ (ref_bytes new ++ (refs_bytes after ++ zeros))) alike
           ∙ sym (at_link prefix before after now zeros),
     )

@@ -1,5 +1,6 @@
 -- What stands at a key, by the way that it goes on.
-use Rattle.std.proofs.Common.{◌≡◌, ◌⊎◌, ◌∙◌, ℕ, zero, suc, ◌+◌, ◌-◌, ◌<◌, ◌≤◌, List, [], ◌∷◌, ◌++◌, length, drop, map, Option, Some, None, IsSome, unwrap_or, refl, sym, ap, subst, inl, inr, arith, append_assoc, length-append, length-drop}
+use Rattle.std.proofs.Common.{◌≡◌, ◌⊎◌, ◌∙◌, ℕ, zero, suc, ◌+◌, ◌-◌, ◌<◌, ◌≤◌, List, [], ◌∷◌, ◌++◌, length, drop, map, Option, Some, None, IsSome, unwrap_or, refl, sym, ap, subst, inl}
+use Rattle.std.proofs.Common.{inr, arith, append_assoc, length-append, length-drop}
 use Rattle.std.proofs.lemmas.List.{drop_at, append-nil}
 use Rattle.std.specs.List.{AllByRecursion}
 use Rattle.std.proofs.lemmas.List.Concat.{flat_map-append}
@@ -43,7 +44,8 @@ node_read b at bytes read = ap (λ o. node_of (unwrap_or o [])) read
 -- where all keys with a prefix stand alike to a key, so do all keys below links behind that prefix
 links_side : (o : Ordering) (prefix key : List ℕ) (below : BlockRef → List Entry) (links : List Link) → ((rest : List ℕ) → order (prefix ++ rest) key ≡ o) → All o key (below_links prefix below links)
 links_side o prefix key below [] h = tt
-links_side o prefix key below (l ∷ links) h = all-append (λ e. order e.key key ≡ o) (map (under (prefix ++ l.edge ∷ [])) (below l.to)) (below_links prefix below links) (each (below l.to)) (links_side o prefix key below links h)
+links_side o prefix key below (l ∷ links) h = all-append (λ e. order e.key key ≡ o) (map (under (prefix ++ l.edge ∷ [])) (below l.to)) (below_links prefix below links) (each (below l.to))
+    (links_side o prefix key below links h)
   where
     each : (es : List Entry) → All o key (map (under (prefix ++ l.edge ∷ [])) es)
     each [] = tt
@@ -60,12 +62,23 @@ pub parts_side : (levels : ℕ) (b : Blocks) (at : BlockRef) (key : List ℕ) (s
 unfolding entries
 parts_side levels b at key shared parts =
     let begin = parts.begin in
-    let split : (rest : List ℕ) → prefix_in (node_at b at) ++ rest ≡ begin ++ parts.own ∷ (parts.own_rest ++ rest) = λ rest. ap (λ xs. xs ++ rest) parts.prefix_is ∙ append_assoc begin (parts.own ∷ parts.own_rest) rest in
+    let split : (rest : List ℕ) → prefix_in (node_at b at) ++ rest ≡ begin ++ parts.own ∷ (parts.own_rest ++ rest) = λ rest. ap (λ xs. xs ++ rest) parts.prefix_is
+    ∙ append_assoc begin (parts.own ∷ parts.own_rest) rest in
     elim (cases_order parts.own parts.other) [
-      | inl less ↦ inl (less, node_side Less key (entries levels b) (node_at b at) (λ rest. ap (λ xs. order xs key) (split rest) ∙ ap (order (begin ++ parts.own ∷ (parts.own_rest ++ rest))) parts.key_is ∙ order-less begin (parts.own_rest ++ rest) parts.other_rest parts.own parts.other less))
+      | inl less ↦ inl (
+        less,
+        node_side Less key (entries levels b) (node_at b at)
+            (λ rest. ap (λ xs. order xs key) (split rest) ∙ ap (order (begin ++ parts.own ∷ (parts.own_rest ++ rest))) parts.key_is
+            ∙ order-less begin (parts.own_rest ++ rest) parts.other_rest parts.own parts.other less),
+      )
       | inr upto ↦ elim upto [
         | inl same ↦ absurd (parts.apart same)
-        | inr more ↦ inr (more, node_side Greater key (entries levels b) (node_at b at) (λ rest. ap (λ xs. order xs key) (split rest) ∙ ap (order (begin ++ parts.own ∷ (parts.own_rest ++ rest))) parts.key_is ∙ order-greater begin (parts.own_rest ++ rest) parts.other_rest parts.own parts.other more))
+        | inr more ↦ inr (
+          more,
+          node_side Greater key (entries levels b) (node_at b at)
+              (λ rest. ap (λ xs. order xs key) (split rest) ∙ ap (order (begin ++ parts.own ∷ (parts.own_rest ++ rest))) parts.key_is
+              ∙ order-greater begin (parts.own_rest ++ rest) parts.other_rest parts.own parts.other more),
+        )
       ]
     ]
 
@@ -98,7 +111,8 @@ all_apart : (l : Link) (links : List Link) (n : ℕ) → AllByRecursion (λ m. n
 all_apart l links n h = h.0
 
 -- of rising links those before one have lesser edges, those after it greater ones, and both parts rise
-pub rising_split : (before after : List Link) (link : Link) → Rising (before ++ link ∷ after) → AllByRecursion (λ l. l.edge < link.edge) before × AllByRecursion (λ l. link.edge < l.edge) after × Rising before × Rising after
+pub rising_split : (before after : List Link) (link : Link) → Rising (before ++ link ∷ after) → AllByRecursion (λ l. l.edge < link.edge) before
+    × AllByRecursion (λ l. link.edge < l.edge) after × Rising before × Rising after
 rising_split [] after link rising = (tt, rising.0, tt, rising.1)
 rising_split (l ∷ before) after link rising =
     let rest = rising_split before after link rising.1 in
@@ -131,12 +145,26 @@ pub record Split (b : Blocks) (at : BlockRef) (key : List ℕ) (place from : ℕ
   pub less : AllByRecursion (λ l. l.edge < edge) before
   pub more : AllByRecursion (λ l. edge < l.edge) after
 
-unfoldable pub link_split : (n rest : ℕ) (b : Blocks) (at to : BlockRef) (key : List ℕ) (place from : ℕ) → IsTree (suc n) rest b at → LeadsTo (node_at b at) key place from to → Split b at key place from to n rest
+unfoldable pub link_split : (n rest : ℕ) (b : Blocks) (at to : BlockRef) (key : List ℕ) (place from : ℕ) → IsTree (suc n) rest b at → LeadsTo (node_at b at) key place from to
+    → Split b at key place from to n rest
 link_split n rest b at to key place from t leads =
     let links = leads.before ++ (record { edge = leads.edge; to = to }) ∷ leads.after in
     let node = inner_at n rest b at leads.prefix links t leads.node_is in
     let sides = rising_split leads.before leads.after (record { edge = leads.edge; to = to }) node.inner.rising in
-    record { prefix = leads.prefix; before = leads.before; after = leads.after; edge = leads.edge; below = leads.below; node = node; many = leads.many; key_is = leads.key_is; begins = leads.begins; less = sides.0; more = sides.1 }
+    record {
+      prefix = leads.prefix;
+      before = leads.before;
+      after = leads.after;
+      edge = leads.edge;
+      below = leads.below;
+      node = node;
+      many = leads.many;
+      key_is = leads.key_is;
+      begins =
+          leads.begins;
+      less = sides.0;
+      more = sides.1;
+    }
 
 -- without a prefix and the byte after it, a key that begins with them is what follows them
 pub rest_is : (prefix below key : List ℕ) (edge from : ℕ) → key ≡ prefix ++ edge ∷ below → from ≡ suc (length prefix) → drop from key ≡ below
@@ -144,7 +172,8 @@ rest_is prefix below key edge from is begins =
     ap (drop from) (is ∙ sym (append_assoc prefix (edge ∷ []) below)) ∙ drop_at (prefix ++ edge ∷ []) below from (length-append prefix (edge ∷ []) ∙ omega arith)
 
 -- the value of a key that goes on by a link is that of its rest in the tree below the link
-pub link_value : (n : ℕ) (b : Blocks) (at to : BlockRef) (key : List ℕ) (place from rest : ℕ) → IsTree (suc n) rest b at → LeadsTo (node_at b at) key place from to → value_at (entries (suc n) b at) key ≡ value_at (entries n b to) (drop from key)
+pub link_value : (n : ℕ) (b : Blocks) (at to : BlockRef) (key : List ℕ) (place from rest : ℕ) → IsTree (suc n) rest b at → LeadsTo (node_at b at) key place from to
+    → value_at (entries (suc n) b at) key ≡ value_at (entries n b to) (drop from key)
 unfolding link_split
 link_value n b at to key place from rest t leads =
     let s = link_split n rest b at to key place from t leads in
@@ -154,7 +183,8 @@ link_value n b at to key place from rest t leads =
     ∙ ap (value_at (entries n b to)) (sym (rest_is s.prefix s.below key s.edge from s.key_is leads.begins))
 
 -- the link by which a key goes on names a tree with one level less, whose keys are as long as the key's rest
-pub link_tree : (n rest : ℕ) (b : Blocks) (at to : BlockRef) (key : List ℕ) (place from : ℕ) → IsTree (suc n) rest b at → rest ≡ length key → LeadsTo (node_at b at) key place from to → IsTree n (length (drop from key)) b to
+pub link_tree : (n rest : ℕ) (b : Blocks) (at to : BlockRef) (key : List ℕ) (place from : ℕ) → IsTree (suc n) rest b at → rest ≡ length key → LeadsTo (node_at b at) key place from to
+    → IsTree n (length (drop from key)) b to
 unfolding link_split
 link_tree n rest b at to key place from t all leads =
     let s = link_split n rest b at to key place from t leads in
@@ -171,9 +201,12 @@ pub lacks_value : (levels : ℕ) (b : Blocks) (at : BlockRef) (key : List ℕ) (
 lacks_value levels b at key place from lacks =
     let f = below_links lacks.prefix (entries levels b) in
     let full = lacks.prefix ++ lacks.edge ∷ lacks.below in
-    ap (λ es. value_at es key) (inner_entries levels b at lacks.prefix (lacks.before ++ lacks.after) lacks.node_is ∙ flat_map-append (λ l. map (under (lacks.prefix ++ l.edge ∷ [])) (entries levels b l.to)) lacks.before lacks.after)
+    ap (λ es. value_at es key)
+    (inner_entries levels b at lacks.prefix (lacks.before ++ lacks.after) lacks.node_is
+    ∙ flat_map-append (λ l. map (under (lacks.prefix ++ l.edge ∷ [])) (entries levels b l.to)) lacks.before lacks.after)
     ∙ ap (value_at (f lacks.before ++ f lacks.after)) lacks.key_is
-    ∙ value_at-parts full (f lacks.before) [] (f lacks.after) (links_less lacks.prefix lacks.below lacks.edge (entries levels b) lacks.before lacks.less) (links_greater lacks.prefix lacks.below lacks.edge (entries levels b) lacks.after lacks.more)
+    ∙ value_at-parts full (f lacks.before) [] (f lacks.after) (links_less lacks.prefix lacks.below lacks.edge (entries levels b) lacks.before lacks.less)
+    (links_greater lacks.prefix lacks.below lacks.edge (entries levels b) lacks.after lacks.more)
     ∙ empty_value full
 
 -- a tree that is named by a link, by the bytes that its keys have
@@ -209,7 +242,8 @@ module _ (b : Blocks) (at : BlockRef) (bytes key : List ℕ) (t : IsTreeAt (leng
   link_below place from to leads = named b to (length key) (length (drop from key)) (link_tree (length key) (length key) b at to key place from t refl (leads_at place from to leads))
 
   -- where the key goes on by a link of the node read, its value is that of its rest in the tree below
-  pub found_link : (place from : ℕ) (to : BlockRef) → LeadsTo (node_of bytes) key place from to → value_at (entries_at (length key) b at) key ≡ value_at (entries_at (length (drop from key)) b to) (drop from key)
+  pub found_link : (place from : ℕ) (to : BlockRef) → LeadsTo (node_of bytes) key place from to
+      → value_at (entries_at (length key) b at) key ≡ value_at (entries_at (length (drop from key)) b to) (drop from key)
   found_link place from to leads =
       link_value (length key) b at to key place from (length key) t (leads_at place from to leads) ∙ ap (λ es. value_at es (drop from key)) (sym (link_below place from to leads).entries_are)
 
@@ -223,5 +257,6 @@ shorter node to key place from bound all leads =
 pub leaf_room : (b : Blocks) (at old : BlockRef) (bytes key : List ℕ) → IsTreeAt (length key) b at → b at ≡ Some bytes → node_of bytes ≡ Leaf key old → (2 + length key) + 12 ≤ length (bytes_at b at)
 leaf_room b at old bytes key t read is =
     let leaf = leaf_at (length key) (length key) b at key old t (node_read b at bytes read ∙ is) in
-    let long : length (bytes_at b at) ≡ 2 + (length key + 12) = ap (λ o. length (unwrap_or o [])) leaf.block ∙ ap length leaf.holds ∙ ap (λ n. suc (suc n)) (length-append key (ref_bytes old) ∙ ap (λ n. length key + n) (length-ref_bytes old)) ∙ omega arith in
+    let long : length (bytes_at b at) ≡ 2 + (length key + 12) = ap (λ o. length (unwrap_or o [])) leaf.block ∙ ap length leaf.holds
+    ∙ ap (λ n. suc (suc n)) (length-append key (ref_bytes old) ∙ ap (λ n. length key + n) (length-ref_bytes old)) ∙ omega arith in
     omega arith

@@ -24,7 +24,8 @@ named_links levels blocks each prefix (l ∷ links) =
     map-append at_of (map (mark_under (prefix ++ l.edge ∷ [])) (marks levels blocks l.to)) (flat_map (λ k. map (mark_under (prefix ++ k.edge ∷ [])) (marks levels blocks k.to)) links)
     ∙ (λ i. (named_under (prefix ++ l.edge ∷ []) (marks levels blocks l.to) ∙ each l.to) i ++ named_links levels blocks each prefix links i)
 
-named_in : (levels : ℕ) (blocks : Blocks) → ((at : BlockRef) → map at_of (marks levels blocks at) ≡ refs levels blocks at) → (node : Node) → map at_of (marks_in (marks levels blocks) node) ≡ refs_in (refs levels blocks) node
+named_in : (levels : ℕ) (blocks : Blocks) → ((at : BlockRef) → map at_of (marks levels blocks at) ≡ refs levels blocks at) → (node : Node)
+    → map at_of (marks_in (marks levels blocks) node) ≡ refs_in (refs levels blocks) node
 named_in levels blocks each (Leaf prefix value) = refl
 named_in levels blocks each (Inner prefix links) = named_links levels blocks each prefix links
 

@@ -26,7 +26,8 @@ with_without es key value =
     let sides = count es in
     omega (arith, length-append (filter (λ e. is_lt (order e.key key)) es) ((record { key = key; value = value }) ∷ filter (λ e. is_gt (order e.key key)) es), sides)
   where
-    step : (o : Ordering) (e : Entry) (ls gs ns : List Entry) → length ls + length gs ≡ length ns → length (cond (is_lt o) (e ∷ ls) ls) + length (cond (is_gt o) (e ∷ gs) gs) ≡ length (cond (is_ne o) (e ∷ ns) ns)
+    step : (o : Ordering) (e : Entry) (ls gs ns : List Entry) → length ls + length gs ≡ length ns
+        → length (cond (is_lt o) (e ∷ ls) ls) + length (cond (is_gt o) (e ∷ gs) gs) ≡ length (cond (is_ne o) (e ∷ ns) ns)
     step Less e ls gs ns h = omega (arith, h)
     step Equal e ls gs ns h = h
     step Greater e ls gs ns h = omega (arith, h)
@@ -40,7 +41,8 @@ pub with_missing : (es : List Entry) (key : List ℕ) (value : BlockRef) → val
 with_missing es key value missing = with_without es key value ∙ ap (λ xs. suc (length xs)) (without-missing key es missing)
 
 -- a leaf has the key once
-pub leaf_once : (b : Blocks) (at value : BlockRef) (bytes key : List ℕ) → b at ≡ Some bytes → node_of bytes ≡ Leaf key value → suc (length (without (entries_at (length key) b at) key)) ≡ length (entries_at (length key) b at)
+pub leaf_once : (b : Blocks) (at value : BlockRef) (bytes key : List ℕ) → b at ≡ Some bytes → node_of bytes ≡ Leaf key value
+    → suc (length (without (entries_at (length key) b at) key)) ≡ length (entries_at (length key) b at)
 leaf_once b at value bytes key read is =
     let none = cut_leaf b at value bytes key read is in
     let one = leaf_entries (length key) b at key value (node_read b at bytes read ∙ is) in
@@ -48,7 +50,8 @@ leaf_once b at value bytes key read is =
 
 -- what has the key's rest once below the key's link has the key once
 pub link_once : (b : Blocks) (at to : BlockRef) (bytes key : List ℕ) (place from : ℕ) (t : IsTreeAt (length key) b at) (read : b at ≡ Some bytes) (leads : LeadsTo (node_of bytes) key place from to)
-    → suc (length (without (entries_at (length (drop from key)) b to) (drop from key))) ≡ length (entries_at (length (drop from key)) b to) → suc (length (without (entries_at (length key) b at) key)) ≡ length (entries_at (length key) b at)
+    → suc (length (without (entries_at (length (drop from key)) b to) (drop from key))) ≡ length (entries_at (length (drop from key)) b to)
+    → suc (length (without (entries_at (length key) b at) key)) ≡ length (entries_at (length key) b at)
 link_once b at to bytes key place from t read leads below =
     let s = split b at to bytes key place from t read leads in
     let link : Link = record { edge = s.edge; to = to } in
@@ -62,4 +65,17 @@ link_once b at to bytes key place from t read leads below =
     let without_is = step_without b at to bytes key place from t read leads in
     let with_is = old_entries b at to bytes key place from t read leads ∙ flat_map-append f s.before (link ∷ s.after) in
     let same : length (entries (length key) b to) ≡ length es = ap length (sym (child b at to bytes key place from t read leads).entries_are) in
-    omega (arith, below, same, ap length without_is, ap length with_is, length-append front (low ++ back), length-append low back, length-append front (mine ++ back), length-append mine back, length-map left (under (s.prefix ++ s.edge ∷ [])), length-map (entries (length key) b to) (under (s.prefix ++ s.edge ∷ [])))
+    omega (
+      arith,
+      below,
+      same,
+      ap length without_is,
+      ap length with_is,
+      length-append front (low ++ back),
+      length-append low back,
+      length-append front (mine ++ back),
+      length-append mine
+          back,
+      length-map left (under (s.prefix ++ s.edge ∷ [])),
+      length-map (entries (length key) b to) (under (s.prefix ++ s.edge ∷ [])),
+    )

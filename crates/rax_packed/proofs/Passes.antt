@@ -1,5 +1,6 @@
 -- Passes over the costs of a tree's keys, node by node.
-use Rattle.std.proofs.Common.{◌≡◌, ◌≢◌, ◌⊎◌, ◌∙◌, ℕ, zero, suc, ◌+◌, ◌-◌, ◌<◌, ◌≤◌, Bool, true, false, cond, not, List, [], ◌∷◌, ◌++◌, length, take, drop, map, Option, Some, None, IsSome, refl, sym, ap, subst, inl, inr, arith, append_assoc, add-one, length-append}
+use Rattle.std.proofs.Common.{◌≡◌, ◌≢◌, ◌⊎◌, ◌∙◌, ℕ, zero, suc, ◌+◌, ◌-◌, ◌<◌, ◌≤◌, Bool, true, false, cond, not, List, [], ◌∷◌, ◌++◌, length, take, drop, map, Option, Some, None, IsSome}
+use Rattle.std.proofs.Common.{refl, sym, ap, subst, inl, inr, arith, append_assoc, add-one, length-append}
 use Rattle.std.specs.Prelude.{nat_lt, slice_get}
 use Rattle.std.specs.List.{AllByRecursion}
 use Rattle.std.specs.Ordering.{is_lt}
@@ -62,7 +63,8 @@ under_both front begin [] = refl
 under_both front begin (c ∷ xs) = λ i. (record { key = sym (append_assoc front begin c.key) i; blocks = c.blocks }) ∷ under_both front begin xs i
 
 -- a pass over the keys below a link, and then over those behind it
-pub pass_both : (pass : Going) (front begin whole : List ℕ) (xs ys : List Cost) → whole ≡ front ++ begin → pass_over (pass_over pass (map (cost_under whole) xs)) (map (cost_under front) ys) ≡ pass_over pass (map (cost_under front) (map (cost_under begin) xs ++ ys))
+pub pass_both : (pass : Going) (front begin whole : List ℕ) (xs ys : List Cost) → whole ≡ front ++ begin
+    → pass_over (pass_over pass (map (cost_under whole) xs)) (map (cost_under front) ys) ≡ pass_over pass (map (cost_under front) (map (cost_under begin) xs ++ ys))
 pass_both pass front begin whole xs ys is =
     sym (
     ap (pass_over pass) (map-append (cost_under front) (map (cost_under begin) xs) ys)
@@ -80,7 +82,8 @@ behind_one [] = refl
 behind_one (l ∷ links) = refl
 
 -- the costs below joined links
-below-append : (below : ℕ → BlockRef → List Cost) (nodes : ℕ) (prefix : List ℕ) (xs ys : List Link) → costs_below below nodes prefix (xs ++ ys) ≡ costs_below below nodes prefix xs ++ costs_below below (behind xs nodes) prefix ys
+below-append : (below : ℕ → BlockRef → List Cost) (nodes : ℕ) (prefix : List ℕ) (xs ys : List Link) → costs_below below nodes prefix (xs ++ ys) ≡ costs_below below nodes prefix xs
+    ++ costs_below below (behind xs nodes) prefix ys
 below-append below nodes prefix [] ys = refl
 below-append below nodes prefix (l ∷ xs) ys =
     let here = map (cost_under (prefix ++ l.edge ∷ [])) (below nodes l.to) in
@@ -115,12 +118,14 @@ unfolding costs
 whole_node n b nodes at = ap (costs_in (costs n b) nodes) (sym (aside_all true 0 (node_at b at) refl))
 
 -- the costs of an inner node are those below its links
-inner_costs : (n : ℕ) (b : Blocks) (nodes : ℕ) (at : BlockRef) (prefix : List ℕ) (links : List Link) → node_at b at ≡ Inner prefix links → costs_at n b nodes at ≡ costs_below (costs n b) (nodes + 1) prefix links
+inner_costs : (n : ℕ) (b : Blocks) (nodes : ℕ) (at : BlockRef) (prefix : List ℕ) (links : List Link) → node_at b at ≡ Inner prefix links
+    → costs_at n b nodes at ≡ costs_below (costs n b) (nodes + 1) prefix links
 unfolding costs
 inner_costs n b nodes at prefix links is = ap (costs_in (costs n b) nodes) is
 
 -- and those from a place on, those below the links from there on
-inner_rest : (n : ℕ) (b : Blocks) (nodes place : ℕ) (node : Node) (prefix : List ℕ) (links : List Link) → node ≡ Inner prefix links → costs_in (costs n b) nodes (aside true place node) ≡ costs_below (costs n b) (nodes + 1) (prefix_in node) (drop place (links_in node))
+inner_rest : (n : ℕ) (b : Blocks) (nodes place : ℕ) (node : Node) (prefix : List ℕ) (links : List Link) → node ≡ Inner prefix links
+    → costs_in (costs n b) nodes (aside true place node) ≡ costs_below (costs n b) (nodes + 1) (prefix_in node) (drop place (links_in node))
 inner_rest n b nodes place node prefix links is =
     ap (λ m. costs_in (costs n b) nodes (aside true place m)) is ∙ ap (λ m. costs_below (costs n b) (nodes + 1) (prefix_in m) (drop place (links_in m))) (sym is)
 
@@ -133,12 +138,26 @@ module _ (b : Blocks) (at : BlockRef) (bytes rest : List ℕ) (nodes : ℕ) (t :
       ∙ whole_node (length rest) b nodes at
 
   -- all entries stand on one side of a key that leaves the node's prefix
-  side : (shared : ℕ) (parts : PartsAt (node_of bytes) rest shared) → ((parts.own < parts.other) × All Less rest (entries_at (length rest) b at)) ⊎ ((parts.other < parts.own) × All Greater rest (entries_at (length rest) b at))
+  side : (shared : ℕ) (parts : PartsAt (node_of bytes) rest shared) → ((parts.own < parts.other) × All Less rest (entries_at (length rest) b at))
+      ⊎ ((parts.other < parts.own) × All Greater rest (entries_at (length rest) b at))
   side shared parts =
-      parts_side (length rest) b at rest shared (record { begin = parts.begin; own = parts.own; own_rest = parts.own_rest; other = parts.other; other_rest = parts.other_rest; prefix_is = ap prefix_in (node_read b at bytes read) ∙ parts.prefix_is; key_is = parts.key_is; apart = parts.apart; many = parts.many })
+      parts_side (length rest) b at rest shared
+      (record {
+        begin = parts.begin;
+        own = parts.own;
+        own_rest = parts.own_rest;
+        other = parts.other;
+        other_rest = parts.other_rest;
+        prefix_is = ap prefix_in (node_read b at bytes read)
+            ∙ parts.prefix_is;
+        key_is = parts.key_is;
+        apart = parts.apart;
+        many = parts.many;
+      })
 
   -- where the key's byte comes before the node's, all keys are wanted
-  pub from_all : (shared : ℕ) (parts : PartsAt (node_of bytes) rest shared) → parts.other < parts.own → costs_from (costs_at (length rest) b nodes at) rest ≡ costs_in (costs (length rest) b) nodes (aside true 0 (node_at b at))
+  pub from_all : (shared : ℕ) (parts : PartsAt (node_of bytes) rest shared) → parts.other < parts.own
+      → costs_from (costs_at (length rest) b nodes at) rest ≡ costs_in (costs (length rest) b) nodes (aside true 0 (node_at b at))
   from_all shared parts ahead = elim (side shared parts) [
     | inl low ↦ absurd (omega (arith, low.0))
     | inr high ↦ from_kept Greater rest (costs_at (length rest) b nodes at) refl (tree_alike Greater rest (suc (length rest)) b nodes at high.1) ∙ whole_node (length rest) b nodes at
@@ -152,7 +171,8 @@ module _ (b : Blocks) (at : BlockRef) (bytes rest : List ℕ) (nodes : ℕ) (t :
   ]
 
   -- where no link has the key's byte, those from its place on
-  pub from_missing : (place from more : ℕ) (lacks : Lacks (node_of bytes) rest place from) → (place ≡ 0 → more ≡ nodes) → (place ≢ 0 → more ≡ 0) → costs_from (costs_at (length rest) b nodes at) rest ≡ costs_in (costs (length rest) b) more (aside true place (node_at b at))
+  pub from_missing : (place from more : ℕ) (lacks : Lacks (node_of bytes) rest place from) → (place ≡ 0 → more ≡ nodes) → (place ≢ 0 → more ≡ 0)
+      → costs_from (costs_at (length rest) b nodes at) rest ≡ costs_in (costs (length rest) b) more (aside true place (node_at b at))
   from_missing place from more lacks first other =
       let n = length rest in
       let key = lacks.prefix ++ lacks.edge ∷ lacks.below in
@@ -162,8 +182,10 @@ module _ (b : Blocks) (at : BlockRef) (bytes rest : List ℕ) (nodes : ℕ) (t :
       ap (λ cs. costs_from cs rest) (inner_costs n b nodes at lacks.prefix (lacks.before ++ lacks.after) node ∙ below-append (costs n b) (nodes + 1) lacks.prefix lacks.before lacks.after)
       ∙ ap (costs_from (front ++ back)) lacks.key_is
       ∙ from-append key front back
-      ∙ ap (λ cs. cs ++ costs_from back key) (from_dropped key front (links_alike Less key n b (nodes + 1) lacks.prefix lacks.before (links_less lacks.prefix lacks.below lacks.edge (entries n b) lacks.before lacks.less)))
-      ∙ from_kept Greater key back refl (links_alike Greater key n b (behind lacks.before (nodes + 1)) lacks.prefix lacks.after (links_greater lacks.prefix lacks.below lacks.edge (entries n b) lacks.after lacks.more))
+      ∙ ap (λ cs. cs ++ costs_from back key)
+      (from_dropped key front (links_alike Less key n b (nodes + 1) lacks.prefix lacks.before (links_less lacks.prefix lacks.below lacks.edge (entries n b) lacks.before lacks.less)))
+      ∙ from_kept Greater key back refl
+      (links_alike Greater key n b (behind lacks.before (nodes + 1)) lacks.prefix lacks.after (links_greater lacks.prefix lacks.below lacks.edge (entries n b) lacks.after lacks.more))
       ∙ ap (λ k. costs_below (costs n b) k lacks.prefix lacks.after) (behind_is lacks.before place nodes more lacks.many first other)
       ∙ sym (ap (λ m. costs_in (costs n b) more (aside true place m)) node ∙ ap (costs_below (costs n b) (more + 1) lacks.prefix) (drop_at lacks.before lacks.after place lacks.many))
 
@@ -185,19 +207,25 @@ module _ (b : Blocks) (at : BlockRef) (bytes rest : List ℕ) (nodes : ℕ) (t :
     tail : costs_in (costs (length rest) b) 0 (aside true (place + 1) (node_at b at)) ≡ costs_below (costs (length rest) b) 1 s.prefix s.after
     tail =
         ap (λ m. costs_in (costs (length rest) b) 0 (aside true (place + 1) m)) node
-        ∙ ap (costs_below (costs (length rest) b) 1 s.prefix) (ap (drop (place + 1)) (sym (append_assoc s.before (link ∷ []) s.after)) ∙ drop_at (s.before ++ link ∷ []) s.after (place + 1) (length-append s.before (link ∷ []) ∙ omega (arith, s.many)))
+        ∙ ap (costs_below (costs (length rest) b) 1 s.prefix)
+        (ap (drop (place + 1)) (sym (append_assoc s.before (link ∷ []) s.after))
+        ∙ drop_at (s.before ++ link ∷ []) s.after (place + 1) (length-append s.before (link ∷ []) ∙ omega (arith, s.many)))
 
     -- those below it
-    middle : (k : ℕ) → costs_from (map (cost_under (s.prefix ++ s.edge ∷ [])) (costs (length rest) b k to)) (s.prefix ++ s.edge ∷ s.below) ≡ map (cost_under (take from rest)) (costs_from (costs_at (length (drop from rest)) b k to) (drop from rest))
+    middle : (k : ℕ) → costs_from (map (cost_under (s.prefix ++ s.edge ∷ [])) (costs (length rest) b k to)) (s.prefix ++ s.edge ∷ s.below) ≡ map (cost_under (take from rest))
+        (costs_from (costs_at (length (drop from rest)) b k to) (drop from rest))
     middle k =
         let begin = s.prefix ++ s.edge ∷ [] in
         ap (costs_from (map (cost_under begin) (costs (length rest) b k to))) (key_under s.prefix s.below s.edge)
         ∙ filter-under_by cost_key (cost_under begin) stays begin s.below (costs (length rest) b k to) (λ c. refl)
         ∙ ap (λ f. map (cost_under f) (costs_from (costs (length rest) b k to) s.below)) (sym (begin_is true b at bytes rest [] t read place from to leads))
-        ∙ ap (λ cs. map (cost_under (take from rest)) (costs_from cs s.below)) (same_costs (suc (length (drop from rest))) (length rest) (length (drop from rest)) b k to (shorter (node_of bytes) to rest place from (length rest) refl leads) named.tree)
+        ∙ ap (λ cs. map (cost_under (take from rest)) (costs_from cs s.below))
+        (same_costs (suc (length (drop from rest))) (length rest) (length (drop from rest)) b k to (shorter (node_of bytes) to rest place from (length rest) refl leads) named.tree)
         ∙ ap (λ r. map (cost_under (take from rest)) (costs_from (costs_at (length (drop from rest)) b k to) r)) (sym (below_is b at to bytes rest place from t read leads))
 
-    pub from_link : (more : ℕ) → (place ≡ 0 → more ≡ nodes) → (place ≢ 0 → more ≡ 0) → costs_from (costs_at (length rest) b nodes at) rest ≡ map (cost_under (take from rest)) (costs_from (costs_at (length (drop from rest)) b (more + 1) to) (drop from rest)) ++ costs_in (costs (length rest) b) 0 (aside true (place + 1) (node_at b at))
+    pub from_link : (more : ℕ) → (place ≡ 0 → more ≡ nodes) → (place ≢ 0 → more ≡ 0)
+        → costs_from (costs_at (length rest) b nodes at) rest ≡ map (cost_under (take from rest)) (costs_from (costs_at (length (drop from rest)) b (more + 1) to) (drop from rest))
+        ++ costs_in (costs (length rest) b) 0 (aside true (place + 1) (node_at b at))
     from_link more first other =
         let n = length rest in
         let key = s.prefix ++ s.edge ∷ s.below in
@@ -209,10 +237,14 @@ module _ (b : Blocks) (at : BlockRef) (bytes rest : List ℕ) (nodes : ℕ) (t :
         ap (λ cs. costs_from cs rest) (inner_costs n b nodes at s.prefix (s.before ++ link ∷ s.after) node ∙ below-append (costs n b) (nodes + 1) s.prefix s.before (link ∷ s.after))
         ∙ ap (costs_from (front ++ (here ++ back))) s.key_is
         ∙ from-append key front (here ++ back)
-        ∙ ap (λ cs. cs ++ costs_from (here ++ back) key) (from_dropped key front (links_alike Less key n b (nodes + 1) s.prefix s.before (links_less s.prefix s.below s.edge (entries n b) s.before s.less)))
+        ∙ ap (λ cs. cs ++ costs_from (here ++ back) key)
+        (from_dropped key front (links_alike Less key n b (nodes + 1) s.prefix s.before (links_less s.prefix s.below s.edge (entries n b) s.before s.less)))
         ∙ from-append key here back
-        ∙ ap (λ cs. costs_from here key ++ cs) (from_kept Greater key back refl (links_alike Greater key n b 1 s.prefix s.after (links_greater s.prefix s.below s.edge (entries n b) s.after s.more)) ∙ sym tail)
-        ∙ ap (λ cs. cs ++ costs_in (costs n b) 0 (aside true (place + 1) (node_at b at))) (middle k ∙ ap (λ m. map (cost_under (take from rest)) (costs_from (costs_at (length (drop from rest)) b m to) (drop from rest))) (behind_is s.before place nodes more s.many first other))
+        ∙ ap (λ cs. costs_from here key ++ cs)
+        (from_kept Greater key back refl (links_alike Greater key n b 1 s.prefix s.after (links_greater s.prefix s.below s.edge (entries n b) s.after s.more)) ∙ sym tail)
+        ∙ ap (λ cs. cs ++ costs_in (costs n b) 0 (aside true (place + 1) (node_at b at)))
+        (middle k ∙ ap (λ m. map (cost_under (take from rest)) (costs_from (costs_at (length (drop from rest)) b m to) (drop from rest)))
+        (behind_is s.before place nodes more s.many first other))
 
 -- what a pass over a part of a node makes, where the keys from the whole one on are those of that part
 pub rest_form : (b : Blocks) (at : BlockRef) (key part front : List ℕ) (depth n nodes more place : ℕ) (pass end : Going) → part ≡ drop depth key → length part ≡ n
@@ -220,19 +252,23 @@ pub rest_form : (b : Blocks) (at : BlockRef) (key part front : List ℕ) (depth 
     → end ≡ pass_over pass (map (cost_under front) (costs_in (costs n b) more (aside true place (node_at b at))))
     → end ≡ pass_over pass (map (cost_under front) (costs_from (costs_at n b nodes at) (drop depth key)))
 rest_form b at key part front depth n nodes more place pass end is level same made =
-    let here : costs_from (costs_at n b nodes at) part ≡ costs_in (costs n b) more (aside true place (node_at b at)) = subst (λ m. costs_from (costs_at m b nodes at) part ≡ costs_in (costs m b) more (aside true place (node_at b at))) level same in
+    let here : costs_from (costs_at n b nodes at) part ≡ costs_in (costs n b) more (aside true place (node_at b at)) =
+    subst (λ m. costs_from (costs_at m b nodes at) part ≡ costs_in (costs m b) more (aside true place (node_at b at))) level same in
     made ∙ ap (λ cs. pass_over pass (map (cost_under front) cs)) (sym here ∙ ap (costs_from (costs_at n b nodes at)) is)
 
 -- the same where no key is wanted
-pub none_form : (b : Blocks) (at : BlockRef) (key part front : List ℕ) (depth n nodes : ℕ) (pass : Going) → part ≡ drop depth key → length part ≡ n → costs_from (costs_at (length part) b nodes at) part ≡ []
+pub none_form : (b : Blocks) (at : BlockRef) (key part front : List ℕ) (depth n nodes : ℕ) (pass : Going) → part ≡ drop depth key → length part ≡ n
+    → costs_from (costs_at (length part) b nodes at) part ≡ []
     → pass ≡ pass_over pass (map (cost_under front) (costs_from (costs_at n b nodes at) (drop depth key)))
 none_form b at key part front depth n nodes pass is level same =
     let here : costs_from (costs_at n b nodes at) part ≡ [] = subst (λ m. costs_from (costs_at m b nodes at) part ≡ []) level same in
     ap (λ cs. pass_over pass (map (cost_under front) cs)) (sym here ∙ ap (costs_from (costs_at n b nodes at)) is)
 
 -- the same below a link, and then behind it
-pub link_form : (b : Blocks) (at to : BlockRef) (key part : List ℕ) (depth from n left nodes more place : ℕ) (pass mid end : Going) → part ≡ drop depth key → length part ≡ n → left ≡ length (drop from part)
-    → costs_from (costs_at (length part) b nodes at) part ≡ map (cost_under (take from part)) (costs_from (costs_at (length (drop from part)) b more to) (drop from part)) ++ costs_in (costs (length part) b) 0 (aside true place (node_at b at))
+pub link_form : (b : Blocks) (at to : BlockRef) (key part : List ℕ) (depth from n left nodes more place : ℕ) (pass mid end : Going) → part ≡ drop depth key → length part ≡ n
+    → left ≡ length (drop from part)
+    → costs_from (costs_at (length part) b nodes at) part ≡ map (cost_under (take from part)) (costs_from (costs_at (length (drop from part)) b more to) (drop from part))
+    ++ costs_in (costs (length part) b) 0 (aside true place (node_at b at))
     → mid ≡ pass_over pass (map (cost_under (take (depth + from) key)) (costs_from (costs_at left b more to) (drop (depth + from) key)))
     → end ≡ pass_over mid (map (cost_under (take depth key)) (costs_in (costs n b) 0 (aside true place (node_at b at))))
     → end ≡ pass_over pass (map (cost_under (take depth key)) (costs_from (costs_at n b nodes at) (drop depth key)))
@@ -244,14 +280,16 @@ link_form b at to key part depth from n left nodes more place pass mid end is le
     let ys = costs_in (costs n b) 0 (aside true place (node_at b at)) in
     let xs = costs_from (costs_at (length (drop from part)) b more to) (drop from part) in
     let below : costs_from (costs_at left b more to) (drop (depth + from) key) ≡ xs = (λ i. costs_from (costs_at (far i) b more to) (rest i)) in
-    let here : costs_from (costs_at n b nodes at) part ≡ map (cost_under begin) xs ++ ys = subst (λ m. costs_from (costs_at m b nodes at) part ≡ map (cost_under begin) xs ++ costs_in (costs m b) 0 (aside true place (node_at b at))) level same in
+    let here : costs_from (costs_at n b nodes at) part ≡ map (cost_under begin) xs
+    ++ ys = subst (λ m. costs_from (costs_at m b nodes at) part ≡ map (cost_under begin) xs ++ costs_in (costs m b) 0 (aside true place (node_at b at))) level same in
     second
     ∙ ap (λ p. pass_over p (map (cost_under front) ys)) (first ∙ ap (λ cs. pass_over pass (map (cost_under (take (depth + from) key)) cs)) below)
     ∙ pass_both pass front begin (take (depth + from) key) xs ys whole
     ∙ ap (λ cs. pass_over pass (map (cost_under front) cs)) (sym here ∙ ap (costs_from (costs_at n b nodes at)) is)
 
 -- the pass over a leaf
-pub pass_leaf : (n : ℕ) (b : Blocks) (at : BlockRef) (prefix piece front : List ℕ) (value : BlockRef) (nodes place : ℕ) (pass end : Going) → node_at b at ≡ Leaf prefix value → piece ≡ prefix → end ≡ counted pass.left pass.next (record { key = front ++ piece; blocks = nodes + 1 })
+pub pass_leaf : (n : ℕ) (b : Blocks) (at : BlockRef) (prefix piece front : List ℕ) (value : BlockRef) (nodes place : ℕ) (pass end : Going) → node_at b at ≡ Leaf prefix value
+    → piece ≡ prefix → end ≡ counted pass.left pass.next (record { key = front ++ piece; blocks = nodes + 1 })
     → end ≡ pass_over pass (map (cost_under front) (costs_in (costs n b) nodes (aside true place (node_at b at))))
 pass_leaf n b at prefix piece front value nodes place pass end node is made =
     made ∙ ap (λ p. counted pass.left pass.next (record { key = front ++ p; blocks = nodes + 1 })) is
@@ -259,14 +297,16 @@ pass_leaf n b at prefix piece front value nodes place pass end node is made =
 
 -- the pass over an inner node ends where the one over the links that are left does
 pub rest_ended : (n : ℕ) (b : Blocks) (at : BlockRef) (front prefix : List ℕ) (links : List Link) (nodes place least next : ℕ) (pass now end : Going) → node_at b at ≡ Inner prefix links
-    → pass_over now (map (cost_under front) (costs_below (costs n b) least (prefix_in (node_at b at)) (drop next (links_in (node_at b at))))) ≡ pass_over pass (map (cost_under front) (costs_below (costs n b) (nodes + 1) (prefix_in (node_at b at)) (drop place (links_in (node_at b at)))))
+    → pass_over now (map (cost_under front) (costs_below (costs n b) least (prefix_in (node_at b at)) (drop next (links_in (node_at b at))))) ≡ pass_over pass
+    (map (cost_under front) (costs_below (costs n b) (nodes + 1) (prefix_in (node_at b at)) (drop place (links_in (node_at b at)))))
     → pass_over now (map (cost_under front) (costs_below (costs n b) least (prefix_in (node_at b at)) (drop next (links_in (node_at b at))))) ≡ end
     → end ≡ pass_over pass (map (cost_under front) (costs_in (costs n b) nodes (aside true place (node_at b at))))
 rest_ended n b at front prefix links nodes place least next pass now end is same ended =
     sym ended ∙ same ∙ ap (λ cs. pass_over pass (map (cost_under front) cs)) (sym (inner_rest n b nodes place (node_at b at) prefix links is))
 
 -- a pass goes on by the next link
-module _ (n depth place : ℕ) (b : Blocks) (at : BlockRef) (bytes path : List ℕ) (turn : Turn) (r : ReadAt n b at bytes) (turns : Turns true (node_of bytes) place depth path turn) (level : n ≡ 16 - depth) where
+module _ (n depth place : ℕ) (b : Blocks) (at : BlockRef) (bytes path : List ℕ) (turn : Turn) (r : ReadAt n b at bytes) (turns : Turns true (node_of bytes) place depth path turn)
+    (level : n ≡ 16 - depth) where
   next : slice_get r.links place ≡ Some turns.link
   next = ap (λ m. slice_get (links_in m) place) (sym r.is) ∙ turns.is
 
@@ -279,7 +319,8 @@ module _ (n depth place : ℕ) (b : Blocks) (at : BlockRef) (bytes path : List �
       let tree = turn_named true n depth place b at bytes path turn r turns level in
       let deeper = turn_deeper true n depth place b at bytes path turn r turns level in
       let within = turn_within true n depth place b at bytes path turn r turns level in
-      sym (whole_node (16 - turn.depth) b nodes turn.to) ∙ sym (same_costs (suc (16 - turn.depth)) n (16 - turn.depth) b nodes turn.to (omega (arith, level)) tree.tree) ∙ ap (costs n b nodes) turns.to_is
+      sym (whole_node (16 - turn.depth) b nodes turn.to) ∙ sym (same_costs (suc (16 - turn.depth)) n (16 - turn.depth) b nodes turn.to (omega (arith, level)) tree.tree)
+      ∙ ap (costs n b nodes) turns.to_is
 
   -- the link is one of those of the node, which are 256 at most
   pub turn_inside : (place < length (links_in (node_at b at))) × (length (links_in (node_at b at)) ≤ 256)
@@ -310,7 +351,8 @@ module _ (n depth place : ℕ) (b : Blocks) (at : BlockRef) (bytes path : List �
       ∙ ap (λ m. pass_over pass (map (cost_under front) (costs_below (costs n b) nodes (prefix_in m) (drop place (links_in m))))) (sym here)
 
 -- no link is left
-pub pass_past : (n : ℕ) (b : Blocks) (front prefix : List ℕ) (links : List Link) (nodes place : ℕ) (pass : Going) → slice_get links place ≡ None → pass_over pass (map (cost_under front) (costs_below (costs n b) nodes prefix (drop place links))) ≡ pass
+pub pass_past : (n : ℕ) (b : Blocks) (front prefix : List ℕ) (links : List Link) (nodes place : ℕ) (pass : Going) → slice_get links place ≡ None
+    → pass_over pass (map (cost_under front) (costs_below (costs n b) nodes prefix (drop place links))) ≡ pass
 pass_past n b front prefix links nodes place pass is = ap (λ ls. pass_over pass (map (cost_under front) (costs_below (costs n b) nodes prefix ls))) (none_from links place is)
   where
     none_from : (ls : List Link) (k : ℕ) → slice_get ls k ≡ None → drop k ls ≡ []
@@ -320,7 +362,8 @@ pass_past n b front prefix links nodes place pass is = ap (λ ls. pass_over pass
     none_from (l ∷ ls) (suc k) h = none_from ls k h
 
 -- the pass over the keys of a map, from the pass over its tree
-pub reached_some : (b : Blocks) (tree : PackedTree) (at : BlockRef) (from : List ℕ) (room : ℕ) (end : Going) → tree.root ≡ Some at → end ≡ pass_over (begun room) (map (cost_under []) (costs_from (costs_at 16 b 1 at) from)) → end ≡ pass_over (begun room) (costs_from (costs_of b tree) from)
+pub reached_some : (b : Blocks) (tree : PackedTree) (at : BlockRef) (from : List ℕ) (room : ℕ) (end : Going) → tree.root ≡ Some at
+    → end ≡ pass_over (begun room) (map (cost_under []) (costs_from (costs_at 16 b 1 at) from)) → end ≡ pass_over (begun room) (costs_from (costs_of b tree) from)
 reached_some b tree at from room end is made =
     made ∙ ap (pass_over (begun room)) (map-id (costs_from (costs_at 16 b 1 at) from)) ∙ ap (λ r. pass_over (begun room) (costs_from (root_costs b r) from)) (sym is)
 

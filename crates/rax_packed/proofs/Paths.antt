@@ -1,5 +1,6 @@
 -- The nodes of a key's way whose least key it is.
-use Rattle.std.proofs.Common.{◌≡◌, ◌≢◌, ◌∙◌, ℕ, zero, suc, ◌-◌, ◌<◌, Bool, true, false, cond, List, [], ◌∷◌, ◌++◌, length, drop, map, Some, refl, sym, ap, subst, inl, inr, arith, append_assoc, length-append}
+use Rattle.std.proofs.Common.{◌≡◌, ◌≢◌, ◌∙◌, ℕ, zero, suc, ◌-◌, ◌<◌, Bool, true, false, cond, List, [], ◌∷◌, ◌++◌, length, drop, map, Some, refl, sym, ap, subst, inl, inr, arith}
+use Rattle.std.proofs.Common.{append_assoc, length-append}
 use Rattle.std.proofs.lemmas.List.{append-nil, map-append, length-map}
 use Rattle.std.proofs.lemmas.List.Elements.{filter-append}
 use Rattle.std.proofs.lemmas.Bool.{cases_eq, cond-true, cond-false}
@@ -20,11 +21,18 @@ use Rattle.rax_packed.proofs.Looks.{Split, Named, all-middle}
 use Rattle.rax_packed.proofs.Steps.{split, below_is, child}
 
 -- a node that fits has an entry where each tree below it has one
-some_in : (levels rest : ℕ) (b : Blocks) (node : Node) → ((left : ℕ) (to : BlockRef) → IsTree levels left b to → 0 < length (entries levels b to)) → Fits rest node → Below (λ left to. IsTree levels left b to) rest node → 0 < length (entries_in (entries levels b) node)
+some_in : (levels rest : ℕ) (b : Blocks) (node : Node) → ((left : ℕ) (to : BlockRef) → IsTree levels left b to → 0 < length (entries levels b to)) → Fits rest node
+    → Below (λ left to. IsTree levels left b to) rest node → 0 < length (entries_in (entries levels b) node)
 some_in levels rest b (Leaf prefix value) each fits below = omega arith
 some_in levels rest b (Inner prefix []) each fits below = absurd (let some = fits.some in omega arith)
 some_in levels rest b (Inner prefix (l ∷ links)) each fits below =
-    omega (arith, length-append (map (under (prefix ++ l.edge ∷ [])) (entries levels b l.to)) (below_links prefix (entries levels b) links), length-map (entries levels b l.to) (under (prefix ++ l.edge ∷ [])), each (rest - suc (length prefix)) l.to below.0)
+    omega (
+      arith,
+      length-append (map (under (prefix ++ l.edge ∷ [])) (entries levels b l.to)) (below_links prefix (entries levels b) links),
+      length-map (entries levels b l.to)
+          (under (prefix ++ l.edge ∷ [])),
+      each (rest - suc (length prefix)) l.to below.0,
+    )
 
 -- each tree has at least one entry
 pub tree_some : (levels rest : ℕ) (b : Blocks) (at : BlockRef) → IsTree levels rest b at → 0 < length (entries levels b at)
@@ -41,13 +49,15 @@ first_under prefix below edge (e ∷ es) more h =
     ap (λ k. is_eq (order ((prefix ++ edge ∷ []) ++ e.key) k)) (key_under prefix below edge) ∙ ap is_eq (order-append (prefix ++ edge ∷ []) e.key below)
 
 -- a key isn't the first of entries that begin with one behind a lesser edge
-pub first_before : (prefix below : List ℕ) (lower edge : ℕ) (es more : List Entry) → lower < edge → 0 < length es → is_first (map (under (prefix ++ lower ∷ [])) es ++ more) (prefix ++ edge ∷ below) ≡ false
+pub first_before : (prefix below : List ℕ) (lower edge : ℕ) (es more : List Entry) → lower < edge → 0 < length es
+    → is_first (map (under (prefix ++ lower ∷ [])) es ++ more) (prefix ++ edge ∷ below) ≡ false
 first_before prefix below lower edge [] more less h = absurd (omega arith)
 first_before prefix below lower edge (e ∷ es) more less h =
     ap (λ k. is_eq (order k (prefix ++ edge ∷ below))) (append_assoc prefix (lower ∷ []) e.key) ∙ ap is_eq (order-less prefix e.key below lower edge less)
 
 -- a key isn't the first of the entries below links that begin with ones of lesser edges, each with an entry
-pub first_later : (prefix below : List ℕ) (edge : ℕ) (es : BlockRef → List Entry) (before after : List Link) → 0 < length before → AllByRecursion (λ l. l.edge < edge) before → AllByRecursion (λ l. 0 < length (es l.to)) before → is_first (below_links prefix es (before ++ after)) (prefix ++ edge ∷ below) ≡ false
+pub first_later : (prefix below : List ℕ) (edge : ℕ) (es : BlockRef → List Entry) (before after : List Link) → 0 < length before → AllByRecursion (λ l. l.edge < edge) before
+    → AllByRecursion (λ l. 0 < length (es l.to)) before → is_first (below_links prefix es (before ++ after)) (prefix ++ edge ∷ below) ≡ false
 first_later prefix below edge es [] after some less full = absurd (omega arith)
 first_later prefix below edge es (l ∷ before) after some less full = first_before prefix below l.edge edge (es l.to) (below_links prefix es (before ++ after)) less.0 full.0
 
@@ -61,7 +71,8 @@ pub nodes_with-cons : (m : Mark) (ms : List Mark) (key : List ℕ) → nodes_wit
 unfolding nodes_with
 nodes_with-cons m ms key = by_test (is_least key m)
   where
-    by_test : (t : Bool) → map (λ m. m.at) (cond t (m ∷ filter (is_least key) ms) (filter (is_least key) ms)) ≡ cond t (m.at ∷ map (λ m. m.at) (filter (is_least key) ms)) (map (λ m. m.at) (filter (is_least key) ms))
+    by_test : (t : Bool) → map (λ m. m.at) (cond t (m ∷ filter (is_least key) ms) (filter (is_least key) ms)) ≡ cond t (m.at ∷ map (λ m. m.at) (filter (is_least key) ms))
+        (map (λ m. m.at) (filter (is_least key) ms))
     by_test true = refl
     by_test false = refl
 
@@ -109,10 +120,12 @@ other_marks prefix below x y (m ∷ ms) apart =
     (ap (λ k. is_eq (order k (prefix ++ y ∷ below))) (append_assoc prefix (x ∷ []) m.least) ∙ other_order prefix below m.least x y apart, other_marks prefix below x y ms apart)
 
 -- a key is the least of no mark below links that have other edges than its own
-pub other_links : (prefix below : List ℕ) (edge : ℕ) (below_of : BlockRef → List Mark) (links : List Link) → AllByRecursion (λ l. l.edge ≢ edge) links → AreOthers (prefix ++ edge ∷ below) (marks_below prefix below_of links)
+pub other_links : (prefix below : List ℕ) (edge : ℕ) (below_of : BlockRef → List Mark) (links : List Link) → AllByRecursion (λ l. l.edge ≢ edge) links
+    → AreOthers (prefix ++ edge ∷ below) (marks_below prefix below_of links)
 other_links prefix below edge below_of [] h = tt
 other_links prefix below edge below_of (l ∷ links) h =
-    all-append (λ m. is_least (prefix ++ edge ∷ below) m ≡ false) (map (mark_under (prefix ++ l.edge ∷ [])) (below_of l.to)) (marks_below prefix below_of links) (other_marks prefix below l.edge edge (below_of l.to) h.0) (other_links prefix below edge below_of links h.1)
+    all-append (λ m. is_least (prefix ++ edge ∷ below) m ≡ false) (map (mark_under (prefix ++ l.edge ∷ [])) (below_of l.to)) (marks_below prefix below_of links)
+    (other_marks prefix below l.edge edge (below_of l.to) h.0) (other_links prefix below edge below_of links h.1)
 
 -- links with lesser edges than a byte don't have it as their edge
 pub less_apart : (edge : ℕ) (links : List Link) → AllByRecursion (λ l. l.edge < edge) links → AllByRecursion (λ l. l.edge ≢ edge) links
@@ -129,7 +142,8 @@ leaf_first levels b at key value is = ap (λ es. is_first es key) (leaf_entries 
 -- the nodes of a leaf's key are the leaf alone
 pub leaf_nodes : (levels : ℕ) (b : Blocks) (at : BlockRef) (key : List ℕ) (value : BlockRef) → node_at b at ≡ Leaf key value → nodes_with (marks (suc levels) b at) key ≡ at ∷ []
 leaf_nodes levels b at key value is =
-    ap (λ ms. nodes_with ms key) (leaf_marks levels b at key value is) ∙ nodes_with-cons (record { least = key; at = at }) [] key ∙ cond-true _ _ _ (ap is_eq (order-same key)) ∙ ap (λ xs. at ∷ xs) (nodes_with-none key)
+    ap (λ ms. nodes_with ms key) (leaf_marks levels b at key value is) ∙ nodes_with-cons (record { least = key; at = at }) [] key ∙ cond-true _ _ _ (ap is_eq (order-same key))
+    ∙ ap (λ xs. at ∷ xs) (nodes_with-none key)
 
 -- links whose number is zero are the empty list
 no_links : (links : List Link) → length links ≡ 0 → links ≡ []
@@ -160,7 +174,8 @@ module _ (b : Blocks) (at to : BlockRef) (bytes key : List ℕ) (place from : �
 
   -- each link of the node names a tree that has an entry
   full : AllByRecursion (λ l. 0 < length (entries (length key) b l.to)) links
-  full = all-weaker (λ l. IsTree (length key) (length key - suc (length s.prefix)) b l.to) (λ l. 0 < length (entries (length key) b l.to)) links (λ l u. tree_some (length key) (length key - suc (length s.prefix)) b l.to u) s.node.below
+  full = all-weaker (λ l. IsTree (length key) (length key - suc (length s.prefix)) b l.to) (λ l. 0 < length (entries (length key) b l.to)) links
+      (λ l u. tree_some (length key) (length key - suc (length s.prefix)) b l.to u) s.node.below
 
   -- the link names a tree, whose keys are as long as the key's rest
   named : Named b to (length key) (length (drop from key))
@@ -176,7 +191,8 @@ module _ (b : Blocks) (at to : BlockRef) (bytes key : List ℕ) (place from : �
       ap (λ es. is_first es key) entries_below
       ∙ ap (λ ls. is_first (below_links s.prefix (entries (length key) b) (ls ++ link ∷ s.after)) key) (no_links s.before (omega (arith, s.many, zeroth)))
       ∙ ap (is_first (below_links s.prefix (entries (length key) b) (link ∷ s.after))) s.key_is
-      ∙ first_under s.prefix s.below s.edge (entries (length key) b to) (below_links s.prefix (entries (length key) b) s.after) (all-middle (λ l. 0 < length (entries (length key) b l.to)) s.before s.after link full)
+      ∙ first_under s.prefix s.below s.edge (entries (length key) b to) (below_links s.prefix (entries (length key) b) s.after)
+      (all-middle (λ l. 0 < length (entries (length key) b l.to)) s.before s.after link full)
       ∙ ap (λ es. is_first es s.below) (sym named.entries_are)
       ∙ ap (is_first (entries_at (length (drop from key)) b to)) (sym rest)
 
@@ -185,7 +201,8 @@ module _ (b : Blocks) (at to : BlockRef) (bytes key : List ℕ) (place from : �
   first_other other =
       ap (λ es. is_first es key) entries_below
       ∙ ap (is_first (below_links s.prefix (entries (length key) b) links)) s.key_is
-      ∙ first_later s.prefix s.below s.edge (entries (length key) b) s.before (link ∷ s.after) (omega (arith, s.many, other)) s.less (all-front (λ l. 0 < length (entries (length key) b l.to)) s.before (link ∷ s.after) full)
+      ∙ first_later s.prefix s.below s.edge (entries (length key) b) s.before (link ∷ s.after) (omega (arith, s.many, other)) s.less
+      (all-front (λ l. 0 < length (entries (length key) b l.to)) s.before (link ∷ s.after) full)
 
   -- the key's nodes below all links of the node are those of its rest in the tree below its own link
   middle : nodes_with (marks_below s.prefix (marks (length key) b) links) key ≡ nodes_with (marks_at (length (drop from key)) b to) (drop from key)
@@ -206,7 +223,8 @@ module _ (b : Blocks) (at to : BlockRef) (bytes key : List ℕ) (place from : �
       ∙ ap (nodes_with (marks_at (length (drop from key)) b to)) (sym rest)
 
   -- the key's nodes are those of its rest below the link, with the top one before them where the key is the first
-  nodes_are : nodes_with (marks_at (length key) b at) key ≡ cond (is_first (entries_at (length key) b at) key) (at ∷ nodes_with (marks_at (length (drop from key)) b to) (drop from key)) (nodes_with (marks_at (length (drop from key)) b to) (drop from key))
+  nodes_are : nodes_with (marks_at (length key) b at) key ≡ cond (is_first (entries_at (length key) b at) key) (at ∷ nodes_with (marks_at (length (drop from key)) b to) (drop from key))
+      (nodes_with (marks_at (length (drop from key)) b to) (drop from key))
   nodes_are =
       ap (λ ms. nodes_with ms key) (inner_marks (length key) b at s.prefix links node_is)
       ∙ nodes_with-cons (record { least = first_key (entries_at (length key) b at); at = at }) (marks_below s.prefix (marks (length key) b) links) key
@@ -223,7 +241,8 @@ module _ (b : Blocks) (at to : BlockRef) (bytes key : List ℕ) (place from : �
   none_either false = refl
 
   -- the nodes of the key, after those above
-  pub passed_nodes : (old mid new : List BlockRef) → (place ≡ 0 → mid ≡ old ++ at ∷ []) → (place ≢ 0 → mid ≡ []) → new ≡ cond (is_first (entries_at (length (drop from key)) b to) (drop from key)) mid [] ++ nodes_with (marks_at (length (drop from key)) b to) (drop from key)
+  pub passed_nodes : (old mid new : List BlockRef) → (place ≡ 0 → mid ≡ old ++ at ∷ []) → (place ≢ 0 → mid ≡ [])
+      → new ≡ cond (is_first (entries_at (length (drop from key)) b to) (drop from key)) mid [] ++ nodes_with (marks_at (length (drop from key)) b to) (drop from key)
       → new ≡ cond (is_first (entries_at (length key) b at) key) old [] ++ nodes_with (marks_at (length key) b at) key
   passed_nodes old mid new zeroth other h =
       let low : Bool = is_first (entries_at (length (drop from key)) b to) (drop from key) in
@@ -233,5 +252,6 @@ module _ (b : Blocks) (at to : BlockRef) (bytes key : List ℕ) (place from : �
         | inl here ↦ (let same : low ≡ high = sym (first_zero here) in
             by_first high old new xs (h ∙ ap (λ ys. cond low ys [] ++ xs) (zeroth here) ∙ ap (λ q. cond q (old ++ at ∷ []) [] ++ xs) same) ∙ ap (λ ys. cond high old [] ++ ys) (sym nodes_are))
         | inr there ↦ (let no : high ≡ false = first_other there in
-            h ∙ ap (λ ys. cond low ys [] ++ xs) (other there) ∙ ap (λ ys. ys ++ xs) (none_either low) ∙ sym (ap (λ q. cond q old [] ++ nodes_with (marks_at (length key) b at) key) no ∙ nodes_are ∙ ap (λ q. cond q (at ∷ xs) xs) no))
+            h ∙ ap (λ ys. cond low ys [] ++ xs) (other there) ∙ ap (λ ys. ys ++ xs) (none_either low)
+            ∙ sym (ap (λ q. cond q old [] ++ nodes_with (marks_at (length key) b at) key) no ∙ nodes_are ∙ ap (λ q. cond q (at ∷ xs) xs) no))
       ]

@@ -1,5 +1,6 @@
 -- What is left of a tree while its nodes are given back.
-use Rattle.std.proofs.Common.{◌≡◌, ◌∙◌, ℕ, zero, suc, ◌+◌, ◌*◌, ◌-◌, ◌<◌, ◌≤◌, cond, is_some, List, [], ◌∷◌, ◌++◌, length, take, drop, get_or, None, IsSome, unwrap_or, refl, sym, ap, subst, inl, inr, arith}
+use Rattle.std.proofs.Common.{◌≡◌, ◌∙◌, ℕ, zero, suc, ◌+◌, ◌*◌, ◌-◌, ◌<◌, ◌≤◌, cond, is_some, List, [], ◌∷◌, ◌++◌, length, take, drop, get_or, None, IsSome, unwrap_or, refl, sym, ap}
+use Rattle.std.proofs.Common.{subst, inl, inr, arith}
 use Rattle.std.proofs.lemmas.List.{append-nil, take_more, take-append-drop, drop_more}
 use Rattle.std.specs.List.{flat_map, AllByRecursion}
 use Rattle.std.proofs.lemmas.List.Concat.{flat_map-append}
@@ -26,7 +27,8 @@ pub node_refs : (n : ℕ) (b : Blocks) (at : BlockRef) → refs_at n b at ≡ at
 unfolding refs
 node_refs n b at = ap (λ xs. at ∷ xs) (in_links n b (node_at b at))
 
-below_links_in : (n rest : ℕ) (b : Blocks) (node : Node) → Below (λ left to. IsTree n left b to) rest node → AllByRecursion (λ l. IsTree n (rest - suc (length (prefix_in node))) b l.to) (links_in node)
+below_links_in : (n rest : ℕ) (b : Blocks) (node : Node) → Below (λ left to. IsTree n left b to) rest node
+    → AllByRecursion (λ l. IsTree n (rest - suc (length (prefix_in node))) b l.to) (links_in node)
 below_links_in n rest b (Leaf prefix value) h = tt
 below_links_in n rest b (Inner prefix links) h = h
 
@@ -40,7 +42,8 @@ all_at P (l ∷ links) zero d h a = a.0
 all_at P (l ∷ links) (suc k) d h a = all_at P links k d (omega arith) a.1
 
 -- the links up to a place, the one there, and those behind it
-pub refs_split : (n : ℕ) (b : Blocks) (links : List Link) (k : ℕ) (d : Link) (r : BlockRef) → k < length links → times r (refs_below n b links) ≡ times r (refs_below n b (take k links)) + (times r (refs n b (get_or links k d).to) + times r (refs_below n b (drop (k + 1) links)))
+pub refs_split : (n : ℕ) (b : Blocks) (links : List Link) (k : ℕ) (d : Link) (r : BlockRef) → k < length links
+    → times r (refs_below n b links) ≡ times r (refs_below n b (take k links)) + (times r (refs n b (get_or links k d).to) + times r (refs_below n b (drop (k + 1) links)))
 refs_split n b links k d r h =
     let f : Link → List BlockRef = λ l. refs n b l.to in
     ap (λ ls. times r (flat_map f ls)) (sym (take-append-drop k links) ∙ ap (λ ys. take k links ++ ys) (drop_more links k d h))
@@ -67,14 +70,16 @@ module _ (n left : ℕ) (b : Blocks) (at : BlockRef) (links : List Link) (trees 
     to : BlockRef
     to = (get_or links k d).to
 
-    all : (r : BlockRef) → times r (at ∷ refs_below n b links) ≡ one r at + (times r (refs_below n b (take k links)) + (times r (refs n b (get_or links k d).to) + times r (refs_below n b (drop (k + 1) links))))
+    all : (r : BlockRef) → times r (at ∷ refs_below n b links) ≡ one r at +
+        (times r (refs_below n b (take k links)) + (times r (refs n b (get_or links k d).to) + times r (refs_below n b (drop (k + 1) links))))
     all r = ap (λ m. one r at + m) (refs_split n b links k d r h)
 
     pub mid_block : mid at ≡ b at
     mid_block = Owned-others b mid (refs_below n b (take k links)) [] (at ∷ refs_below n b links) own gone at (omega (arith, here)) (omega (arith, own at, all at, live-once b at, here))
 
     same : SameTree n b mid (get_or links k d).to
-    same = same_tree n b mid (get_or links k d).to (λ r is. Owned-others b mid (refs_below n b (take k links)) [] (at ∷ refs_below n b links) own gone r (omega (arith, all r, is)) (omega (arith, own r, all r, live-once b r, is)))
+    same = same_tree n b mid (get_or links k d).to
+        (λ r is. Owned-others b mid (refs_below n b (take k links)) [] (at ∷ refs_below n b links) own gone r (omega (arith, all r, is)) (omega (arith, own r, all r, live-once b r, is)))
 
     pub mid_child : Named mid (get_or links k d).to n left
     mid_child = named mid (get_or links k d).to n left (same.tree left (all_at (λ l. IsTree n left b l.to) links k d h trees))
@@ -90,7 +95,9 @@ module _ (n left : ℕ) (b : Blocks) (at : BlockRef) (links : List Link) (trees 
         subst (λ xs. Owned xs mid) (sym mid_refs) (λ r. (let part : times r (refs n b (get_or links k d).to) ≤ live b r = omega (arith, own r, all r) in
         elim (cases_in r (refs n b (get_or links k d).to)) [
           | inl out ↦ omega (arith, out)
-          | inr is ↦ (let kept : mid r ≡ b r = Owned-others b mid (refs_below n b (take k links)) [] (at ∷ refs_below n b links) own gone r (omega (arith, all r, is)) (omega (arith, own r, all r, live-once b r, is)) in
+          | inr is ↦
+              (let kept : mid r ≡ b r = Owned-others b mid (refs_below n b (take k links)) [] (at ∷ refs_below n b links) own gone r (omega (arith, all r, is))
+              (omega (arith, own r, all r, live-once b r, is)) in
               let still : live mid r ≡ live b r = ap (λ o. cond (is_some o) 1 0) kept in omega (arith, part, still))
         ]))
 
@@ -109,11 +116,15 @@ module _ (n left : ℕ) (b : Blocks) (at : BlockRef) (links : List Link) (trees 
       let part : Owned (refs_below n b links) b = λ r. omega (arith, own r) in
       let same = last_block mid gone in
       let stands : IsSome (b at) = live-is b at (omega (arith, own at, here)) in
-      let first = Counts-beside b mid (refs_below n b links) [] (at ∷ refs_below n b links) (at ∷ []) (Counts-changed b mid (refs_below n b links) [] part gone) (λ r. one r at) (λ r. omega arith) (λ r. omega arith) in
-      Changes-counted b after (at ∷ refs_below n b links) [] own (Counts-then b mid after (at ∷ refs_below n b links) (at ∷ []) [] first (Counts-ended mid after at (at ∷ []) [] (subst (λ o. IsSome o) (sym same) stands) back (λ r. omega arith)))
+      let first = Counts-beside b mid (refs_below n b links) [] (at ∷ refs_below n b links) (at ∷ []) (Counts-changed b mid (refs_below n b links) [] part gone) (λ r. one r at)
+      (λ r. omega arith) (λ r. omega arith) in
+      Changes-counted b after (at ∷ refs_below n b links) [] own
+      (Counts-then b mid after (at ∷ refs_below n b links) (at ∷ []) [] first
+      (Counts-ended mid after at (at ∷ []) [] (subst (λ o. IsSome o) (sym same) stands) back (λ r. omega arith)))
 
 -- the node that a link names
-pub child_ref : (bytes refs : List ℕ) (place : ℕ) (d : Link) → IsInnerBytes bytes → place < length (links_in (node_of bytes)) → refs ≡ refs_bytes (links_in (node_of bytes)) → ref_from (drop (12 * place) refs) ≡ (get_or (links_in (node_of bytes)) place d).to
+pub child_ref : (bytes refs : List ℕ) (place : ℕ) (d : Link) → IsInnerBytes bytes → place < length (links_in (node_of bytes)) → refs ≡ refs_bytes (links_in (node_of bytes))
+    → ref_from (drop (12 * place) refs) ≡ (get_or (links_in (node_of bytes)) place d).to
 child_ref bytes refs place d told within is =
     let inner = inner_told bytes told in
     let links = links_in (node_of bytes) in
@@ -122,7 +133,8 @@ child_ref bytes refs place d told within is =
     ap (λ rs. ref_from (drop (12 * place) rs)) (is ∙ sym (append-nil (refs_bytes links))) ∙ ref_at links place d [] within fit
 
 -- a node with a link is an inner one
-pub with_link : (rest : ℕ) (bytes : List ℕ) (place : ℕ) → IsNode rest bytes → rest ≤ 16 → place < length (links_in (node_of bytes)) → IsInnerBytes bytes × (rest - suc (length (prefix_in (node_of bytes))) < rest)
+pub with_link : (rest : ℕ) (bytes : List ℕ) (place : ℕ) → IsNode rest bytes → rest ≤ 16 → place < length (links_in (node_of bytes)) → IsInnerBytes bytes
+    × (rest - suc (length (prefix_in (node_of bytes))) < rest)
 with_link rest bytes place node few within = elim (node_cases rest bytes node) [
   | inl leaf ↦ absurd (omega (arith, ap (λ m. length (links_in m)) leaf.1.node_is))
   | inr inner ↦ (let short = inner.1.inner.short in (record { rest = rest; few = few; node = node; prefix = prefix_from bytes; links = inner.1.links; is = inner.1.node_is }, omega arith))

@@ -9,7 +9,8 @@ use Rattle.blocks.specs.Slabs.{Heap, wants, Calmer}
 use Rattle.blocks.proofs.Refs.{ref_eq-refl}
 use Rattle.blocks.proofs.Change.{one, live-once, Owned-others, Changes-beside, Changes-then, Changes-owned}
 use Rattle.rax_packed.specs.Nodes.{Leaf, IsRef, ref_bytes, node_of}
-use Rattle.rax_packed.specs.Trees.{Entry, Mark, node_at, under, mark_under, entries_in, entries, refs_in, refs, first_key, marks_in, marks, Below, IsTree, entries_at, refs_at, marks_at, IsTreeAt, Becomes}
+use Rattle.rax_packed.specs.Trees.{Entry, Mark, node_at, under, mark_under, entries_in, entries, refs_in, refs, first_key, marks_in, marks, Below, IsTree, entries_at, refs_at, marks_at}
+use Rattle.rax_packed.specs.Trees.{IsTreeAt, Becomes}
 use Rattle.rax_packed.specs.Ways.{LeadsTo, prefix_in, links_in}
 use Rattle.rax_packed.specs.Paths.{is_first, moved, ArePassed}
 use Rattle.rax_packed.proofs.Entries.{below_links, key_under}
@@ -40,7 +41,9 @@ module _ (rest : ℕ) (m n : Blocks) (at new : BlockRef) (t : IsTreeAt rest m at
   node = ap (λ o. node_of (unwrap_or o [])) bytes
 
   -- below the top node, entries, references, marks and trees are the same in both stores
-  parts : (entries_in (entries rest n) (node_at m at) ≡ entries_in (entries rest m) (node_at m at)) × (refs_in (refs rest n) (node_at m at) ≡ refs_in (refs rest m) (node_at m at)) × (marks_in (marks rest n) (node_at m at) ≡ marks_in (marks rest m) (node_at m at)) × ((left : ℕ) → Below (λ l to. IsTree rest l m to) left (node_at m at) → Below (λ l to. IsTree rest l n to) left (node_at m at))
+  parts : (entries_in (entries rest n) (node_at m at) ≡ entries_in (entries rest m) (node_at m at)) × (refs_in (refs rest n) (node_at m at) ≡ refs_in (refs rest m) (node_at m at))
+      × (marks_in (marks rest n) (node_at m at) ≡ marks_in (marks rest m) (node_at m at))
+      × ((left : ℕ) → Below (λ l to. IsTree rest l m to) left (node_at m at) → Below (λ l to. IsTree rest l n to) left (node_at m at))
   parts = in_node rest m n (node_at m at) (λ to k. same_tree rest m n to k) kept
 
   -- the top node is the same node at its new reference
@@ -137,7 +140,8 @@ moved_under begin (x ∷ xs) [] = refl
 moved_under begin (x ∷ xs) (u ∷ us) = omega (arith, moved_under begin xs us)
 
 -- a leaf passed
-module _ (b n : Blocks) (at new value : BlockRef) (key : List ℕ) (t : IsTreeAt (length key) b at) (own : Owned (refs_at (length key) b at) b) (node : node_at b at ≡ Leaf key value) (bytes : n new ≡ b at) (p : Changes b n (at ∷ []) (new ∷ [])) where
+module _ (b n : Blocks) (at new value : BlockRef) (key : List ℕ) (t : IsTreeAt (length key) b at) (own : Owned (refs_at (length key) b at) b) (node : node_at b at ≡ Leaf key value)
+    (bytes : n new ≡ b at) (p : Changes b n (at ∷ []) (new ∷ [])) where
   -- before the move, the one mark is that of the leaf at the old reference
   old_leaf : marks_at (length key) b at ≡ (record { least = key; at = at }) ∷ []
   old_leaf = leaf_marks (length key) b at key value node
@@ -162,9 +166,11 @@ rest_of [] = []
 rest_of (m ∷ ms) = ms
 
 -- an inner node passed, after those below it
-module _ (b mid later n : Blocks) (at to new final : BlockRef) (bytes key : List ℕ) (place from : ℕ) (t : IsTreeAt (length key) b at) (read : b at ≡ Some bytes) (leads : LeadsTo (node_of bytes) key place from to) (own : Owned (refs_at (length key) b at) b)
+module _ (b mid later n : Blocks) (at to new final : BlockRef) (bytes key : List ℕ) (place from : ℕ) (t : IsTreeAt (length key) b at) (read : b at ≡ Some bytes)
+    (leads : LeadsTo (node_of bytes) key place from to) (own : Owned (refs_at (length key) b at) b)
     (below : Becomes (length (drop from key)) b mid to new (entries_at (length (drop from key)) b to)) (ref : IsRef new)
-    (written : (offset : ℕ) → offset ≡ 4 + length (prefix_in (node_of (bytes_at mid at))) + length (links_in (node_of (bytes_at mid at))) + 12 * place → later ≡ with_block mid at (Some (overwritten (bytes_at mid at) offset (ref_bytes new))))
+    (written : (offset : ℕ) → offset ≡ 4 + length (prefix_in (node_of (bytes_at mid at))) + length (links_in (node_of (bytes_at mid at))) + 12 * place
+    → later ≡ with_block mid at (Some (overwritten (bytes_at mid at) offset (ref_bytes new))))
     (carried : n final ≡ later at) (p : Changes later n (at ∷ []) (final ∷ [])) where
   -- the parts of the node and of the key at the link
   abbrev s : Split b at key place from to (length key) (length key)
@@ -196,14 +202,16 @@ module _ (b mid later n : Blocks) (at to new final : BlockRef) (bytes key : List
       link_entries b mid later at to new bytes key place from es t read leads own below ref written
       ∙ sym (entries_below b at to bytes key place from t read leads
       ∙ flat_map-append (λ l. map (under (s.prefix ++ l.edge ∷ [])) (entries (length key) b l.to)) s.before ((record { edge = s.edge; to = to }) ∷ s.after)
-      ∙ ap (λ xs. below_links s.prefix (entries (length key) b) s.before ++ (map (under (s.prefix ++ s.edge ∷ [])) xs ++ below_links s.prefix (entries (length key) b) s.after)) (sym named.entries_are))
+      ∙ ap (λ xs. below_links s.prefix (entries (length key) b) s.before ++ (map (under (s.prefix ++ s.edge ∷ [])) xs ++ below_links s.prefix (entries (length key) b) s.after))
+      (sym named.entries_are))
 
   -- after the node moved too, the tree has become one of the same entries at the node's final reference
   pub relocated : Becomes (length key) b n at final (entries_at (length key) b at)
   relocated = record {
     tree = moved_tree (length key) later n at final relinked own_later carried p;
     entries_are = moved_entries (length key) later n at final relinked own_later carried p ∙ same_entries;
-    changes = Changes-then b later n (refs_at (length key) b at) (refs_at (length key) later at) (refs_at (length key) n final) changed (moved_changes (length key) later n at final relinked own_later carried p);
+    changes = Changes-then b later n (refs_at (length key) b at) (refs_at (length key) later at) (refs_at (length key) n final) changed
+        (moved_changes (length key) later n at final relinked own_later carried p);
   }
 
   -- the marks below the links before the key's
@@ -232,7 +240,8 @@ module _ (b mid later n : Blocks) (at to new final : BlockRef) (bytes key : List
   tail = ap rest_of (link_marks b mid later at to new bytes key place from es t read leads own below ref written)
 
   -- after the moves the marks are the node's at its final reference, and the moved tree's between the others
-  new_marks : marks_at (length key) n final ≡ (record { least = first_key (entries_at (length key) b at); at = final }) ∷ (front ++ (map (mark_under begin) (marks_at (length (drop from key)) mid new) ++ back))
+  new_marks : marks_at (length key) n final ≡ (record { least = first_key (entries_at (length key) b at); at = final })
+      ∷ (front ++ (map (mark_under begin) (marks_at (length (drop from key)) mid new) ++ back))
   new_marks =
       moved_marks (length key) later n at final relinked own_later carried p
       ∙ ap (λ xs. (record { least = first_key xs; at = final }) ∷ marks_in (marks (length key) later) (node_at later at)) same_entries
@@ -252,31 +261,46 @@ module _ (b mid later n : Blocks) (at to new final : BlockRef) (bytes key : List
 
   module _ (h k l : Heap) (passed : ArePassed h k (drop from key) (marks_at (length (drop from key)) b to) (marks_at (length (drop from key)) mid new)) where
     -- as many nodes have moved as below the link, and one more where the node's reference is another one
-    pub relocated_moved : moved (marks_at (length key) b at) (marks_at (length key) n final) ≡ cond (ref_eq at final) 0 1 + moved (marks_at (length (drop from key)) b to) (marks_at (length (drop from key)) mid new)
+    pub relocated_moved : moved (marks_at (length key) b at) (marks_at (length key) n final) ≡ cond (ref_eq at final) 0 1 + moved (marks_at (length (drop from key)) b to)
+        (marks_at (length (drop from key)) mid new)
     relocated_moved =
         let xs = map (mark_under begin) (marks_at (length (drop from key)) b to) in
         let us = map (mark_under begin) (marks_at (length (drop from key)) mid new) in
-        let under_key : ArePassed h k (begin ++ drop from key) xs us = passed_under h k begin (drop from key) (marks_at (length (drop from key)) b to) (marks_at (length (drop from key)) mid new) passed in
+        let under_key : ArePassed h k (begin ++ drop from key) xs us =
+        passed_under h k begin (drop from key) (marks_at (length (drop from key)) b to) (marks_at (length (drop from key)) mid new) passed in
         let inside : moved (front ++ (xs ++ back)) (front ++ (us ++ back)) ≡ moved (marks_at (length (drop from key)) b to) (marks_at (length (drop from key)) mid new) =
-        omega (arith, moved_append h k key front front (xs ++ back) (us ++ back) (passed_others h k key front front_others), moved_same front, moved_append h k (begin ++ drop from key) xs us back back under_key, moved_same back, moved_under begin (marks_at (length (drop from key)) b to) (marks_at (length (drop from key)) mid new)) in
+        omega (
+          arith,
+          moved_append h k key front front (xs ++ back) (us ++ back) (passed_others h k key front front_others),
+          moved_same front,
+          moved_append h k (begin ++ drop from key) xs us
+              back back under_key,
+          moved_same back,
+          moved_under begin (marks_at (length (drop from key)) b to) (marks_at (length (drop from key)) mid new),
+        ) in
         ap (λ ms. moved ms (marks_at (length key) n final)) old_marks
         ∙ ap (moved ((record { least = first_key (entries_at (length key) b at); at = at }) ∷ (front ++ (xs ++ back)))) new_marks
         ∙ ap (λ m. cond (ref_eq at final) 0 1 + m) inside
 
     -- where the nodes below the link were passed and then the node, all nodes of the tree were passed
-    pub relocated_passed : (least : Bool) → least ≡ is_first (entries_at (length key) b at) key → Calmer h k → Calmer k l → (least ≡ true → wants l final ≡ false) → (least ≡ false → final ≡ at) → (wants k at ≡ false → final ≡ at) → ArePassed h l key (marks_at (length key) b at) (marks_at (length key) n final)
+    pub relocated_passed : (least : Bool) → least ≡ is_first (entries_at (length key) b at) key → Calmer h k → Calmer k l → (least ≡ true → wants l final ≡ false)
+        → (least ≡ false → final ≡ at) → (wants k at ≡ false → final ≡ at) → ArePassed h l key (marks_at (length key) b at) (marks_at (length key) n final)
     relocated_passed least is before after calm others stays =
         let xs = map (mark_under begin) (marks_at (length (drop from key)) b to) in
         let us = map (mark_under begin) (marks_at (length (drop from key)) mid new) in
-        let under_key : ArePassed h k (begin ++ drop from key) xs us = passed_under h k begin (drop from key) (marks_at (length (drop from key)) b to) (marks_at (length (drop from key)) mid new) passed in
+        let under_key : ArePassed h k (begin ++ drop from key) xs us =
+        passed_under h k begin (drop from key) (marks_at (length (drop from key)) b to) (marks_at (length (drop from key)) mid new) passed in
         let middle : ArePassed h l key xs us = passed_calmer h k l key xs us after (subst (λ q. ArePassed h k q xs us) whole under_key) in
         let all : ArePassed h l key (front ++ (xs ++ back)) (front ++ (us ++ back)) =
-        passed_append h l key front front (xs ++ back) (us ++ back) (passed_others h l key front front_others) (passed_append h l key xs us back back middle (passed_others h l key back back_others)) in
-        subst (λ ms. ArePassed h l key ms (marks_at (length key) n final)) (sym old_marks) (subst (ArePassed h l key ((record { least = first_key (entries_at (length key) b at); at = at }) ∷ (front ++ (xs ++ back)))) (sym new_marks)
+        passed_append h l key front front (xs ++ back) (us ++ back) (passed_others h l key front front_others)
+        (passed_append h l key xs us back back middle (passed_others h l key back back_others)) in
+        subst (λ ms. ArePassed h l key ms (marks_at (length key) n final)) (sym old_marks)
+        (subst (ArePassed h l key ((record { least = first_key (entries_at (length key) b at); at = at }) ∷ (front ++ (xs ++ back)))) (sym new_marks)
         (record { least = refl; calm = λ e. calm (is ∙ e); others = λ e. others (is ∙ e); stays = λ e. stays (before.calm at e) }, all))
 
   -- whether the key is the least below the node
-  pub relocated_least : (low least : Bool) → low ≡ is_first (entries_at (length (drop from key)) b to) (drop from key) → (place ≡ 0 → least ≡ low) → (place ≢ 0 → least ≡ false) → least ≡ is_first (entries_at (length key) b at) key
+  pub relocated_least : (low least : Bool) → low ≡ is_first (entries_at (length (drop from key)) b to) (drop from key) → (place ≡ 0 → least ≡ low) → (place ≢ 0 → least ≡ false)
+      → least ≡ is_first (entries_at (length key) b at) key
   relocated_least low least is zeroth other = elim (cases_eq place 0) [
     | inl here ↦ zeroth here ∙ is ∙ sym (first_zero b at to bytes key place from t read leads here)
     | inr there ↦ other there ∙ sym (first_other b at to bytes key place from t read leads there)

@@ -35,7 +35,8 @@ unfolding value_at without
 without-missing key [] h = refl
 without-missing key (e ∷ es) h = step (order e.key key) h (without-missing key es)
   where
-    step : (o : Ordering) → option_map (λ x. x.value) (cond (is_eq o) (Some e) (find (λ x. is_eq (order x.key key)) es)) ≡ None → (option_map (λ x. x.value) (find (λ x. is_eq (order x.key key)) es) ≡ None → filter (λ x. is_ne (order x.key key)) es ≡ es)
+    step : (o : Ordering) → option_map (λ x. x.value) (cond (is_eq o) (Some e) (find (λ x. is_eq (order x.key key)) es)) ≡ None
+        → (option_map (λ x. x.value) (find (λ x. is_eq (order x.key key)) es) ≡ None → filter (λ x. is_ne (order x.key key)) es ≡ es)
         → cond (is_ne o) (e ∷ filter (λ x. is_ne (order x.key key)) es) (filter (λ x. is_ne (order x.key key)) es) ≡ e ∷ es
     step Less h rest = ap (λ xs. e ∷ xs) (rest h)
     step Greater h rest = ap (λ xs. e ∷ xs) (rest h)
@@ -49,7 +50,9 @@ pub rootless_without : (b : Blocks) (tree : PackedTree) (key : List ℕ) → tre
 rootless_without b tree key is = rootless_entries b tree is ∙ sym (ap (λ es. without es key) (rootless_entries b tree is) ∙ empty_without key)
 
 -- the first leaf of a map
-module _ (b after : Blocks) (tree : PackedTree) (leaf : BlockRef) (key : List ℕ) (value : BlockRef) (bytes : List ℕ) (is : tree.root ≡ None) (placed : after ≡ with_block b leaf (Some bytes)) (spelled_is : bytes ≡ spelled (Leaf key value)) (long : length key ≡ 16) (fits : IsRef value) (changes : Changes b after [] (leaf ∷ [])) where
+module _ (b after : Blocks) (tree : PackedTree) (leaf : BlockRef) (key : List ℕ) (value : BlockRef) (bytes : List ℕ) (is : tree.root ≡ None)
+    (placed : after ≡ with_block b leaf (Some bytes)) (spelled_is : bytes ≡ spelled (Leaf key value)) (long : length key ≡ 16) (fits : IsRef value)
+    (changes : Changes b after [] (leaf ∷ [])) where
   node : LeafAt 16 after leaf key value
   node = record { bytes = bytes; block = ap (λ m. m leaf) placed ∙ with_block-same b leaf (Some bytes); holds = spelled_is; fits = (long, fits) }
 

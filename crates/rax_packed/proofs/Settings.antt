@@ -44,7 +44,8 @@ both None P Q p q = tt
 both (Some x) P Q p q = (p, q)
 
 -- a leaf's value written anew
-module _ (b after : Blocks) (at old value : BlockRef) (bytes key : List ℕ) (t : IsTreeAt (length key) b at) (own : Owned (refs_at (length key) b at) b) (read : b at ≡ Some bytes) (is : node_of bytes ≡ Leaf key old) (fits : IsRef value)
+module _ (b after : Blocks) (at old value : BlockRef) (bytes key : List ℕ) (t : IsTreeAt (length key) b at) (own : Owned (refs_at (length key) b at) b) (read : b at ≡ Some bytes)
+    (is : node_of bytes ≡ Leaf key old) (fits : IsRef value)
     (written : after ≡ with_block b at (Some (overwritten (bytes_at b at) (2 + length key) (ref_bytes value)))) where
   node : node_at b at ≡ Leaf key old
   node = node_read b at bytes read ∙ is
@@ -55,7 +56,8 @@ module _ (b after : Blocks) (at old value : BlockRef) (bytes key : List ℕ) (t 
   now : LeafAt (length key) after at key value
   now = record {
     bytes = overwritten leaf.bytes (2 + length key) (ref_bytes value);
-    block = ap (λ m. m at) written ∙ with_block-same b at (Some (overwritten (bytes_at b at) (2 + length key) (ref_bytes value))) ∙ ap (λ xs. Some (overwritten xs (2 + length key) (ref_bytes value))) (ap (λ o. unwrap_or o []) leaf.block);
+    block = ap (λ m. m at) written ∙ with_block-same b at (Some (overwritten (bytes_at b at) (2 + length key) (ref_bytes value)))
+        ∙ ap (λ xs. Some (overwritten xs (2 + length key) (ref_bytes value))) (ap (λ o. unwrap_or o []) leaf.block);
     holds = revalued_bytes leaf.bytes key old value leaf.holds;
     fits = (refl, fits);
   }
@@ -72,7 +74,8 @@ module _ (b after : Blocks) (at old value : BlockRef) (bytes key : List ℕ) (t 
       ∙ sym (ap keys_of (leaf_entries (length key) b at key old node))
 
 -- the value of a key that goes on by a link
-module _ (b mid : Blocks) (at to : BlockRef) (bytes key : List ℕ) (place from : ℕ) (value : BlockRef) (t : IsTreeAt (length key) b at) (read : b at ≡ Some bytes) (leads : LeadsTo (node_of bytes) key place from to) where
+module _ (b mid : Blocks) (at to : BlockRef) (bytes key : List ℕ) (place from : ℕ) (value : BlockRef) (t : IsTreeAt (length key) b at) (read : b at ≡ Some bytes)
+    (leads : LeadsTo (node_of bytes) key place from to) where
   abbrev s : Split b at key place from to (length key) (length key)
   s = split b at to bytes key place from t read leads
 
@@ -110,20 +113,23 @@ module _ (b mid : Blocks) (at to : BlockRef) (bytes key : List ℕ) (place from 
   abbrev marks_back : List Mark
   marks_back = marks_below s.prefix (marks (length key) b) s.after
 
-  old_marks : marks_at (length key) b at ≡ (record { least = first_key (entries_at (length key) b at); at = at }) ∷ (marks_front ++ (map (mark_under begin) (marks_at (length (drop from key)) b to) ++ marks_back))
+  old_marks : marks_at (length key) b at ≡ (record { least = first_key (entries_at (length key) b at); at = at })
+      ∷ (marks_front ++ (map (mark_under begin) (marks_at (length (drop from key)) b to) ++ marks_back))
   old_marks =
       inner_marks (length key) b at s.prefix (s.before ++ (record { edge = s.edge; to = to }) ∷ s.after) (node_is b at to bytes key place from t read leads)
       ∙ ap (λ ms. (record { least = first_key (entries_at (length key) b at); at = at }) ∷ ms)
       (flat_map-append (λ l. map (mark_under (s.prefix ++ l.edge ∷ [])) (marks (length key) b l.to)) s.before ((record { edge = s.edge; to = to }) ∷ s.after)
       ∙ ap (λ xs. marks_front ++ (map (mark_under begin) xs ++ marks_back)) (sym (child b at to bytes key place from t read leads).marks_are))
 
-  pub link_marks_stay : Owned (refs_at (length key) b at) b → Becomes (length (drop from key)) b mid to to (with_entry low (drop from key) value) → keys_of (with_entry low (drop from key) value) ≡ keys_of low
+  pub link_marks_stay : Owned (refs_at (length key) b at) b → Becomes (length (drop from key)) b mid to to (with_entry low (drop from key) value)
+      → keys_of (with_entry low (drop from key) value) ≡ keys_of low
       → marks_at (length (drop from key)) mid to ≡ marks_at (length (drop from key)) b to → marks_at (length key) mid at ≡ marks_at (length key) b at
   link_marks_stay own below same low_marks =
       let es = with_entry low (drop from key) value in
       let block : mid at ≡ Some s.node.bytes = kept_block b at to bytes key place from t read leads mid (refs_at (length (drop from key)) mid to) own below.changes ∙ s.node.block in
       let whole = set_link b at to bytes key place from t read leads mid value own below in
-      let first : first_key (entries_at (length key) mid at) ≡ first_key (entries_at (length key) b at) = first_same (entries_at (length key) mid at) (entries_at (length key) b at) (ap keys_of whole.entries_are ∙ link_keys_stay same) in
+      let first : first_key (entries_at (length key) mid at) ≡ first_key (entries_at (length key) b at) =
+      first_same (entries_at (length key) mid at) (entries_at (length key) b at) (ap keys_of whole.entries_are ∙ link_keys_stay same) in
       step_marks b at to bytes key place from t read leads mid mid to es own below s.node.bytes block s.node.holds (ref_to b at to bytes key place from t read leads) (λ r h. refl)
       ∙ ap (λ k. (record { least = k; at = at }) ∷ (marks_front ++ (map (mark_under begin) (marks_at (length (drop from key)) mid to) ++ marks_back))) first
       ∙ ap (λ ms. (record { least = first_key (entries_at (length key) b at); at = at }) ∷ (marks_front ++ (map (mark_under begin) ms ++ marks_back))) low_marks

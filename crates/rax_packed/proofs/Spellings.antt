@@ -8,7 +8,8 @@ use Rattle.std.proofs.lemmas.Bool.{cases_eq, cond-true, cond-false, eq-eqb, ne_e
 use Rattle.byteorder.specs.Endian.{little_bytes, little_number}
 use Rattle.byteorder.specs.Numbers.{length-bytes_low_first, little_number-reads_back}
 use Rattle.blocks.specs.declared.BlockRef.{BlockRef}
-use Rattle.rax_packed.specs.Nodes.{Link, Node, Leaf, Inner, ref_bytes, edges_of, refs_bytes, spelled, HoldsNode, Rising, IsRef, IsInner, Fits, ref_from, links_from, prefix_from, body_from, inner_from, node_of, IsNode}
+use Rattle.rax_packed.specs.Nodes.{Link, Node, Leaf, Inner, ref_bytes, edges_of, refs_bytes, spelled, HoldsNode, Rising, IsRef, IsInner, Fits, ref_from, links_from, prefix_from, body_from}
+use Rattle.rax_packed.specs.Nodes.{inner_from, node_of, IsNode}
 
 -- a reference is twelve bytes long
 pub length-ref_bytes : (r : BlockRef) → length (ref_bytes r) ≡ 12
@@ -28,10 +29,13 @@ refs_bytes-append xs ys = flat_map-append (λ l. ref_bytes l.to) xs ys
 pub ref_from-bytes : (r : BlockRef) (more : List ℕ) → IsRef r → ref_from (ref_bytes r ++ more) ≡ r
 unfolding ref_bytes
 ref_from-bytes r more fits =
-    let joined : (little_bytes 8 r.slab ++ little_bytes 4 r.slot) ++ more ≡ little_bytes 8 r.slab ++ (little_bytes 4 r.slot ++ more) = append_assoc (little_bytes 8 r.slab) (little_bytes 4 r.slot) more in
-    let slab : little_number 8 ((little_bytes 8 r.slab ++ little_bytes 4 r.slot) ++ more) ≡ r.slab = ap (little_number 8) joined ∙ little_number-reads_back 8 r.slab (little_bytes 4 r.slot ++ more) fits.slab in
+    let joined : (little_bytes 8 r.slab ++ little_bytes 4 r.slot) ++ more ≡ little_bytes 8 r.slab
+    ++ (little_bytes 4 r.slot ++ more) = append_assoc (little_bytes 8 r.slab) (little_bytes 4 r.slot) more in
+    let slab : little_number 8 ((little_bytes 8 r.slab ++ little_bytes 4 r.slot) ++ more) ≡ r.slab = ap (little_number 8) joined
+    ∙ little_number-reads_back 8 r.slab (little_bytes 4 r.slot ++ more) fits.slab in
     let slot : little_number 4 (drop 8 ((little_bytes 8 r.slab ++ little_bytes 4 r.slot) ++ more)) ≡ r.slot =
-    ap (λ xs. little_number 4 (drop 8 xs)) joined ∙ ap (little_number 4) (drop_at (little_bytes 8 r.slab) (little_bytes 4 r.slot ++ more) 8 (length-bytes_low_first 0 8 r.slab)) ∙ little_number-reads_back 4 r.slot more fits.slot in
+    ap (λ xs. little_number 4 (drop 8 xs)) joined ∙ ap (little_number 4) (drop_at (little_bytes 8 r.slab) (little_bytes 4 r.slot ++ more) 8 (length-bytes_low_first 0 8 r.slab))
+    ∙ little_number-reads_back 4 r.slot more fits.slot in
     λ i. record { slab = slab i; slot = slot i }
 
 -- links are read back from their edges and the bytes of their references, whatever follows each
@@ -40,8 +44,10 @@ links_from-spelled [] edges refs fit = refl
 links_from-spelled (l ∷ links) edges refs fit =
     let joined : (ref_bytes l.to ++ refs_bytes links) ++ refs ≡ ref_bytes l.to ++ (refs_bytes links ++ refs) = append_assoc (ref_bytes l.to) (refs_bytes links) refs in
     let to : ref_from ((ref_bytes l.to ++ refs_bytes links) ++ refs) ≡ l.to = ap ref_from joined ∙ ref_from-bytes l.to (refs_bytes links ++ refs) fit.0 in
-    let rest : drop 12 ((ref_bytes l.to ++ refs_bytes links) ++ refs) ≡ refs_bytes links ++ refs = ap (drop 12) joined ∙ drop_at (ref_bytes l.to) (refs_bytes links ++ refs) 12 (length-ref_bytes l.to) in
-    let more : links_from (length links) (edges_of links ++ edges) (drop 12 ((ref_bytes l.to ++ refs_bytes links) ++ refs)) ≡ links = ap (links_from (length links) (edges_of links ++ edges)) rest ∙ links_from-spelled links edges refs fit.1 in
+    let rest : drop 12 ((ref_bytes l.to ++ refs_bytes links) ++ refs) ≡ refs_bytes links ++ refs = ap (drop 12) joined
+    ∙ drop_at (ref_bytes l.to) (refs_bytes links ++ refs) 12 (length-ref_bytes l.to) in
+    let more : links_from (length links) (edges_of links ++ edges) (drop 12 ((ref_bytes l.to ++ refs_bytes links) ++ refs)) ≡ links =
+    ap (links_from (length links) (edges_of links ++ edges)) rest ∙ links_from-spelled links edges refs fit.1 in
     λ i. record { edge = l.edge; to = to i } ∷ more i
 
 -- links whose edges rise from a number on and are bytes are at most as many as the bytes from it on
@@ -106,7 +112,8 @@ leaf_node prefix value fit =
     ∙ ap (Leaf prefix) (ref_from-bytes value [] fit)
 
 -- an inner node is read back from its bytes, whatever follows them
-inner_node : (prefix : List ℕ) (links : List Link) (zeros : List ℕ) → length links ≤ 256 → AllByRecursion (λ l. IsRef l.to) links → node_of (1 ∷ length prefix ∷ (prefix ++ inner_body links zeros)) ≡ Inner prefix links
+inner_node : (prefix : List ℕ) (links : List Link) (zeros : List ℕ) → length links ≤ 256 → AllByRecursion (λ l. IsRef l.to) links
+    → node_of (1 ∷ length prefix ∷ (prefix ++ inner_body links zeros)) ≡ Inner prefix links
 unfolding node_of
 inner_node prefix links zeros few fit =
     let bytes = 1 ∷ length prefix ∷ (prefix ++ inner_body links zeros) in
@@ -141,7 +148,16 @@ pub record IsLaid (bytes prefix : List ℕ) (links : List Link) : Type 0 where
 -- behind its prefix an inner node takes two bytes, thirteen for each link, and what follows them
 length-inner_body : (links : List Link) (zeros : List ℕ) → length (inner_body links zeros) ≡ 2 + 13 * length links + length zeros
 length-inner_body links zeros =
-    omega (arith, length-append (little_bytes 2 (length links)) (edges_of links ++ (refs_bytes links ++ zeros)), length-append (edges_of links) (refs_bytes links ++ zeros), length-append (refs_bytes links) zeros, length-map links (λ l. l.edge), length-refs_bytes links, length-bytes_low_first 0 2 (length links))
+    omega (
+      arith,
+      length-append (little_bytes 2 (length links)) (edges_of links ++ (refs_bytes links ++ zeros)),
+      length-append (edges_of links) (refs_bytes links ++ zeros),
+      length-append
+          (refs_bytes links) zeros,
+      length-map links (λ l. l.edge),
+      length-refs_bytes links,
+      length-bytes_low_first 0 2 (length links),
+    )
 
 -- bytes that hold an inner node of at most 256 links have its parts in their places
 pub laid : (bytes prefix : List ℕ) (links : List Link) → HoldsNode bytes (Inner prefix links) → length links ≤ 256 → IsLaid bytes prefix links
@@ -211,7 +227,8 @@ unfolding node_of
 node_cases rest bytes node = elim (cases_eq (slice_index bytes 0) 0) [
   | inl leaf ↦ inl (leaf, leaf_at rest bytes (cond-true _ _ _ (eq-eqb (slice_index bytes 0) 0 leaf)) node)
   | inr other ↦
-      (let is = inner_at rest bytes (links_from (little_number 2 (body_from bytes)) (drop 2 (body_from bytes)) (drop (little_number 2 (body_from bytes)) (drop 2 (body_from bytes)))) (cond-false _ _ _ (ne_eqb (slice_index bytes 0) 0 other)) node in
+      (let is = inner_at rest bytes (links_from (little_number 2 (body_from bytes)) (drop 2 (body_from bytes)) (drop (little_number 2 (body_from bytes)) (drop 2 (body_from bytes))))
+      (cond-false _ _ _ (ne_eqb (slice_index bytes 0) 0 other)) node in
       inr (is.laid.kind, is))
 ]
 

@@ -1,5 +1,6 @@
 -- A tree with a new inner node before one whose prefix a key leaves.
-use Rattle.std.proofs.Common.{◌≡◌, ◌∙◌, ℕ, zero, suc, ◌+◌, ◌-◌, ◌<◌, ◌≤◌, List, [], ◌∷◌, ◌++◌, length, drop, take, get_or, map, Some, None, IsSome, unwrap_or, refl, sym, ap, subst, inl, inr, arith, length-append, append_assoc}
+use Rattle.std.proofs.Common.{◌≡◌, ◌∙◌, ℕ, zero, suc, ◌+◌, ◌-◌, ◌<◌, ◌≤◌, List, [], ◌∷◌, ◌++◌, length, drop, take, get_or, map, Some, None, IsSome, unwrap_or, refl, sym, ap, subst, inl}
+use Rattle.std.proofs.Common.{inr, arith, length-append, append_assoc}
 use Rattle.std.proofs.lemmas.List.{append-nil, take_at, drop_at, get_or_at, get_or-take, get_or-drop, map-append}
 use Rattle.std.specs.List.{AllByRecursion}
 use Rattle.std.proofs.lemmas.Bool.{cond-true, cond-false, lt-ltb, le-ltb}
@@ -15,7 +16,8 @@ use Rattle.rax_packed.specs.Trees.{Entry, under, node_at, entries, refs_in, refs
 use Rattle.rax_packed.specs.Ways.{PartsAt, fork_links, prefix_in, shortened_by}
 use Rattle.rax_packed.specs.Packed.{with_entry}
 use Rattle.rax_packed.proofs.Entries.{All, below_links, with_entry-parts, key_under}
-use Rattle.rax_packed.proofs.Frames.{SameLevels, same_levels, refs_below, SameBelow, same_below, LevelsBelow, levels_below, InnerAt, LeafAt, inner_at, inner_tree, inner_node, inner_entries, inner_refs, leaf_at, leaf_tree, leaf_node, leaf_entries, leaf_refs}
+use Rattle.rax_packed.proofs.Frames.{SameLevels, same_levels, refs_below, SameBelow, same_below, LevelsBelow, levels_below, InnerAt, LeafAt, inner_at, inner_tree, inner_node}
+use Rattle.rax_packed.proofs.Frames.{inner_entries, inner_refs, leaf_at, leaf_tree, leaf_node, leaf_entries, leaf_refs}
 use Rattle.rax_packed.proofs.Growths.{Puts, puts_none, puts_more, Swaps, swaps, put_stays, put_here, ended_stays, fresh_before}
 use Rattle.rax_packed.proofs.Looks.{node_read, parts_side, tree_live, tree_node}
 
@@ -28,7 +30,8 @@ map-under begin more edge (e ∷ es) =
     λ i. (record { key = key i; value = e.value }) ∷ rest i
 
 -- entries below links behind a longer prefix are those behind its end, with its beginning put before them
-below-under : (begin more : List ℕ) (edge : ℕ) (es : BlockRef → List Entry) (links : List Link) → below_links (begin ++ edge ∷ more) es links ≡ map (under (begin ++ edge ∷ [])) (below_links more es links)
+below-under : (begin more : List ℕ) (edge : ℕ) (es : BlockRef → List Entry) (links : List Link)
+    → below_links (begin ++ edge ∷ more) es links ≡ map (under (begin ++ edge ∷ [])) (below_links more es links)
 below-under begin more edge es [] = refl
 below-under begin more edge es (l ∷ links) =
     let f = begin ++ edge ∷ [] in
@@ -47,10 +50,12 @@ pub record Shortened (n left : ℕ) (b later : Blocks) (at moved : BlockRef) (be
 
 -- without its beginning and the byte after that, a list is its rest
 cut_prefix : (begin rest : List ℕ) (own : ℕ) → drop (suc (length begin)) (begin ++ own ∷ rest) ≡ rest
-cut_prefix begin rest own = ap (drop (suc (length begin))) (sym (append_assoc begin (own ∷ []) rest)) ∙ drop_at (begin ++ own ∷ []) rest (suc (length begin)) (length-append begin (own ∷ []) ∙ omega arith)
+cut_prefix begin rest own = ap (drop (suc (length begin))) (sym (append_assoc begin (own ∷ []) rest))
+    ∙ drop_at (begin ++ own ∷ []) rest (suc (length begin)) (length-append begin (own ∷ []) ∙ omega arith)
 
 -- a leaf is shortened where another block holds it with the end of its prefix alone
-short_leaf : (n : ℕ) (b later : Blocks) (at moved value : BlockRef) (begin rest : List ℕ) (own : ℕ) → LeafAt n b at (begin ++ own ∷ rest) value → node_at b at ≡ Leaf (begin ++ own ∷ rest) value → later moved ≡ Some (spelled (Leaf rest value)) → Shortened n (n - suc (length begin)) b later at moved begin own
+short_leaf : (n : ℕ) (b later : Blocks) (at moved value : BlockRef) (begin rest : List ℕ) (own : ℕ) → LeafAt n b at (begin ++ own ∷ rest) value
+    → node_at b at ≡ Leaf (begin ++ own ∷ rest) value → later moved ≡ Some (spelled (Leaf rest value)) → Shortened n (n - suc (length begin)) b later at moved begin own
 short_leaf n b later at moved value begin rest own leaf is stands =
     let whole = leaf.fits.0 in
     let left_is : length rest ≡ n - suc (length begin) = omega (arith, length-append begin (own ∷ rest)) in
@@ -59,14 +64,16 @@ short_leaf n b later at moved value begin rest own leaf is stands =
     let key : begin ++ own ∷ rest ≡ (begin ++ own ∷ []) ++ rest = key_under begin rest own in
     record {
       tree = leaf_tree (n - suc (length begin)) (n - suc (length begin)) later moved rest value now;
-      entries_are = leaf_entries n b at (begin ++ own ∷ rest) value is ∙ ap (λ k. (record { key = k; value = value }) ∷ []) key ∙ sym (ap (map (under (begin ++ own ∷ []))) (leaf_entries (n - suc (length begin)) later moved rest value now_is));
+      entries_are = leaf_entries n b at (begin ++ own ∷ rest) value is ∙ ap (λ k. (record { key = k; value = value }) ∷ []) key
+          ∙ sym (ap (map (under (begin ++ own ∷ []))) (leaf_entries (n - suc (length begin)) later moved rest value now_is));
       below = [];
       old_refs = leaf_refs n b at (begin ++ own ∷ rest) value is;
       new_refs = leaf_refs (n - suc (length begin)) later moved rest value now_is;
     }
 
 -- an inner node is shortened where another block holds it with the end of its prefix, over the same trees
-short_inner : (n : ℕ) (b later : Blocks) (at moved : BlockRef) (links : List Link) (begin rest : List ℕ) (own : ℕ) → InnerAt n n b at (begin ++ own ∷ rest) links → node_at b at ≡ Inner (begin ++ own ∷ rest) links → later moved ≡ Some (spelled (Inner rest links)) → SameBelow n b later links
+short_inner : (n : ℕ) (b later : Blocks) (at moved : BlockRef) (links : List Link) (begin rest : List ℕ) (own : ℕ) → InnerAt n n b at (begin ++ own ∷ rest) links
+    → node_at b at ≡ Inner (begin ++ own ∷ rest) links → later moved ≡ Some (spelled (Inner rest links)) → SameBelow n b later links
     → Shortened n (n - suc (length begin)) b later at moved begin own
 short_inner n b later at moved links begin rest own inner is stands same =
     let left = n - suc (length begin) in
@@ -76,7 +83,14 @@ short_inner n b later at moved links begin rest own inner is stands same =
     let child_is : child ≡ left - suc (length rest) = omega (arith, long) in
     let lower : LevelsBelow n left child later links = levels_below n left child later (omega (arith, long)) links (same.trees child inner.below) in
     let fits : IsInner left rest links = record { short = omega (arith, long); some = inner.inner.some; rising = inner.inner.rising; edges = inner.inner.edges; refs = inner.inner.refs } in
-    let now : InnerAt left left later moved rest links = record { bytes = spelled (Inner rest links); block = stands; holds = (0, sym (append-nil (spelled (Inner rest links)))); inner = fits; below = subst (λ m. AllByRecursion (λ l. IsTree left m later l.to) links) child_is lower.trees } in
+    let now : InnerAt left left later moved rest links = record {
+      bytes = spelled (Inner rest links);
+      block = stands;
+      holds = (0, sym (append-nil (spelled (Inner rest links))));
+      inner = fits;
+      below =
+          subst (λ m. AllByRecursion (λ l. IsTree left m later l.to) links) child_is lower.trees;
+    } in
     let now_is = inner_node left left later moved rest links now in
     record {
       tree = inner_tree left left later moved rest links now;
@@ -88,7 +102,8 @@ short_inner n b later at moved links begin rest own inner is stands same =
     }
 
 -- the node that code shortens
-pub shortened : (n : ℕ) (b later : Blocks) (at moved : BlockRef) (node : Node) (begin rest : List ℕ) (own : ℕ) → IsTreeAt n b at → node_at b at ≡ node → prefix_in node ≡ begin ++ own ∷ rest → later moved ≡ Some (spelled (shortened_by (suc (length begin)) node)) → ((r : BlockRef) → IsIn r (refs_in (refs n b) node) → later r ≡ b r)
+pub shortened : (n : ℕ) (b later : Blocks) (at moved : BlockRef) (node : Node) (begin rest : List ℕ) (own : ℕ) → IsTreeAt n b at → node_at b at ≡ node → prefix_in node ≡ begin ++ own
+    ∷ rest → later moved ≡ Some (spelled (shortened_by (suc (length begin)) node)) → ((r : BlockRef) → IsIn r (refs_in (refs n b) node) → later r ≡ b r)
     → Shortened n (n - suc (length begin)) b later at moved begin own
 shortened n b later at moved (Leaf prefix value) begin rest own t is prefix_is stands kept =
     let whole : node_at b at ≡ Leaf (begin ++ own ∷ rest) value = is ∙ ap (λ p. Leaf p value) prefix_is in
@@ -106,7 +121,8 @@ pub record Forked (n : ℕ) (later : Blocks) (new : BlockRef) (begin : List ℕ)
   pub refs_are : refs_at n later new ≡ new ∷ (refs n later low ++ refs n later high)
 
 -- a block of an inner node with two links to trees, the lesser edge first, is a tree over both
-fork_at : (n : ℕ) (later : Blocks) (new : BlockRef) (begin : List ℕ) (low_edge : ℕ) (low : BlockRef) (high_edge : ℕ) (high : BlockRef) → length begin < n → low_edge < high_edge → high_edge < 256 → IsRef low → IsRef high
+fork_at : (n : ℕ) (later : Blocks) (new : BlockRef) (begin : List ℕ) (low_edge : ℕ) (low : BlockRef) (high_edge : ℕ) (high : BlockRef) → length begin < n → low_edge < high_edge
+    → high_edge < 256 → IsRef low → IsRef high
     → IsTree n (n - suc (length begin)) later low → IsTree n (n - suc (length begin)) later high
     → later new ≡ Some (spelled (Inner begin ((record { edge = low_edge; to = low }) ∷ (record { edge = high_edge; to = high }) ∷ []))) → Forked n later new begin low_edge low high_edge high
 fork_at n later new begin low_edge low high_edge high short less byte low_ref high_ref low_tree high_tree stands =
@@ -121,7 +137,8 @@ fork_at n later new begin low_edge low high_edge high short less byte low_ref hi
     let is = inner_node n n later new begin links now in
     record {
       tree = inner_tree n n later new begin links now;
-      entries_are = inner_entries n later new begin links is ∙ ap (λ xs. map (under (begin ++ low_edge ∷ [])) (entries n later low) ++ xs) (append-nil (map (under (begin ++ high_edge ∷ [])) (entries n later high)));
+      entries_are = inner_entries n later new begin links is ∙ ap (λ xs. map (under (begin ++ low_edge ∷ [])) (entries n later low) ++ xs)
+          (append-nil (map (under (begin ++ high_edge ∷ [])) (entries n later high)));
       refs_are = inner_refs n later new begin links is ∙ ap (λ xs. new ∷ (refs n later low ++ xs)) (append-nil (refs n later high));
     }
 
@@ -139,9 +156,12 @@ last_entry es key value less =
 first_entry : (es : List Entry) (key : List ℕ) (value : BlockRef) → All Greater key es → with_entry es key value ≡ (record { key = key; value = value }) ∷ es
 first_entry es key value more = with_entry-parts key [] [] es tt more value ∙ ap (λ xs. xs ++ es) (one_entry key value)
 
-module _ (b later : Blocks) (at leaf moved new : BlockRef) (key : List ℕ) (shared : ℕ) (value : BlockRef) (t : IsTreeAt (length key) b at) (own : Owned (refs_at (length key) b at) b) (parts : PartsAt (node_at b at) key shared)
-    (changed : Swaps b later at (new ∷ moved ∷ leaf ∷ [])) (hangs : later leaf ≡ Some (spelled (Leaf parts.other_rest value))) (moves : later moved ≡ Some (spelled (shortened_by (suc (length parts.begin)) (node_at b at))))
-    (stands : later new ≡ Some (spelled (Inner parts.begin (fork_links parts.own moved parts.other leaf)))) (own_byte : parts.own < 256) (other_byte : parts.other < 256) (moved_ref : IsRef moved) (leaf_ref : IsRef leaf) (valued : IsRef value) where
+module _ (b later : Blocks) (at leaf moved new : BlockRef) (key : List ℕ) (shared : ℕ) (value : BlockRef) (t : IsTreeAt (length key) b at) (own : Owned (refs_at (length key) b at) b)
+    (parts : PartsAt (node_at b at) key shared)
+    (changed : Swaps b later at (new ∷ moved ∷ leaf ∷ [])) (hangs : later leaf ≡ Some (spelled (Leaf parts.other_rest value)))
+    (moves : later moved ≡ Some (spelled (shortened_by (suc (length parts.begin)) (node_at b at))))
+    (stands : later new ≡ Some (spelled (Inner parts.begin (fork_links parts.own moved parts.other leaf)))) (own_byte : parts.own < 256) (other_byte : parts.other < 256)
+    (moved_ref : IsRef moved) (leaf_ref : IsRef leaf) (valued : IsRef value) where
   -- the tree's references are the node's own and those below it
   node_refs : refs_at (length key) b at ≡ at ∷ refs_in (refs (length key) b) (node_at b at)
   unfolding refs
@@ -174,14 +194,20 @@ module _ (b later : Blocks) (at leaf moved new : BlockRef) (key : List ℕ) (sha
   leaf_now = record { bytes = spelled (Leaf parts.other_rest value); block = hangs; holds = refl; fits = (left_is, valued) }
 
   -- the new leaf is a tree of one entry and one reference with any number of levels above zero
-  leaf_many : (m : ℕ) → 0 < m → IsTree m (length key - suc (length parts.begin)) later leaf × (entries m later leaf ≡ (record { key = parts.other_rest; value = value }) ∷ []) × (refs m later leaf ≡ leaf ∷ [])
+  leaf_many : (m : ℕ) → 0 < m → IsTree m (length key - suc (length parts.begin)) later leaf × (entries m later leaf ≡ (record { key = parts.other_rest; value = value }) ∷ [])
+      × (refs m later leaf ≡ leaf ∷ [])
   leaf_many zero h = absurd (omega arith)
   leaf_many (suc m) h =
-      let is = leaf_node m (length key - suc (length parts.begin)) later leaf parts.other_rest value leaf_now in
-      (leaf_tree m (length key - suc (length parts.begin)) later leaf parts.other_rest value leaf_now, leaf_entries m later leaf parts.other_rest value is, leaf_refs m later leaf parts.other_rest value is)
+      let is = leaf_node m (length key - suc (length parts.begin)) later leaf parts.other_rest value leaf_now in (
+        leaf_tree m (length key - suc (length parts.begin)) later leaf parts.other_rest value leaf_now,
+        leaf_entries m later leaf parts.other_rest value is,
+        leaf_refs m later leaf
+            parts.other_rest value is,
+      )
 
   -- the new leaf is a tree of one entry and one reference with as many levels as the key has bytes
-  hung : IsTree (length key) (length key - suc (length parts.begin)) later leaf × (entries (length key) later leaf ≡ (record { key = parts.other_rest; value = value }) ∷ []) × (refs (length key) later leaf ≡ leaf ∷ [])
+  hung : IsTree (length key) (length key - suc (length parts.begin)) later leaf × (entries (length key) later leaf ≡ (record { key = parts.other_rest; value = value }) ∷ [])
+      × (refs (length key) later leaf ≡ leaf ∷ [])
   hung = (let short = begin_short in leaf_many (length key) (omega arith))
 
   -- the entries of the shortened node, behind the bytes that its prefix lost, are those of the old tree
@@ -197,7 +223,8 @@ module _ (b later : Blocks) (at leaf moved new : BlockRef) (key : List ℕ) (sha
   moved_refs = lifted.refs_are ∙ short.new_refs
 
   -- where the new node owns the shortened one's tree and the leaf, no block outside the old and new tree has changed
-  done : (ms : List BlockRef) → refs_at (length key) later new ≡ new ∷ ms → ((r : BlockRef) → times r ms ≡ one r moved + (times r short.below + one r leaf)) → Changes b later (refs_at (length key) b at) (refs_at (length key) later new)
+  done : (ms : List BlockRef) → refs_at (length key) later new ≡ new ∷ ms → ((r : BlockRef) → times r ms ≡ one r moved + (times r short.below + one r leaf))
+      → Changes b later (refs_at (length key) b at) (refs_at (length key) later new)
   done ms is in_ms =
       Changes-counted b later (refs_at (length key) b at) (refs_at (length key) later new) own
       (changed.counts (refs_at (length key) b at) (refs_at (length key) later new) (λ r. omega (arith, ap (times r) is, in_ms r, ap (times r) short.old_refs)))
@@ -210,16 +237,20 @@ module _ (b later : Blocks) (at leaf moved new : BlockRef) (key : List ℕ) (sha
         let fork = fork_at (length key) later new parts.begin parts.own moved parts.other leaf begin_short low.0 other_byte moved_ref leaf_ref lifted.tree hung.0 (stands ∙ is) in
         record {
           tree = fork.tree;
-          entries_are = fork.entries_are ∙ ap (λ xs. xs ++ map (under (parts.begin ++ parts.other ∷ [])) (entries (length key) later leaf)) moved_entries ∙ ap (λ xs. entries_at (length key) b at ++ xs) leaf_entry ∙ sym (last_entry (entries_at (length key) b at) key value low.1);
-          changes = done (refs (length key) later moved ++ refs (length key) later leaf) fork.refs_are (λ r. omega (arith, times-append r (refs (length key) later moved) (refs (length key) later leaf), ap (times r) moved_refs, ap (times r) hung.2));
+          entries_are = fork.entries_are ∙ ap (λ xs. xs ++ map (under (parts.begin ++ parts.other ∷ [])) (entries (length key) later leaf)) moved_entries
+              ∙ ap (λ xs. entries_at (length key) b at ++ xs) leaf_entry ∙ sym (last_entry (entries_at (length key) b at) key value low.1);
+          changes = done (refs (length key) later moved ++ refs (length key) later leaf) fork.refs_are
+              (λ r. omega (arith, times-append r (refs (length key) later moved) (refs (length key) later leaf), ap (times r) moved_refs, ap (times r) hung.2));
         })
     | inr high ↦
         (let is = ap (λ ls. Some (spelled (Inner parts.begin ls))) (cond-false _ _ _ (le-ltb parts.own parts.other (let more = high.0 in omega arith))) in
         let fork = fork_at (length key) later new parts.begin parts.other leaf parts.own moved begin_short high.0 own_byte leaf_ref moved_ref hung.0 lifted.tree (stands ∙ is) in
         record {
           tree = fork.tree;
-          entries_are = fork.entries_are ∙ ap (λ xs. xs ++ map (under (parts.begin ++ parts.own ∷ [])) (entries (length key) later moved)) leaf_entry ∙ ap (λ xs. (record { key = key; value = value }) ∷ xs) moved_entries ∙ sym (first_entry (entries_at (length key) b at) key value high.1);
-          changes = done (refs (length key) later leaf ++ refs (length key) later moved) fork.refs_are (λ r. omega (arith, times-append r (refs (length key) later leaf) (refs (length key) later moved), ap (times r) moved_refs, ap (times r) hung.2));
+          entries_are = fork.entries_are ∙ ap (λ xs. xs ++ map (under (parts.begin ++ parts.own ∷ [])) (entries (length key) later moved)) leaf_entry
+              ∙ ap (λ xs. (record { key = key; value = value }) ∷ xs) moved_entries ∙ sym (first_entry (entries_at (length key) b at) key value high.1);
+          changes = done (refs (length key) later leaf ++ refs (length key) later moved) fork.refs_are
+              (λ r. omega (arith, times-append r (refs (length key) later leaf) (refs (length key) later moved), ap (times r) moved_refs, ap (times r) hung.2));
         })
   ]
 
@@ -231,28 +262,33 @@ pub record Ready (key seen : List ℕ) (shared own : ℕ) : Type 0 where
   pub own_is : get_or seen (2 + shared) 0 ≡ own
 
 -- after a leaf was put, the bytes of a node whose prefix a key leaves may be shortened there
-pub split_ready : (b b1 : Blocks) (at leaf : BlockRef) (key : List ℕ) (shared : ℕ) → IsTreeAt (length key) b at → length key ≤ 16 → (parts : PartsAt (node_at b at) key shared) → Puts b b1 (leaf ∷ []) → (seen : List ℕ) → b1 at ≡ Some seen → Ready key seen shared parts.own
+pub split_ready : (b b1 : Blocks) (at leaf : BlockRef) (key : List ℕ) (shared : ℕ) → IsTreeAt (length key) b at → length key ≤ 16 → (parts : PartsAt (node_at b at) key shared)
+    → Puts b b1 (leaf ∷ []) → (seen : List ℕ) → b1 at ≡ Some seen → Ready key seen shared parts.own
 split_ready b b1 at leaf key shared t few parts puts seen read =
     let was : IsSome (b at) = tree_live (suc (length key)) (length key) b at t in
     let here : b at ≡ Some seen = sym (puts.kept at was) ∙ read in
     let node = tree_node (suc (length key)) (length key) b at seen t here in
     let prefix : prefix_from seen ≡ parts.begin ++ parts.own ∷ parts.own_rest = sym (prefix_told (length key) seen node) ∙ ap prefix_in (sym (node_read b at seen here)) ∙ parts.prefix_is in
-    let long : length (prefix_from seen) ≡ shared + suc (length parts.own_rest) = ap length prefix ∙ length-append parts.begin (parts.own ∷ parts.own_rest) ∙ ap (λ n. n + suc (length parts.own_rest)) parts.many in
+    let long : length (prefix_from seen) ≡ shared + suc (length parts.own_rest) = ap length prefix ∙ length-append parts.begin (parts.own ∷ parts.own_rest)
+    ∙ ap (λ n. n + suc (length parts.own_rest)) parts.many in
     let room = parts_within (length key) seen node in
     let told = prefix_len (length key) seen node in
     let byte : get_or seen (2 + shared) 0 ≡ parts.own =
-    sym (get_or-take (slice_index seen 1) (drop 2 seen) shared 0 (omega arith) ∙ get_or-drop 2 seen shared 0) ∙ ap (λ p. get_or p shared 0) prefix ∙ get_or_at parts.begin parts.own parts.own_rest 0 shared parts.many in
+    sym (get_or-take (slice_index seen 1) (drop 2 seen) shared 0 (omega arith) ∙ get_or-drop 2 seen shared 0) ∙ ap (λ p. get_or p shared 0) prefix
+    ∙ get_or_at parts.begin parts.own parts.own_rest 0 shared parts.many in
     record { node = (length key, node, few); within = omega arith; from = omega arith; own_is = byte }
 
 -- what code splits
-pub split_done : (b b1 b2 b3 later : Blocks) (at leaf moved new : BlockRef) (key : List ℕ) (shared : ℕ) (value : BlockRef) → IsTreeAt (length key) b at → length key ≤ 16 → Owned (refs_at (length key) b at) b → (parts : PartsAt (node_at b at) key shared)
+pub split_done : (b b1 b2 b3 later : Blocks) (at leaf moved new : BlockRef) (key : List ℕ) (shared : ℕ) (value : BlockRef) → IsTreeAt (length key) b at → length key ≤ 16
+    → Owned (refs_at (length key) b at) b → (parts : PartsAt (node_at b at) key shared)
     → b leaf ≡ None → (first : List ℕ) → b1 ≡ with_block b leaf (Some first) → first ≡ spelled (Leaf (drop (shared + 1) key) value)
     → (seen again : List ℕ) → b1 at ≡ Some seen → b1 at ≡ Some again → (second : List ℕ) → second ≡ spelled (shortened_by (shared + 1) (node_of again))
     → b1 moved ≡ None → b2 ≡ with_block b1 moved (Some second) → (third : List ℕ) → third ≡ spelled (Inner (take shared key) (fork_links (get_or seen (2 + shared) 0) moved (get_or key shared 0) leaf))
     → b2 new ≡ None → b3 ≡ with_block b2 new (Some third) → later ≡ with_block b3 at None
     → ((i : ℕ) → get_or key i 0 < 256) → get_or seen (2 + shared) 0 < 256 → IsRef moved → IsRef leaf → IsRef value
     → Becomes (length key) b later at new (with_entry (entries_at (length key) b at) key value)
-split_done b b1 b2 b3 later at leaf moved new key shared value t few own parts fresh1 first put1 first_is seen again read reread second second_is fresh2 put2 third third_is fresh3 put3 ended small seen_small moved_ref leaf_ref valued =
+split_done b b1 b2 b3 later at leaf moved new key shared value t few own parts fresh1 first put1 first_is seen again read reread second second_is fresh2 put2 third third_is fresh3 put3
+    ended small seen_small moved_ref leaf_ref valued =
     let was : IsSome (b at) = tree_live (suc (length key)) (length key) b at t in
     let one_put : Puts b b1 (leaf ∷ []) = puts_more b b b1 [] leaf first (puts_none b) fresh1 put1 in
     let two_put : Puts b b2 (moved ∷ leaf ∷ []) = puts_more b b1 b2 (leaf ∷ []) moved second one_put fresh2 put2 in
@@ -265,17 +301,23 @@ split_done b b1 b2 b3 later at leaf moved new key shared value t few own parts f
     let begin : take shared key ≡ parts.begin = ap (take shared) parts.key_is ∙ take_at parts.begin (parts.other ∷ parts.other_rest) shared parts.many in
     let other : get_or key shared 0 ≡ parts.other = ap (λ k. get_or k shared 0) parts.key_is ∙ get_or_at parts.begin parts.other parts.other_rest 0 shared parts.many in
     let hangs : later leaf ≡ Some (spelled (Leaf parts.other_rest value)) =
-    ended_stays b b3 later at leaf first (put_stays b2 b3 new leaf third first (put_stays b1 b2 moved leaf second first (put_here b b1 leaf first put1) fresh2 put2) fresh3 put3) was fresh1 ended ∙ ap Some (first_is ∙ ap (λ k. spelled (Leaf k value)) rest) in
+    ended_stays b b3 later at leaf first (put_stays b2 b3 new leaf third first (put_stays b1 b2 moved leaf second first (put_here b b1 leaf first put1) fresh2 put2) fresh3 put3) was fresh1
+    ended ∙ ap Some (first_is ∙ ap (λ k. spelled (Leaf k value)) rest) in
     let moves : later moved ≡ Some (spelled (shortened_by (suc (length parts.begin)) (node_at b at))) =
     ended_stays b b3 later at moved second (put_stays b2 b3 new moved third second (put_here b1 b2 moved second put2) fresh3 put3) was (fresh_before b b1 moved (leaf ∷ []) one_put fresh2) ended
     ∙ ap Some (second_is ∙ ap (λ n. spelled (shortened_by n (node_of again))) next ∙ ap (λ m. spelled (shortened_by (suc (length parts.begin)) m)) node) in
     let stands : later new ≡ Some (spelled (Inner parts.begin (fork_links parts.own moved parts.other leaf))) =
     ended_stays b b3 later at new third (put_here b2 b3 new third put3) was (fresh_before b b2 new (moved ∷ leaf ∷ []) two_put fresh3) ended
-    ∙ ap Some (third_is ∙ ap (λ p. spelled (Inner p (fork_links (get_or seen (2 + shared) 0) moved (get_or key shared 0) leaf))) begin ∙ ap (λ e. spelled (Inner parts.begin (fork_links e moved (get_or key shared 0) leaf))) ready.own_is ∙ ap (λ e. spelled (Inner parts.begin (fork_links parts.own moved e leaf))) other) in
-    split_at b later at leaf moved new key shared value t own parts changed hangs moves stands (subst (λ e. e < 256) ready.own_is seen_small) (subst (λ e. e < 256) other (small shared)) moved_ref leaf_ref valued
+    ∙ ap Some
+    (third_is ∙ ap (λ p. spelled (Inner p (fork_links (get_or seen (2 + shared) 0) moved (get_or key shared 0) leaf))) begin
+    ∙ ap (λ e. spelled (Inner parts.begin (fork_links e moved (get_or key shared 0) leaf))) ready.own_is
+    ∙ ap (λ e. spelled (Inner parts.begin (fork_links parts.own moved e leaf))) other) in
+    split_at b later at leaf moved new key shared value t own parts changed hangs moves stands (subst (λ e. e < 256) ready.own_is seen_small) (subst (λ e. e < 256) other (small shared))
+    moved_ref leaf_ref valued
 
 -- two put blocks are given back
-pub undone_two : (b b1 b2 b3 b4 : Blocks) (leaf moved : BlockRef) (first second : List ℕ) → b leaf ≡ None → b1 ≡ with_block b leaf (Some first) → b1 moved ≡ None → b2 ≡ with_block b1 moved (Some second) → b3 ≡ with_block b2 moved None → b4 ≡ with_block b3 leaf None → b4 ≡ b
+pub undone_two : (b b1 b2 b3 b4 : Blocks) (leaf moved : BlockRef) (first second : List ℕ) → b leaf ≡ None → b1 ≡ with_block b leaf (Some first) → b1 moved ≡ None
+    → b2 ≡ with_block b1 moved (Some second) → b3 ≡ with_block b2 moved None → b4 ≡ with_block b3 leaf None → b4 ≡ b
 undone_two b b1 b2 b3 b4 leaf moved first second fresh1 put1 fresh2 put2 back1 back2 =
     let third : b3 ≡ b1 = back1 ∙ ap (λ m. with_block m moved None) put2 ∙ with_block-undone b1 moved (Some second) fresh2 in
     back2 ∙ ap (λ m. with_block m leaf None) (third ∙ put1) ∙ with_block-undone b leaf (Some first) fresh1

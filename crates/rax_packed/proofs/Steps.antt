@@ -54,16 +54,21 @@ module _ (b : Blocks) (at to : BlockRef) (bytes key : List ℕ) (place from : �
   child = link_below b at bytes key t read place from to leads
 
   -- what the node owns: its block, and the trees of its links
-  pub owns_are : refs_at (length key) b at ≡ owned_by at (refs_below (length key) b split.before) (refs_below (length key) b ((record { edge = split.edge; to = to }) ∷ [])) (refs_below (length key) b split.after)
+  pub owns_are : refs_at (length key) b at ≡ owned_by at (refs_below (length key) b split.before) (refs_below (length key) b ((record { edge = split.edge; to = to }) ∷ []))
+      (refs_below (length key) b split.after)
   owns_are =
       let links = split.before ++ (record { edge = split.edge; to = to }) ∷ split.after in
-      inner_refs (length key) b at split.prefix links (inner_node (length key) (length key) b at split.prefix links split.node) ∙ three_refs (length key) b at split.before ((record { edge = split.edge; to = to }) ∷ []) split.after
+      inner_refs (length key) b at split.prefix links (inner_node (length key) (length key) b at split.prefix links split.node)
+      ∙ three_refs (length key) b at split.before ((record { edge = split.edge; to = to }) ∷ []) split.after
 
   -- the tree's references are counted at the node, before the link, below it, and after it
-  pub times_owns : (r : BlockRef) → times r (refs_at (length key) b at) ≡ one r at + (times r (refs_below (length key) b split.before) + (times r (refs_at (length (drop from key)) b to) + times r (refs_below (length key) b split.after)))
+  pub times_owns : (r : BlockRef) → times r (refs_at (length key) b at) ≡ one r at +
+      (times r (refs_below (length key) b split.before) + (times r (refs_at (length (drop from key)) b to) + times r (refs_below (length key) b split.after)))
   times_owns r =
-      let middle : times r (refs_below (length key) b ((record { edge = split.edge; to = to }) ∷ [])) ≡ times r (refs_at (length (drop from key)) b to) = ap (times r) (append-nil (refs (length key) b to) ∙ sym child.refs_are) in
-      ap (times r) owns_are ∙ times-owned_by r at (refs_below (length key) b split.before) (refs_below (length key) b ((record { edge = split.edge; to = to }) ∷ [])) (refs_below (length key) b split.after)
+      let middle : times r (refs_below (length key) b ((record { edge = split.edge; to = to }) ∷ [])) ≡ times r (refs_at (length (drop from key)) b to) =
+      ap (times r) (append-nil (refs (length key) b to) ∙ sym child.refs_are) in
+      ap (times r) owns_are ∙ times-owned_by r at (refs_below (length key) b split.before) (refs_below (length key) b ((record { edge = split.edge; to = to }) ∷ []))
+      (refs_below (length key) b split.after)
       ∙ ap (λ m. one r at + (times r (refs_below (length key) b split.before) + (m + times r (refs_below (length key) b split.after)))) middle
 
   -- where the tree's references are owned, so are those of the tree below the link
@@ -84,7 +89,8 @@ module _ (b : Blocks) (at to : BlockRef) (bytes key : List ℕ) (place from : �
 
   -- the tree below has become another, and the node names it
   module _ (mid later : Blocks) (new : BlockRef) (es : List Entry) (own : Owned (refs_at (length key) b at) b) (below : Becomes (length (drop from key)) b mid to new es)
-      (now : List ℕ) (block : later at ≡ Some now) (holds : HoldsNode now (Inner split.prefix (split.before ++ (record { edge = split.edge; to = new }) ∷ split.after))) (ref : IsRef new) (others : (r : BlockRef) → ref_eq r at ≡ false → later r ≡ mid r) where
+      (now : List ℕ) (block : later at ≡ Some now) (holds : HoldsNode now (Inner split.prefix (split.before ++ (record { edge = split.edge; to = new }) ∷ split.after))) (ref : IsRef new)
+      (others : (r : BlockRef) → ref_eq r at ≡ false → later r ≡ mid r) where
     -- the tree that the link names now is the same with as many levels as the key has bytes
     lifted : SameLevels (suc (length (drop from key))) (length key) (length (drop from key)) mid new
     lifted = same_levels (suc (length (drop from key))) (length key) (length (drop from key)) mid new less_left below.tree
@@ -94,7 +100,8 @@ module _ (b : Blocks) (at to : BlockRef) (bytes key : List ℕ) (place from : �
     graft = record {
       node = split.node;
       own = own;
-      below = subst (λ xs. Changes b mid xs (refs (length key) mid new ++ [])) (child.refs_are ∙ sym (append-nil (refs (length key) b to))) (subst (Changes b mid (refs_at (length (drop from key)) b to)) (sym lifted.refs_are ∙ sym (append-nil (refs (length key) mid new))) below.changes);
+      below = subst (λ xs. Changes b mid xs (refs (length key) mid new ++ [])) (child.refs_are ∙ sym (append-nil (refs (length key) b to)))
+          (subst (Changes b mid (refs_at (length (drop from key)) b to)) (sym lifted.refs_are ∙ sym (append-nil (refs (length key) mid new))) below.changes);
       trees = (subst (λ m. IsTree (length key) m mid new) left_is lifted.tree, tt);
       bytes = now;
       block = block;
@@ -116,15 +123,21 @@ module _ (b : Blocks) (at to : BlockRef) (bytes key : List ℕ) (place from : �
     step_changes = done.changes
 
     -- the entries below the link are the new tree's, between those before and after it as they were
-    pub step_entries : entries_at (length key) later at ≡ below_links split.prefix (entries (length key) b) split.before ++ (map (under (split.prefix ++ split.edge ∷ [])) es ++ below_links split.prefix (entries (length key) b) split.after)
+    pub step_entries : entries_at (length key) later at ≡ below_links split.prefix (entries (length key) b) split.before
+        ++ (map (under (split.prefix ++ split.edge ∷ [])) es ++ below_links split.prefix (entries (length key) b) split.after)
     step_entries =
         done.entries_are ∙ ap (λ xs. below_links split.prefix (entries (length key) b) split.before ++ (xs ++ below_links split.prefix (entries (length key) b) split.after))
         (append-nil (map (under (split.prefix ++ split.edge ∷ [])) (entries (length key) mid new)) ∙ ap (map (under (split.prefix ++ split.edge ∷ []))) (lifted.entries_are ∙ below.entries_are))
 
     -- the marks are the node's own, and those of the new tree between the ones before and after it as they were
-    pub step_marks : marks_at (length key) later at ≡ (record { least = first_key (entries_at (length key) later at); at = at }) ∷ (marks_below split.prefix (marks (length key) b) split.before ++ (map (mark_under (split.prefix ++ split.edge ∷ [])) (marks_at (length (drop from key)) mid new) ++ marks_below split.prefix (marks (length key) b) split.after))
+    pub step_marks : marks_at (length key) later at ≡ (record { least = first_key (entries_at (length key) later at); at = at })
+        ∷
+        (marks_below split.prefix (marks (length key) b) split.before
+        ++ (map (mark_under (split.prefix ++ split.edge ∷ [])) (marks_at (length (drop from key)) mid new) ++ marks_below split.prefix (marks (length key) b) split.after))
     step_marks =
-        done.marks_are ∙ ap (λ xs. (record { least = first_key (entries_at (length key) later at); at = at }) ∷ (marks_below split.prefix (marks (length key) b) split.before ++ (xs ++ marks_below split.prefix (marks (length key) b) split.after)))
+        done.marks_are ∙ ap
+        (λ xs. (record { least = first_key (entries_at (length key) later at); at = at })
+        ∷ (marks_below split.prefix (marks (length key) b) split.before ++ (xs ++ marks_below split.prefix (marks (length key) b) split.after)))
         (append-nil (map (mark_under (split.prefix ++ split.edge ∷ [])) (marks (length key) mid new)) ∙ ap (map (mark_under (split.prefix ++ split.edge ∷ []))) lifted.marks_are)
 
   -- the entries of the tree are those below the node's links
@@ -134,7 +147,10 @@ module _ (b : Blocks) (at to : BlockRef) (bytes key : List ℕ) (place from : �
       inner_entries (length key) b at split.prefix links (inner_node (length key) (length key) b at split.prefix links split.node)
 
   -- the entries with a value at the key have it at the key's rest among those below the link
-  pub step_with : (value : BlockRef) → with_entry (entries_at (length key) b at) key value ≡ below_links split.prefix (entries (length key) b) split.before ++ (map (under (split.prefix ++ split.edge ∷ [])) (with_entry (entries_at (length (drop from key)) b to) (drop from key) value) ++ below_links split.prefix (entries (length key) b) split.after)
+  pub step_with : (value : BlockRef) → with_entry (entries_at (length key) b at) key value ≡ below_links split.prefix (entries (length key) b) split.before
+      ++
+      (map (under (split.prefix ++ split.edge ∷ [])) (with_entry (entries_at (length (drop from key)) b to) (drop from key) value)
+      ++ below_links split.prefix (entries (length key) b) split.after)
   step_with value =
       ap (λ es. with_entry es key value) old_entries
       ∙ ap (λ k. with_entry (below_links split.prefix (entries (length key) b) (split.before ++ (record { edge = split.edge; to = to }) ∷ split.after)) k value) split.key_is
@@ -143,7 +159,9 @@ module _ (b : Blocks) (at to : BlockRef) (bytes key : List ℕ) (place from : �
       (ap (λ es. with_entry es split.below value) (sym child.entries_are) ∙ ap (λ k. with_entry (entries_at (length (drop from key)) b to) k value) (sym below_is))
 
   -- the entries without the key are those without the key's rest below the link, and all others
-  pub step_without : without (entries_at (length key) b at) key ≡ below_links split.prefix (entries (length key) b) split.before ++ (map (under (split.prefix ++ split.edge ∷ [])) (without (entries_at (length (drop from key)) b to) (drop from key)) ++ below_links split.prefix (entries (length key) b) split.after)
+  pub step_without : without (entries_at (length key) b at) key ≡ below_links split.prefix (entries (length key) b) split.before
+      ++
+      (map (under (split.prefix ++ split.edge ∷ [])) (without (entries_at (length (drop from key)) b to) (drop from key)) ++ below_links split.prefix (entries (length key) b) split.after)
   step_without =
       ap (λ es. without es key) old_entries
       ∙ ap (λ k. without (below_links split.prefix (entries (length key) b) (split.before ++ (record { edge = split.edge; to = to }) ∷ split.after)) k) split.key_is
@@ -156,7 +174,9 @@ module _ (b : Blocks) (at to : BlockRef) (bytes key : List ℕ) (place from : �
   ref_to = all-middle (λ l. IsRef l.to) split.before split.after (record { edge = split.edge; to = to }) split.node.inner.refs
 
   -- where the tree below has come to hold the value under the same reference, so has the tree
-  pub set_link : (mid : Blocks) (value : BlockRef) → Owned (refs_at (length key) b at) b → Becomes (length (drop from key)) b mid to to (with_entry (entries_at (length (drop from key)) b to) (drop from key) value) → Becomes (length key) b mid at at (with_entry (entries_at (length key) b at) key value)
+  pub set_link : (mid : Blocks) (value : BlockRef) → Owned (refs_at (length key) b at) b
+      → Becomes (length (drop from key)) b mid to to (with_entry (entries_at (length (drop from key)) b to) (drop from key) value)
+      → Becomes (length key) b mid at at (with_entry (entries_at (length key) b at) key value)
   set_link mid value own below =
       let es = with_entry (entries_at (length (drop from key)) b to) (drop from key) value in
       let block : mid at ≡ Some split.node.bytes = kept_block mid (refs_at (length (drop from key)) mid to) own below.changes ∙ split.node.block in
@@ -167,7 +187,8 @@ module _ (b : Blocks) (at to : BlockRef) (bytes key : List ℕ) (place from : �
       }
 
 -- a leaf's value written anew
-pub set_leaf : (b after : Blocks) (at old value : BlockRef) (bytes key : List ℕ) → IsTreeAt (length key) b at → Owned (refs_at (length key) b at) b → b at ≡ Some bytes → node_of bytes ≡ Leaf key old → IsRef value
+pub set_leaf : (b after : Blocks) (at old value : BlockRef) (bytes key : List ℕ) → IsTreeAt (length key) b at → Owned (refs_at (length key) b at) b → b at ≡ Some bytes
+    → node_of bytes ≡ Leaf key old → IsRef value
     → after ≡ with_block b at (Some (overwritten (bytes_at b at) (2 + length key) (ref_bytes value))) → Becomes (length key) b after at at (with_entry (entries_at (length key) b at) key value)
 unfolding with_entry
 set_leaf b after at old value bytes key t own read is fits written =
@@ -176,7 +197,8 @@ set_leaf b after at old value bytes key t own read is fits written =
     let stood : bytes_at b at ≡ leaf.bytes = ap (λ o. unwrap_or o []) leaf.block in
     let now : LeafAt (length key) after at key value = record {
       bytes = overwritten leaf.bytes (2 + length key) (ref_bytes value);
-      block = ap (λ m. m at) written ∙ with_block-same b at (Some (overwritten (bytes_at b at) (2 + length key) (ref_bytes value))) ∙ ap (λ xs. Some (overwritten xs (2 + length key) (ref_bytes value))) stood;
+      block = ap (λ m. m at) written ∙ with_block-same b at (Some (overwritten (bytes_at b at) (2 + length key) (ref_bytes value)))
+          ∙ ap (λ xs. Some (overwritten xs (2 + length key) (ref_bytes value))) stood;
       holds = revalued_bytes leaf.bytes key old value leaf.holds;
       fits = (refl, fits);
     } in
@@ -194,7 +216,9 @@ set_leaf b after at old value bytes key t own read is fits written =
           ∙ ap (λ xs. xs ++ (record { key = key; value = value }) ∷ cond (is_gt (order key key)) ((record { key = key; value = old }) ∷ []) []) (cond-false _ _ _ (ap is_lt same))
           ∙ ap (λ xs. (record { key = key; value = value }) ∷ xs) (cond-false _ _ _ (ap is_gt same)));
       changes = subst (λ xs. Changes b after xs (refs_at (length key) after at)) (sym old_refs) (subst (Changes b after (at ∷ [])) (sym new_refs)
-          (Changes-counted b after (at ∷ []) (at ∷ []) alone (Counts-written b after at (overwritten (bytes_at b at) (2 + length key) (ref_bytes value)) (at ∷ []) (at ∷ []) (subst (λ o. IsSome o) (sym leaf.block) refl) written (omega (arith, here)) (λ r. refl))));
+          (Changes-counted b after (at ∷ []) (at ∷ []) alone
+          (Counts-written b after at (overwritten (bytes_at b at) (2 + length key) (ref_bytes value)) (at ∷ []) (at ∷ []) (subst (λ o. IsSome o) (sym leaf.block) refl) written
+          (omega (arith, here)) (λ r. refl))));
     }
 
 -- the node's block after a link of a key's way was written anew
@@ -204,9 +228,11 @@ pub record LinkWritten (mid later : Blocks) (at new : BlockRef) (prefix : List �
   pub holds : HoldsNode now (Inner prefix (before ++ (record { edge = edge; to = new }) ∷ after))
   pub others : (r : BlockRef) → ref_eq r at ≡ false → later r ≡ mid r
 
-module _ (b mid later : Blocks) (at to new : BlockRef) (bytes key : List ℕ) (place from : ℕ) (es : List Entry) (t : IsTreeAt (length key) b at) (read : b at ≡ Some bytes) (leads : LeadsTo (node_of bytes) key place from to) (own : Owned (refs_at (length key) b at) b)
+module _ (b mid later : Blocks) (at to new : BlockRef) (bytes key : List ℕ) (place from : ℕ) (es : List Entry) (t : IsTreeAt (length key) b at) (read : b at ≡ Some bytes)
+    (leads : LeadsTo (node_of bytes) key place from to) (own : Owned (refs_at (length key) b at) b)
     (below : Becomes (length (drop from key)) b mid to new es) (ref : IsRef new)
-    (written : (offset : ℕ) → offset ≡ 4 + length (prefix_in (node_of (bytes_at mid at))) + length (links_in (node_of (bytes_at mid at))) + 12 * place → later ≡ with_block mid at (Some (overwritten (bytes_at mid at) offset (ref_bytes new)))) where
+    (written : (offset : ℕ) → offset ≡ 4 + length (prefix_in (node_of (bytes_at mid at))) + length (links_in (node_of (bytes_at mid at))) + 12 * place
+    → later ≡ with_block mid at (Some (overwritten (bytes_at mid at) offset (ref_bytes new)))) where
   -- the parts of the node and of the key at the link
   abbrev pub s : Split b at key place from to (length key) (length key)
   s = split b at to bytes key place from t read leads
@@ -220,7 +246,8 @@ module _ (b mid later : Blocks) (at to new : BlockRef) (bytes key : List ℕ) (p
       let node : node_of (bytes_at mid at) ≡ Inner s.prefix links = ap node_of stood ∙ node_told (length key) s.node.bytes (Inner s.prefix links) s.node.holds s.node.inner in
       let offset = 4 + length s.prefix + length links + 12 * length s.before in
       let at_offset : offset ≡ 4 + length (prefix_in (node_of (bytes_at mid at))) + length (links_in (node_of (bytes_at mid at))) + 12 * place =
-      ap (λ n. 4 + length (prefix_in n) + length (links_in n) + 12 * length s.before) (sym node) ∙ ap (λ m. 4 + length (prefix_in (node_of (bytes_at mid at))) + length (links_in (node_of (bytes_at mid at))) + 12 * m) s.many in
+      ap (λ n. 4 + length (prefix_in n) + length (links_in n) + 12 * length s.before) (sym node)
+      ∙ ap (λ m. 4 + length (prefix_in (node_of (bytes_at mid at))) + length (links_in (node_of (bytes_at mid at))) + 12 * m) s.many in
       let is = written offset at_offset in
       record {
         now = overwritten s.node.bytes offset (ref_bytes new);
@@ -234,7 +261,8 @@ module _ (b mid later : Blocks) (at to new : BlockRef) (bytes key : List ℕ) (p
   link_tree = step_tree b at to bytes key place from t read leads mid later new es own below link_written.now link_written.block link_written.holds ref link_written.others
 
   -- after the link was written anew, the entries below it are the new tree's, and all others as they were
-  pub link_entries : entries_at (length key) later at ≡ below_links s.prefix (entries (length key) b) s.before ++ (map (under (s.prefix ++ s.edge ∷ [])) es ++ below_links s.prefix (entries (length key) b) s.after)
+  pub link_entries : entries_at (length key) later at ≡ below_links s.prefix (entries (length key) b) s.before
+      ++ (map (under (s.prefix ++ s.edge ∷ [])) es ++ below_links s.prefix (entries (length key) b) s.after)
   link_entries = step_entries b at to bytes key place from t read leads mid later new es own below link_written.now link_written.block link_written.holds ref link_written.others
 
   -- by the writing of the link the tree's references have become those that it has now, and no other block changed
@@ -242,13 +270,19 @@ module _ (b mid later : Blocks) (at to new : BlockRef) (bytes key : List ℕ) (p
   link_changes = step_changes b at to bytes key place from t read leads mid later new es own below link_written.now link_written.block link_written.holds ref link_written.others
 
   -- after the link was written anew, the marks below it are the new tree's, and all others below as they were
-  pub link_marks : marks_at (length key) later at ≡ (record { least = first_key (entries_at (length key) later at); at = at }) ∷ (marks_below s.prefix (marks (length key) b) s.before ++ (map (mark_under (s.prefix ++ s.edge ∷ [])) (marks_at (length (drop from key)) mid new) ++ marks_below s.prefix (marks (length key) b) s.after))
+  pub link_marks : marks_at (length key) later at ≡ (record { least = first_key (entries_at (length key) later at); at = at })
+      ∷
+      (marks_below s.prefix (marks (length key) b) s.before ++
+      (map (mark_under (s.prefix ++ s.edge ∷ [])) (marks_at (length (drop from key)) mid new) ++ marks_below s.prefix (marks (length key) b) s.after))
   link_marks = step_marks b at to bytes key place from t read leads mid later new es own below link_written.now link_written.block link_written.holds ref link_written.others
 
 -- where the tree below holds the value at another reference, and the link names that now, the tree holds the value
-pub add_link : (b mid later : Blocks) (at to new : BlockRef) (bytes key : List ℕ) (place from : ℕ) (value : BlockRef) (t : IsTreeAt (length key) b at) (read : b at ≡ Some bytes) (leads : LeadsTo (node_of bytes) key place from to) → Owned (refs_at (length key) b at) b
+pub add_link : (b mid later : Blocks) (at to new : BlockRef) (bytes key : List ℕ) (place from : ℕ) (value : BlockRef) (t : IsTreeAt (length key) b at) (read : b at ≡ Some bytes)
+    (leads : LeadsTo (node_of bytes) key place from to) → Owned (refs_at (length key) b at) b
     → Becomes (length (drop from key)) b mid to new (with_entry (entries_at (length (drop from key)) b to) (drop from key) value) → IsRef new
-    → ((offset : ℕ) → offset ≡ 4 + length (prefix_in (node_of (bytes_at mid at))) + length (links_in (node_of (bytes_at mid at))) + 12 * place → later ≡ with_block mid at (Some (overwritten (bytes_at mid at) offset (ref_bytes new))))
+    →
+    ((offset : ℕ) → offset ≡ 4 + length (prefix_in (node_of (bytes_at mid at))) + length (links_in (node_of (bytes_at mid at))) + 12 * place
+    → later ≡ with_block mid at (Some (overwritten (bytes_at mid at) offset (ref_bytes new))))
     → Becomes (length key) b later at at (with_entry (entries_at (length key) b at) key value)
 add_link b mid later at to new bytes key place from value t read leads own below ref written =
     let es = with_entry (entries_at (length (drop from key)) b to) (drop from key) value in
@@ -265,7 +299,8 @@ pub record LinkReady (mid : Blocks) (at : BlockRef) (place : ℕ) : Type 0 where
   pub within : place < length (links_in (node_of (bytes_at mid at)))
 
 -- while the node's block is as it was, the link of a key's way may be written anew
-pub link_ready : (b mid : Blocks) (at to : BlockRef) (bytes key : List ℕ) (place from : ℕ) (t : IsTreeAt (length key) b at) (read : b at ≡ Some bytes) (leads : LeadsTo (node_of bytes) key place from to) → length key ≤ 16 → mid at ≡ b at → LinkReady mid at place
+pub link_ready : (b mid : Blocks) (at to : BlockRef) (bytes key : List ℕ) (place from : ℕ) (t : IsTreeAt (length key) b at) (read : b at ≡ Some bytes)
+    (leads : LeadsTo (node_of bytes) key place from to) → length key ≤ 16 → mid at ≡ b at → LinkReady mid at place
 link_ready b mid at to bytes key place from t read leads few same =
     let s = split b at to bytes key place from t read leads in
     let links = s.before ++ (record { edge = s.edge; to = to }) ∷ s.after in
@@ -273,6 +308,14 @@ link_ready b mid at to bytes key place from t read leads few same =
     let node : node_of (bytes_at mid at) ≡ Inner s.prefix links = ap node_of stood ∙ node_told (length key) s.node.bytes (Inner s.prefix links) s.node.holds s.node.inner in
     record {
       live = subst (λ o. IsSome o) (sym (same ∙ s.node.block)) refl;
-      inner = record { rest = length key; few = few; node = subst (IsNode (length key)) (sym stood) (tree_node (suc (length key)) (length key) b at s.node.bytes t s.node.block); prefix = s.prefix; links = links; is = node };
+      inner = record {
+        rest = length key;
+        few = few;
+        node = subst (IsNode (length key)) (sym stood) (tree_node (suc (length key)) (length key) b at s.node.bytes t s.node.block);
+        prefix =
+            s.prefix;
+        links = links;
+        is = node;
+      };
       within = omega (arith, ap (λ n. length (links_in n)) node, s.many, length-append s.before ((record { edge = s.edge; to = to }) ∷ s.after));
     }

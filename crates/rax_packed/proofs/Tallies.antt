@@ -48,13 +48,15 @@ same_many (x ∷ xs) ys same =
     omega (arith, rest, less_length x ys some)
 
 -- where some references went and others came, an owner has as many more as came, less those that went
-pub many : (b after : Blocks) (xs ys old new : List BlockRef) → Owned xs b → Changes b after xs ys → ((r : BlockRef) → live after r + times r old ≡ live b r + times r new) → length ys + length old ≡ length xs + length new
+pub many : (b after : Blocks) (xs ys old new : List BlockRef) → Owned xs b → Changes b after xs ys → ((r : BlockRef) → live after r + times r old ≡ live b r + times r new)
+    → length ys + length old ≡ length xs + length new
 many b after xs ys old new own p told =
     let all = same_many (ys ++ old) (xs ++ new) (λ r. omega (arith, times-append r ys old, times-append r xs new, (Counts-changed b after xs ys own p).balance r, told r)) in
     omega (arith, all, length-append ys old, length-append xs new)
 
 -- the same where a part of what it owned has changed, and then nothing went or came
-pub step_many : (b mid later : Blocks) (xs ys old new : List BlockRef) → Owned xs b → Changes b later xs ys → Owned old b → Changes b mid old new → ((r : BlockRef) → live later r ≡ live mid r) → length ys + length old ≡ length xs + length new
+pub step_many : (b mid later : Blocks) (xs ys old new : List BlockRef) → Owned xs b → Changes b later xs ys → Owned old b → Changes b mid old new
+    → ((r : BlockRef) → live later r ≡ live mid r) → length ys + length old ≡ length xs + length new
 step_many b mid later xs ys old new own p part q same =
     many b later xs ys old new own p (λ r. omega (arith, same r, (Counts-changed b mid old new part q).balance r))
 

@@ -1,5 +1,6 @@
 -- The steps of a seek.
-use Rattle.std.proofs.Common.{◌≡◌, ◌≢◌, ◌∙◌, ℕ, zero, suc, ◌+◌, ◌*◌, ◌-◌, ◌<◌, ◌≤◌, Bool, true, false, List, [], ◌∷◌, ◌++◌, length, take, drop, get_or, Option, Some, None, refl, sym, ap, subst, arith, append_assoc}
+use Rattle.std.proofs.Common.{◌≡◌, ◌≢◌, ◌∙◌, ℕ, zero, suc, ◌+◌, ◌*◌, ◌-◌, ◌<◌, ◌≤◌, Bool, true, false, List, [], ◌∷◌, ◌++◌, length, take, drop, get_or, Option, Some, None, refl, sym, ap}
+use Rattle.std.proofs.Common.{subst, arith, append_assoc}
 use Rattle.std.proofs.lemmas.List.{append-nil, take_all, take_more_set}
 use Rattle.std.proofs.lemmas.List.Edits.{take-paste, length-paste}
 use Rattle.std.proofs.lemmas.Slice.{put_mid-paste}
@@ -29,7 +30,8 @@ pub stepped_path : (path prefix piece : List ℕ) (depth edge : ℕ) → piece �
     → take (depth + length prefix + 1) (slice_set (put_mid depth (depth + length prefix - depth) path piece) (depth + length prefix) edge) ≡ take depth path ++ (prefix ++ edge ∷ [])
 stepped_path path prefix piece depth edge is within =
     let width : length prefix ≡ depth + length prefix - depth = omega arith in
-    let pasted : put_mid depth (depth + length prefix - depth) path piece ≡ paste path depth prefix (length prefix) = put_mid-paste depth (depth + length prefix - depth) path piece prefix (length prefix) is width refl in
+    let pasted : put_mid depth (depth + length prefix - depth) path piece ≡ paste path depth prefix (length prefix) =
+    put_mid-paste depth (depth + length prefix - depth) path piece prefix (length prefix) is width refl in
     let long : length (paste path depth prefix (length prefix)) ≡ length path = length-paste path depth prefix (length prefix) (omega arith) (omega arith) in
     ap (λ xs. take (depth + length prefix + 1) (slice_set xs (depth + length prefix) edge)) pasted
     ∙ take_more_set (paste path depth prefix (length prefix)) (depth + length prefix) edge (omega (arith, long))
@@ -51,8 +53,11 @@ past (l ∷ links) zero h = absurd (omega arith)
 past (l ∷ links) (suc k) h = past links k (omega arith)
 
 -- what is read of the link
-pub turned : (up : Bool) (bytes : List ℕ) (place at depth : ℕ) (path prefix edges refs : List ℕ) (turn : Turn) → IsInnerBytes bytes → IsChosen up (length (links_in (node_of bytes))) place (Some at) → prefix ≡ prefix_in (node_of bytes) → edges ≡ edges_of (links_in (node_of bytes)) → refs ≡ refs_bytes (links_in (node_of bytes))
-    → turn.to ≡ ref_from (drop (12 * at) refs) → turn.depth ≡ depth + length prefix + 1 → take turn.depth turn.path ≡ take depth path ++ (prefix ++ slice_index edges at ∷ []) → Turns up (node_of bytes) place depth path turn
+pub turned : (up : Bool) (bytes : List ℕ) (place at depth : ℕ) (path prefix edges refs : List ℕ) (turn : Turn) → IsInnerBytes bytes
+    → IsChosen up (length (links_in (node_of bytes))) place (Some at) → prefix ≡ prefix_in (node_of bytes) → edges ≡ edges_of (links_in (node_of bytes))
+    → refs ≡ refs_bytes (links_in (node_of bytes))
+    → turn.to ≡ ref_from (drop (12 * at) refs) → turn.depth ≡ depth + length prefix + 1 → take turn.depth turn.path ≡ take depth path ++ (prefix ++ slice_index edges at ∷ [])
+    → Turns up (node_of bytes) place depth path turn
 turned up bytes place at depth path prefix edges refs turn told chosen prefix_is edges_is refs_is to depth_is path_is =
     let inner = inner_told bytes told in
     let links = links_in (node_of bytes) in
@@ -97,7 +102,8 @@ read_at n b at bytes t read told =
     let is = node_read b at bytes read in
     record { node_is = is; prefix = told.prefix; links = told.links; is = told.is; node = inner_at n n b at told.prefix told.links t (is ∙ told.is) }
 
-module _ (up : Bool) (n depth place : ℕ) (b : Blocks) (at : BlockRef) (bytes path : List ℕ) (turn : Turn) (r : ReadAt n b at bytes) (turns : Turns up (node_of bytes) place depth path turn) (level : n ≡ 16 - depth) where
+module _ (up : Bool) (n depth place : ℕ) (b : Blocks) (at : BlockRef) (bytes path : List ℕ) (turn : Turn) (r : ReadAt n b at bytes) (turns : Turns up (node_of bytes) place depth path turn)
+    (level : n ≡ 16 - depth) where
   next : beside up r.links place ≡ Some turns.link
   next = ap (λ m. beside up (links_in m) place) (sym r.is) ∙ turns.is
 
@@ -119,13 +125,15 @@ module _ (up : Bool) (n depth place : ℕ) (b : Blocks) (at : BlockRef) (bytes p
   turn_within = (let short = r.node.inner.short in omega (arith, turns.depth_is, ap length width, level))
 
   -- what is found there is the end of all on that side
-  pub turn_found : (k : List ℕ) → Some k ≡ option_map (λ e. take turn.depth turn.path ++ e.key) (end_of up (entries_at (16 - turn.depth) b turn.to)) → Some k ≡ option_map (λ e. take depth path ++ e.key) (end_of up (entries_in (entries n b) (aside up place (node_at b at))))
+  pub turn_found : (k : List ℕ) → Some k ≡ option_map (λ e. take turn.depth turn.path ++ e.key) (end_of up (entries_at (16 - turn.depth) b turn.to))
+      → Some k ≡ option_map (λ e. take depth path ++ e.key) (end_of up (entries_in (entries n b) (aside up place (node_at b at))))
   turn_found k found =
       let begin = r.prefix ++ turns.link.edge ∷ [] in
       let es = entries n b turns.link.to in
       let here : end_of up (entries_at (16 - turn.depth) b turn.to) ≡ end_of up es = ap (end_of up) (turn_named.entries_are ∙ ap (entries n b) turns.to_is) in
       let behind : Some k ≡ option_map (λ e. (take depth path ++ begin) ++ e.key) (end_of up es) =
-      found ∙ ap (option_map (λ e. take turn.depth turn.path ++ e.key)) here ∙ ap (λ front. option_map (λ e. front ++ e.key) (end_of up es)) (turns.path_is ∙ ap (λ p. take depth path ++ (p ++ turns.link.edge ∷ [])) width) in
+      found ∙ ap (option_map (λ e. take turn.depth turn.path ++ e.key)) here
+      ∙ ap (λ front. option_map (λ e. front ++ e.key) (end_of up es)) (turns.path_is ∙ ap (λ p. take depth path ++ (p ++ turns.link.edge ∷ [])) width) in
       let side = side_end up r.prefix (λ l. entries n b l.to) r.links place turns.link next in
       found_under (take depth path) begin k (end_of up es) side.0 behind
       ∙ ap (option_map (λ e. take depth path ++ e.key)) (sym side.1 ∙ sym (ap (end_of up) (aside_entries up)))
@@ -135,7 +143,8 @@ module _ (up : Bool) (n depth place : ℕ) (b : Blocks) (at : BlockRef) (bytes p
       aside_entries false = ap (λ m. entries_in (entries n b) (aside false place m)) (r.node_is ∙ r.is)
 
 -- nothing stands on that side
-pub turn_none : (up : Bool) (n depth place : ℕ) (b : Blocks) (at : BlockRef) (bytes path : List ℕ) → ReadAt n b at bytes → place ≤ length (links_in (node_of bytes)) → beside up (links_in (node_of bytes)) place ≡ None
+pub turn_none : (up : Bool) (n depth place : ℕ) (b : Blocks) (at : BlockRef) (bytes path : List ℕ) → ReadAt n b at bytes → place ≤ length (links_in (node_of bytes))
+    → beside up (links_in (node_of bytes)) place ≡ None
     → None ≡ option_map (λ e. take depth path ++ e.key) (end_of up (entries_in (entries n b) (aside up place (node_at b at))))
 turn_none up n depth place b at bytes path r within none =
     let few : place ≤ length r.links = omega (arith, ap (λ m. length (links_in m)) r.is) in
@@ -143,11 +152,16 @@ turn_none up n depth place b at bytes path r within none =
     by_side up empty
   where
     by_side : (u : Bool) → side_links u place r.links ≡ [] → None ≡ option_map (λ e. take depth path ++ e.key) (end_of u (entries_in (entries n b) (aside u place (node_at b at))))
-    by_side true e = sym (ap (λ m. option_map (λ e. take depth path ++ e.key) (first_of (entries_in (entries n b) (aside true place m)))) (r.node_is ∙ r.is) ∙ ap (λ ls. option_map (λ e. take depth path ++ e.key) (first_of (below_links r.prefix (entries n b) ls))) e)
-    by_side false e = sym (ap (λ m. option_map (λ e. take depth path ++ e.key) (last_of (entries_in (entries n b) (aside false place m)))) (r.node_is ∙ r.is) ∙ ap (λ ls. option_map (λ e. take depth path ++ e.key) (last_of (below_links r.prefix (entries n b) ls))) e)
+    by_side true e = sym
+        (ap (λ m. option_map (λ e. take depth path ++ e.key) (first_of (entries_in (entries n b) (aside true place m)))) (r.node_is ∙ r.is)
+        ∙ ap (λ ls. option_map (λ e. take depth path ++ e.key) (first_of (below_links r.prefix (entries n b) ls))) e)
+    by_side false e = sym
+        (ap (λ m. option_map (λ e. take depth path ++ e.key) (last_of (entries_in (entries n b) (aside false place m)))) (r.node_is ∙ r.is)
+        ∙ ap (λ ls. option_map (λ e. take depth path ++ e.key) (last_of (below_links r.prefix (entries n b) ls))) e)
 
 -- the one entry of a leaf is at both ends
-pub leaf_end : (up : Bool) (n : ℕ) (b : Blocks) (at value : BlockRef) (prefix : List ℕ) → node_at b at ≡ Leaf prefix value → end_of up (entries_at n b at) ≡ Some (record { key = prefix; value = value })
+pub leaf_end : (up : Bool) (n : ℕ) (b : Blocks) (at value : BlockRef) (prefix : List ℕ) → node_at b at ≡ Leaf prefix value
+    → end_of up (entries_at n b at) ≡ Some (record { key = prefix; value = value })
 leaf_end true n b at value prefix is = ap first_of (leaf_entries n b at prefix value is)
 leaf_end false n b at value prefix is = ap last_of (leaf_entries n b at prefix value is)
 
@@ -175,6 +189,7 @@ near_some false links (suc place) some h e = let bad : ◌≡◌ {A = Option Lin
     d : Link
     d = record { edge = 0; to = record { slab = 0; slot = 0 } }
 
-pub whole_entries : (up : Bool) (n : ℕ) (b : Blocks) (at : BlockRef) (front : List ℕ) → option_map (λ e. front ++ e.key) (end_of up (entries_in (entries n b) (node_at b at))) ≡ option_map (λ e. front ++ e.key) (end_of up (entries_at n b at))
+pub whole_entries : (up : Bool) (n : ℕ) (b : Blocks) (at : BlockRef) (front : List ℕ)
+    → option_map (λ e. front ++ e.key) (end_of up (entries_in (entries n b) (node_at b at))) ≡ option_map (λ e. front ++ e.key) (end_of up (entries_at n b at))
 unfolding entries
 whole_entries up n b at front = refl

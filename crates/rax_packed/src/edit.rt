@@ -22,7 +22,9 @@ pub(crate) fn set_below<B: BlockStore>(
     ensures old { result ≡ value_at (entries_at (length rest.now) (B.blocks store.old) at) rest.now }
     ensures set { IfSome result (λ old. Becomes (length rest.now) (B.blocks store.old) (B.blocks store.new) at at
         (with_entry (entries_at (length rest.now) (B.blocks store.old) at) rest.now value)) }
-    ensures keys { IfSome result (λ old. map (λ e. e.key) (with_entry (entries_at (length rest.now) (B.blocks store.old) at) rest.now value) ≡ map (λ e. e.key) (entries_at (length rest.now) (B.blocks store.old) at)) }
+    ensures keys { IfSome result
+        (λ old. map (λ e. e.key) (with_entry (entries_at (length rest.now) (B.blocks store.old) at) rest.now value) ≡ map (λ e. e.key)
+        (entries_at (length rest.now) (B.blocks store.old) at)) }
     ensures marks { IfSome result (λ old. marks_at (length rest.now) (B.blocks store.new) at ≡ marks_at (length rest.now) (B.blocks store.old) at) }
     ensures slabs { B.heap store.new ≡ B.heap store.old }
     ensures stays { (r : Reference) → live (B.blocks store.new) r ≡ live (B.blocks store.old) r }

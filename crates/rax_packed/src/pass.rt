@@ -103,7 +103,8 @@ fn pass_rest<B: BlockStore>(
     requires tree { IsTreeAt (16 - depth) (B.blocks store.now) at }
     requires place { place ≤ length (links_in (node_at (B.blocks store.now) at)) }
     requires few { nodes ≤ depth + 1 }
-    ensures { going pass.new ≡ pass_over (going pass.old) (map (cost_under (take depth path.now)) (costs_in (costs (16 - depth) (B.blocks store.now)) nodes (aside true place (node_at (B.blocks store.now) at)))) }
+    ensures { going pass.new ≡ pass_over (going pass.old)
+        (map (cost_under (take depth path.now)) (costs_in (costs (16 - depth) (B.blocks store.now)) nodes (aside true place (node_at (B.blocks store.now) at)))) }
 {
     let bytes = store.bytes(at);
     if bytes[0] == 0 {

@@ -143,7 +143,8 @@ followed-exact one next e f = record {
   first = λ bytes kind left h.
       elim h [
         | inl a ↦ bind_fault (one.read bytes) (kind, left) (λ x. (next x.0).read x.1) (e.first bytes kind left a)
-        | inr a ↦ ap (λ (z : List ℕ). one.read z >>= λ x. (next x.0).read x.1) a.3 ∙ bind_is (one.read (a.1 ++ a.2)) (a.0, a.2) (λ x. (next x.0).read x.1) (e.again a.0 a.1 a.2 a.4) ∙ (f a.0).first a.2 kind left a.5
+        | inr a ↦ ap (λ (z : List ℕ). one.read z >>= λ x. (next x.0).read x.1) a.3 ∙ bind_is (one.read (a.1 ++ a.2)) (a.0, a.2) (λ x. (next x.0).read x.1) (e.again a.0 a.1 a.2 a.4)
+            ∙ (f a.0).first a.2 kind left a.5
       ];
   within = λ bytes kind left h.
       elim (bind_err (one.read bytes) (λ x. (next x.0).read x.1) (kind, left) h) [
@@ -207,7 +208,8 @@ pub refuses-exact : {A : Type 0} (is : LoadKind) → BranchExact {A = A} (Refuse
 refuses-exact is = record { exact = tt }
 
 -- a value that an exact branch reads is spelled by the bytes up to those that are left
-branch_takes : {A : Type 0} (branch : Branch A) → BranchExact branch → (rest : List ℕ) (x : A) (left : List ℕ) → branch_read branch rest ≡ Ok (x, left) → (word : List ℕ) × (rest ≡ word ++ left) × BranchSpells branch x word
+branch_takes : {A : Type 0} (branch : Branch A) → BranchExact branch → (rest : List ℕ) (x : A) (left : List ℕ) → branch_read branch rest ≡ Ok (x, left) → (word : List ℕ)
+    × (rest ≡ word ++ left) × BranchSpells branch x word
 branch_takes (Goes one) e rest x left h = e.exact.takes rest x left h
 branch_takes (Refuses is) e rest x left h = absurd cc
 
@@ -227,14 +229,16 @@ branch_first (Goes one) e rest kind left h = e.exact.first rest kind left h
 branch_first {A = A} (Refuses is) e rest kind left h = make_fault {A = A × List ℕ} kind is left (suc (length rest)) h.0 h.1
 
 -- a value that is read by its first byte is spelled by the bytes up to those that are left
-first_takes : {A : Type 0} (by : ℕ → Branch A) → ((b : ℕ) → BranchExact (by b)) → (bytes : List ℕ) (x : A) (rest : List ℕ) → first_read by bytes ≡ Ok (x, rest) → (word : List ℕ) × (bytes ≡ word ++ rest) × (by_first by).Spells x word
+first_takes : {A : Type 0} (by : ℕ → Branch A) → ((b : ℕ) → BranchExact (by b)) → (bytes : List ℕ) (x : A) (rest : List ℕ) → first_read by bytes ≡ Ok (x, rest) → (word : List ℕ)
+    × (bytes ≡ word ++ rest) × (by_first by).Spells x word
 first_takes by e [] x rest h = absurd cc
 first_takes by e (b ∷ bytes) x rest h =
     let t = branch_takes (by b) (e b) bytes x rest h in
     (b ∷ t.0, ap (λ (z : List ℕ). b ∷ z) t.1, (b, t.0, refl, t.2))
 
 -- a fault that is read by a first byte is the first fault of the bytes
-first_fails : {A : Type 0} (by : ℕ → Branch A) → ((b : ℕ) → BranchExact (by b)) → (bytes : List ℕ) (kind : LoadKind) (left : ℕ) → first_read by bytes ≡ Err (kind, left) → (by_first by).Faulty bytes kind left
+first_fails : {A : Type 0} (by : ℕ → Branch A) → ((b : ℕ) → BranchExact (by b)) → (bytes : List ℕ) (kind : LoadKind) (left : ℕ) → first_read by bytes ≡ Err (kind, left)
+    → (by_first by).Faulty bytes kind left
 first_fails {A = A} by e [] kind left h = let p = fault_parts {A = A × List ℕ} Ended kind 0 left h in inl (refl, (sym p.0, sym p.1))
 first_fails by e (b ∷ bytes) kind left h = inr (b, bytes, refl, branch_fails (by b) (e b) bytes kind left h)
 

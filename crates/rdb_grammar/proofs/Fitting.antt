@@ -8,7 +8,8 @@ use Rattle.rdb_grammar.specs.Format.{Format, give, some_bytes, followed, Branch,
 use Rattle.rdb_grammar.specs.Lengths.{a_length}
 use Rattle.rdb_grammar.specs.Strings.{string}
 use Rattle.rdb_grammar.specs.Values.{value_behind}
-use Rattle.rdb_grammar.specs.Items.{Item, Passed, Deadline, Database, End, Key, Part, Whole, Opens, keyed, passed, two, deadline_in, database, whole_behind, opens, packs_in, opens_nodes, streams, part_behind, left_of, item}
+use Rattle.rdb_grammar.specs.Items.{Item, Passed, Deadline, Database, End, Key, Part, Whole, Opens, keyed, passed, two, deadline_in, database, whole_behind, opens, packs_in, opens_nodes}
+use Rattle.rdb_grammar.specs.Items.{streams, part_behind, left_of, item}
 use Rattle.rdb_grammar.specs.declared.values.Collection.{Collection}
 use Rattle.rdb_grammar.specs.declared.values.Collection.TheVariants as of
 use Rattle.rdb_grammar.specs.declared.values.Packed.{Packed}

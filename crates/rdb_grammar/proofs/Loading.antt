@@ -44,7 +44,8 @@ pub begins_items : (bytes text : List ℕ) (moment next : ℕ) (s : Stands heade
 unfolding begins
 begins_items bytes text moment next s = refl
 
-pub goes_on : (bytes : List ℕ) (moment at : ℕ) (state : State) (x : Item) (next : ℕ) → Reached bytes moment at state → Stands item x bytes at next → is_end x ≡ false → is_fresh state x ≡ true → Reached bytes moment next (after moment state x)
+pub goes_on : (bytes : List ℕ) (moment at : ℕ) (state : State) (x : Item) (next : ℕ) → Reached bytes moment at state → Stands item x bytes at next → is_end x ≡ false
+    → is_fresh state x ≡ true → Reached bytes moment next (after moment state x)
 goes_on bytes moment at state x next r s e fresh = record {
   version = r.version;
   first = r.first;
@@ -53,21 +54,25 @@ goes_on bytes moment at state x next r s e fresh = record {
   itemised = more bytes moment r.items r.first new_state at state x next r.itemised (taken state x bytes at next s fresh) e;
 }
 
-pub goes_on_items : (bytes : List ℕ) (moment at : ℕ) (state : State) (x : Item) (next : ℕ) (r : Reached bytes moment at state) (s : Stands item x bytes at next) (e : is_end x ≡ false) (fresh : is_fresh state x ≡ true) → (goes_on bytes moment at state x next r s e fresh).items ≡ r.items ++ x ∷ []
+pub goes_on_items : (bytes : List ℕ) (moment at : ℕ) (state : State) (x : Item) (next : ℕ) (r : Reached bytes moment at state) (s : Stands item x bytes at next) (e : is_end x ≡ false)
+    (fresh : is_fresh state x ≡ true) → (goes_on bytes moment at state x next r s e fresh).items ≡ r.items ++ x ∷ []
 unfolding goes_on
 goes_on_items bytes moment at state x next r s e fresh = refl
 
-pub is_file : (bytes : List ℕ) (moment at : ℕ) (state : State) (ended sum next : ℕ) → Reached bytes moment at state → Stands item End bytes at ended → Stands (sum_field (take ended bytes)) sum bytes ended next → IsFile bytes moment (file_world state)
+pub is_file : (bytes : List ℕ) (moment at : ℕ) (state : State) (ended sum next : ℕ) → Reached bytes moment at state → Stands item End bytes at ended
+    → Stands (sum_field (take ended bytes)) sum bytes ended next → IsFile bytes moment (file_world state)
 is_file bytes moment at state ended sum next r e s = record { at = at; state = state; ended = ended; sum = sum; next = next; reached = r; ends = e; summed = s; means = refl }
 
-pub is_file_items : (bytes : List ℕ) (moment at : ℕ) (state : State) (ended sum next : ℕ) (r : Reached bytes moment at state) (e : Stands item End bytes at ended) (s : Stands (sum_field (take ended bytes)) sum bytes ended next) → (is_file bytes moment at state ended sum next r e s).reached.items ≡ r.items
+pub is_file_items : (bytes : List ℕ) (moment at : ℕ) (state : State) (ended sum next : ℕ) (r : Reached bytes moment at state) (e : Stands item End bytes at ended)
+    (s : Stands (sum_field (take ended bytes)) sum bytes ended next) → (is_file bytes moment at state ended sum next r e s).reached.items ≡ r.items
 unfolding is_file
 is_file_items bytes moment at state ended sum next r e s = refl
 
 pub item_fault : (bytes : List ℕ) (moment at : ℕ) (state : State) (which : LoadKind) (place : ℕ) → Reached bytes moment at state → Fails item bytes at which place → IsFault bytes moment which place
 item_fault bytes moment at state which place r f = InItem at state r (record { onward = f.onward; inside = f.inside; faulty = inl f.faulty })
 
-pub twice : (bytes : List ℕ) (moment at : ℕ) (state : State) (x : Item) (next : ℕ) → Reached bytes moment at state → Stands item x bytes at next → is_fresh state x ≡ false → IsFault bytes moment kinds.DuplicateKey (at + 1)
+pub twice : (bytes : List ℕ) (moment at : ℕ) (state : State) (x : Item) (next : ℕ) → Reached bytes moment at state → Stands item x bytes at next → is_fresh state x ≡ false
+    → IsFault bytes moment kinds.DuplicateKey (at + 1)
 twice bytes moment at state x next r s stale =
     let lt : at < next = longer x bytes at next s in
     let le : next ≤ length bytes = s.inside in
@@ -78,5 +83,6 @@ twice bytes moment at state x next r s stale =
       faulty = inr (x, take (next - at) (drop at bytes), drop (next - at) (drop at bytes), sym (take-append-drop (next - at) (drop at bytes)), s.spelled, stale, refl, left);
     })
 
-pub sum_fault : (bytes : List ℕ) (moment at : ℕ) (state : State) (ended : ℕ) (which : LoadKind) (place : ℕ) → Reached bytes moment at state → Stands item End bytes at ended → Fails (sum_field (take ended bytes)) bytes ended which place → IsFault bytes moment which place
+pub sum_fault : (bytes : List ℕ) (moment at : ℕ) (state : State) (ended : ℕ) (which : LoadKind) (place : ℕ) → Reached bytes moment at state → Stands item End bytes at ended
+    → Fails (sum_field (take ended bytes)) bytes ended which place → IsFault bytes moment which place
 sum_fault bytes moment at state ended which place r e f = InSum at ended state r e f

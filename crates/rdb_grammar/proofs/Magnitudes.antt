@@ -68,6 +68,7 @@ middle_some e f bound from to z =
     let left : (over e f % under e == 0) ≡ true = eq-eqb (over e f % under e) 0 (ap (λ (k : ℕ). k % under e) same ∙ z) in
     let fits : nat_le (over e f / under e) (2 ^ 53) ≡ true = le-leb (over e f / under e) (2 ^ 53) (omega (arith, same, div-le_self (over e f) (under e), bound)) in
     let is = not_zero e f (some e f (omega (arith, from))) in (
-      is.0 ∙ and_from (nat_le 1 e && nat_le e 2046 && (over e f % under e == 0)) _ (and_from (nat_le 1 e && nat_le e 2046) _ (and_from (nat_le 1 e) (nat_le e 2046) (le-leb 1 e (omega (arith, from))) (le-leb e 2046 (omega (arith, to)))) left) fits,
+      is.0 ∙ and_from (nat_le 1 e && nat_le e 2046 && (over e f % under e == 0)) _
+          (and_from (nat_le 1 e && nat_le e 2046) _ (and_from (nat_le 1 e) (nat_le e 2046) (le-leb 1 e (omega (arith, from))) (le-leb e 2046 (omega (arith, to)))) left) fits,
       ap (λ (k : ℕ). k / under e) (sym same) ∙ sym is.1,
     )

@@ -144,7 +144,8 @@ module _ (key : Id) (master : Texts) where
       let n : ℕ = length es in
       let more = entries_back es (Some e.id) b.0 b.3 in
       let there = (Decides-and (is_after before e.id) (are_entries key master (Some e.id) n b.0) (is_after-decides before e.id) (λ t. t, λ t. t)).1 (b.2, more) in
-      let all = (Decides-and (is_entry key master list) (is_after before e.id && are_entries key master (Some e.id) n b.0) (λ t. t, λ t. t) (λ t. t, λ t. t)).1 (entry_back key master list e b.0 b.1, there) in
+      let all = (Decides-and (is_entry key master list) (is_after before e.id && are_entries key master (Some e.id) n b.0) (λ t. t, λ t. t) (λ t. t, λ t. t)).1
+      (entry_back key master list e b.0 b.1, there) in
       (λ i. goes before n list (r.0 i) (r.1 i)) ∙ all
 
   length-entries : (n : ℕ) (list : Texts) → length (entries_from key master n list) ≡ n
@@ -202,7 +203,8 @@ module _ (key : Id) (list : Texts) where
       let total : length es ≡ entry_count list = omega (arith, n.count, h.live_read, h.deleted_read) in
       let same : headed ≡ head_spelled n.live n.deleted n.master n.behind = λ i. head_spelled (h.live_read i) (h.deleted_read i) (h.fields i) (h.behind i) in
       let all : are_entries key master None (entry_count list) (behind_head list) ≡ true =
-      ap (λ (k : ℕ). are_entries key master None k (behind_head list)) (sym total) ∙ (λ i. are_entries key (h.fields i) None (length es) (h.behind i)) ∙ entries_back key n.master es None n.behind n.all_entries in
+      ap (λ (k : ℕ). are_entries key master None k (behind_head list)) (sym total) ∙ (λ i. are_entries key (h.fields i) None (length es) (h.behind i))
+      ∙ entries_back key n.master es None n.behind n.all_entries in
       let some : 0 < length master = subst (λ (x : Texts). 0 < length x) (sym h.fields) n.head.some in
       whole.1 (n.head.elements ∙ sym same, (some, (all, ap marked (reads_node key list es n) ∙ n.marks ∙ sym h.deleted_read)))
 
@@ -230,7 +232,8 @@ means_by : (key : Id) (list : Texts) (es : List Stored) (test : Bool) → is_nod
 means_by key list es true t e = subst (λ (x : List Stored). Node key list x) (entries_are (entries_of key list) es e) (node_found key list t)
 means_by key list es false t e = absurd cc
 
-breaks_by : (key : Id) (list : Texts) (kind : LoadKind) (test : Bool) → is_node key list ≡ test → cond test (as_entries (entries_of key list)) shape ≡ as_fault kind → ¬ (IsNode key list) × (kind ≡ kinds.StreamShape)
+breaks_by : (key : Id) (list : Texts) (kind : LoadKind) (test : Bool) → is_node key list ≡ test → cond test (as_entries (entries_of key list)) shape ≡ as_fault kind → ¬ (IsNode key list)
+    × (kind ≡ kinds.StreamShape)
 breaks_by key list which true t e = absurd cc
 breaks_by key list which false t e = (λ n. differ (sym t ∙ node_back key list (entries_of key list) n), sym (kind_is kinds.StreamShape which e))
   where

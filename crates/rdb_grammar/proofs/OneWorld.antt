@@ -63,7 +63,8 @@ run_reached bytes moment at state n r =
     step ∙ run_items bytes moment r.items r.first new_state at state n r.itemised
 
 -- where the end stands, the checksum decides
-run_end : (bytes : List ℕ) (moment at : ℕ) (state : State) (ended n : ℕ) → Stands item End bytes at ended → run bytes moment (suc n) state (drop at bytes) ≡ ((sum_field (take ended bytes)).read (drop ended bytes) >>= λ x. Ok (file_world state))
+run_end : (bytes : List ℕ) (moment at : ℕ) (state : State) (ended n : ℕ) → Stands item End bytes at ended
+    → run bytes moment (suc n) state (drop at bytes) ≡ ((sum_field (take ended bytes)).read (drop ended bytes) >>= λ x. Ok (file_world state))
 unfolding run
 run_end bytes moment at state ended n s =
     let r : (next_in state).read (drop at bytes) ≡ Ok (End, drop ended bytes) = reads (next_in state) (next_in-exact state) End bytes at ended (taken state End bytes at ended s refl) in
@@ -81,8 +82,10 @@ file_settles : (bytes : List ℕ) (moment : ℕ) (world : World) → IsFile byte
 file_settles bytes moment world f = (
   f.reached.items,
   λ k.
-      let s : (sum_field (take f.ended bytes)).read (drop f.ended bytes) ≡ Ok (f.sum, drop f.next bytes) = reads (sum_field (take f.ended bytes)) (sum_field-exact _) f.sum bytes f.ended f.next f.summed in
-      let last : ((sum_field (take f.ended bytes)).read (drop f.ended bytes) >>= λ x. Ok (file_world f.state)) ≡ Ok (file_world f.state) = ap (λ (q : Result (ℕ × List ℕ) Fault). q >>= λ x. Ok (file_world f.state)) s in
+      let s : (sum_field (take f.ended bytes)).read (drop f.ended bytes) ≡ Ok (f.sum, drop f.next bytes) =
+      reads (sum_field (take f.ended bytes)) (sum_field-exact _) f.sum bytes f.ended f.next f.summed in
+      let last : ((sum_field (take f.ended bytes)).read (drop f.ended bytes) >>= λ x. Ok (file_world f.state)) ≡ Ok (file_world f.state) =
+      ap (λ (q : Result (ℕ × List ℕ) Fault). q >>= λ x. Ok (file_world f.state)) s in
       run_reached bytes moment f.at f.state (suc k) f.reached ∙ run_end bytes moment f.at f.state f.ended k f.ends ∙ last ∙ ap (λ (w : World). Ok w) (sym f.means),
 )
 
@@ -106,14 +109,16 @@ fault_settles bytes moment which place (InSum at ended state r e f) = (
   r.items,
   λ k.
       let s : (sum_field (take ended bytes)).read (drop ended bytes) ≡ Err (which, length bytes - place) = reads_fault (sum_field (take ended bytes)) (sum_field-exact _) bytes ended which place f in
-      let last : ((sum_field (take ended bytes)).read (drop ended bytes) >>= λ x. Ok (file_world state)) ≡ Err (which, length bytes - place) = ap (λ (q : Result (ℕ × List ℕ) Fault). q >>= λ x. Ok (file_world state)) s in
+      let last : ((sum_field (take ended bytes)).read (drop ended bytes) >>= λ x. Ok (file_world state)) ≡ Err (which, length bytes - place) =
+      ap (λ (q : Result (ℕ × List ℕ) Fault). q >>= λ x. Ok (file_world state)) s in
       run_reached bytes moment at state (suc k) r ∙ run_end bytes moment at state ended k e ∙ last,
 )
 
 -- a world or a fault that bytes are read as with enough items is the only one
 agree : (bytes : List ℕ) (moment : ℕ) (r s : Verdict) → Settles bytes moment r → Settles bytes moment s → r ≡ s
 agree bytes moment r s p q =
-    let same : more (p.0) (suc (more (q.0) 0)) ≡ more (q.0) (suc (more (p.0) 0)) = omega (arith, more_is (p.0) (suc (more (q.0) 0)), more_is (q.0) (suc (more (p.0) 0)), more_is (p.0) 0, more_is (q.0) 0) in
+    let same : more (p.0) (suc (more (q.0) 0)) ≡ more (q.0) (suc (more (p.0) 0)) =
+    omega (arith, more_is (p.0) (suc (more (q.0) 0)), more_is (q.0) (suc (more (p.0) 0)), more_is (p.0) 0, more_is (q.0) 0) in
     sym (p.1 (more (q.0) 0)) ∙ ap (verdict bytes moment) same ∙ q.1 (more (p.0) 0)
 
 -- ---- one of both there is
@@ -157,7 +162,8 @@ by_item : (bytes : List ℕ) (moment at : ℕ) (state : State) (r : Result (Item
     → ((next : ℕ) (state : State) → at < next → Reached bytes moment next state → Outcome bytes moment) → Outcome bytes moment
 by_item bytes moment at state (Ok x) reached e go =
     let f = found (next_in state) (next_in-exact state) bytes at (x.0) (x.1) (inside bytes moment at state reached) e in
-    by_end bytes moment at state (x.0) (length bytes - length x.1) _ refl reached f.stands (λ new r. go (length bytes - length x.1) new (longer (x.0) bytes at _ (plain state (x.0) bytes at _ f.stands)) r)
+    by_end bytes moment at state (x.0) (length bytes - length x.1) _ refl reached f.stands
+    (λ new r. go (length bytes - length x.1) new (longer (x.0) bytes at _ (plain state (x.0) bytes at _ f.stands)) r)
 by_item bytes moment at state (Err d) reached e go =
     let f = broken (next_in state) (next_in-exact state) bytes at (d.0) (d.1) (inside bytes moment at state reached) e in
     inr (d.0, length bytes - d.1, InItem at state reached f.fails)

@@ -23,14 +23,16 @@ pub fails_part : (bytes : List ℕ) (at : ℕ) (which : LoadKind) (place : ℕ) 
 fails_part bytes at which place f = record { onward = f.onward; inside = f.inside; faulty = inl f.faulty }
 
 -- what is read from a place on up to another stands between them
-pub stands_read : {A : Type 0} (one : Format A) → Exact one → (bytes : List ℕ) (at next : ℕ) (x : A) → at ≤ length bytes → next ≤ length bytes → one.read (drop at bytes) ≡ Ok (x, drop next bytes) → Stands one x bytes at next
+pub stands_read : {A : Type 0} (one : Format A) → Exact one → (bytes : List ℕ) (at next : ℕ) (x : A) → at ≤ length bytes → next ≤ length bytes
+    → one.read (drop at bytes) ≡ Ok (x, drop next bytes) → Stands one x bytes at next
 stands_read one e bytes at next x le inside h =
     let f = found one e bytes at x (drop next bytes) le h in
     let same : length bytes - length (drop next bytes) ≡ next = omega (arith, length-drop next bytes) in
     subst (λ (n : ℕ). Stands one x bytes at n) same f.stands
 
 -- the fault that is read from a place on is the first fault there
-pub fails_read : {A : Type 0} (one : Format A) → Exact one → (bytes : List ℕ) (at : ℕ) (which : LoadKind) (place : ℕ) → at ≤ length bytes → place ≤ length bytes → one.read (drop at bytes) ≡ Err (which, length bytes - place) → Fails one bytes at which place
+pub fails_read : {A : Type 0} (one : Format A) → Exact one → (bytes : List ℕ) (at : ℕ) (which : LoadKind) (place : ℕ) → at ≤ length bytes → place ≤ length bytes
+    → one.read (drop at bytes) ≡ Err (which, length bytes - place) → Fails one bytes at which place
 fails_read one e bytes at which place le inside h =
     let f = broken one e bytes at which (length bytes - place) le h in
     let same : length bytes - (length bytes - place) ≡ place = omega arith in

@@ -20,7 +20,8 @@ pub reads : {A : Type 0} (one : Format A) → Exact one → (x : A) (bytes : Lis
 reads one e x bytes at next s =
     ap one.read (split_at at next bytes s.onward) ∙ e.again x (take (next - at) (drop at bytes)) (drop next bytes) s.spelled
 
-pub reads_fault : {A : Type 0} (one : Format A) → Exact one → (bytes : List ℕ) (at : ℕ) (kind : LoadKind) (place : ℕ) → Fails one bytes at kind place → one.read (drop at bytes) ≡ Err (kind, length bytes - place)
+pub reads_fault : {A : Type 0} (one : Format A) → Exact one → (bytes : List ℕ) (at : ℕ) (kind : LoadKind) (place : ℕ) → Fails one bytes at kind place
+    → one.read (drop at bytes) ≡ Err (kind, length bytes - place)
 reads_fault one e bytes at kind place f = e.first (drop at bytes) kind (length bytes - place) f.faulty
 
 -- what was read at a place
@@ -35,7 +36,8 @@ found one e bytes at x after le h =
     let total : length bytes - at ≡ length (t.0) + length after = sym (length-drop at bytes) ∙ ap length t.1 ∙ length-append (t.0) after in
     let word : take (length bytes - length after - at) (drop at bytes) ≡ t.0 = ap (take (length bytes - length after - at)) t.1 ∙ take_at (t.0) after _ (omega (arith, total)) in
     let place : at + length (t.0) ≡ length bytes - length after = omega (arith, total) in
-    let behind : drop (length bytes - length after) bytes ≡ after = ap (λ (n : ℕ). drop n bytes) (sym place) ∙ sym (drop_twice at (length (t.0)) bytes) ∙ ap (drop (length (t.0))) t.1 ∙ drop_at (t.0) after _ refl in
+    let behind : drop (length bytes - length after) bytes ≡ after = ap (λ (n : ℕ). drop n bytes) (sym place) ∙ sym (drop_twice at (length (t.0)) bytes) ∙ ap (drop (length (t.0))) t.1
+    ∙ drop_at (t.0) after _ refl in
     record {
       fits = omega (arith, total);
       stands = record { onward = omega (arith, total); inside = omega arith; spelled = rw word t.2 };
@@ -47,7 +49,8 @@ pub record Broken {A : Type 0} (one : Format A) (bytes : List ℕ) (at : ℕ) (k
   pub fits : left ≤ length bytes
   pub fails : Fails one bytes at kind (length bytes - left)
 
-pub broken : {A : Type 0} (one : Format A) → Exact one → (bytes : List ℕ) (at : ℕ) (kind : LoadKind) (left : ℕ) → at ≤ length bytes → one.read (drop at bytes) ≡ Err (kind, left) → Broken one bytes at kind left
+pub broken : {A : Type 0} (one : Format A) → Exact one → (bytes : List ℕ) (at : ℕ) (kind : LoadKind) (left : ℕ) → at ≤ length bytes → one.read (drop at bytes) ≡ Err (kind, left)
+    → Broken one bytes at kind left
 broken one e bytes at kind left le h =
     let within : left ≤ length (drop at bytes) = e.within (drop at bytes) kind left h in
     let len : length (drop at bytes) ≡ length bytes - at = length-drop at bytes in

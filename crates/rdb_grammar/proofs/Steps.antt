@@ -35,7 +35,8 @@ module _ {A B : Type 0} (one : Format A) (next : A → Format B) (e : Exact one)
       fails_read (followed one next) (followed-exact one next e f) bytes at which place le d.inside whole
 
   -- the fault of the second
-  pub second_fails : (bytes : List ℕ) (at mid : ℕ) (x : A) (which : LoadKind) (place : ℕ) → Stands one x bytes at mid → Fails (next x) bytes mid which place → Fails (followed one next) bytes at which place
+  pub second_fails : (bytes : List ℕ) (at mid : ℕ) (x : A) (which : LoadKind) (place : ℕ) → Stands one x bytes at mid → Fails (next x) bytes mid which place
+      → Fails (followed one next) bytes at which place
   second_fails bytes at mid x which place s d =
       let r : one.read (drop at bytes) ≡ Ok (x, drop mid bytes) = reads one e x bytes at mid s in
       let q : (next x).read (drop mid bytes) ≡ Err (which, length bytes - place) = reads_fault (next x) (f x) bytes mid which place d in

@@ -11,7 +11,9 @@ use Rattle.rdb_grammar.specs.declared.values.StreamType.{StreamType}
 use Rattle.rdb_grammar.specs.Format.{Format}
 use Rattle.rdb_grammar.specs.Strings.{head, string}
 use Rattle.rdb_grammar.specs.Lengths.{a_length}
-use Rattle.rdb_grammar.specs.StreamParts.{two_lengths, sixteen_bytes, counted, unused, has_marks, has_active, Nodes, no_nodes, node_key, is_node_short, node_string, stored_in, with_entries, node_on, with_node, entry_count, is_upto, last_id, marks_behind, marks_with, marks, Begun, group_name, group_last, begun, handed, pending_id, with_unclaimed, claimed_id, with_claim, consumer_name, times, with_consumer, named_group, is_claimed, with_group, stream}
+use Rattle.rdb_grammar.specs.StreamParts.{two_lengths, sixteen_bytes, counted, unused, has_marks, has_active, Nodes, no_nodes, node_key, is_node_short, node_string, stored_in}
+use Rattle.rdb_grammar.specs.StreamParts.{with_entries, node_on, with_node, entry_count, is_upto, last_id, marks_behind, marks_with, marks, Begun, group_name, group_last, begun, handed}
+use Rattle.rdb_grammar.specs.StreamParts.{pending_id, with_unclaimed, claimed_id, with_claim, consumer_name, times, with_consumer, named_group, is_claimed, with_group, stream}
 use Rattle.rdb_grammar.proofs.Exactly.{Exact, give-exact, some_bytes-exact, followed-exact, checked-exact}
 use Rattle.rdb_grammar.proofs.PayloadsExact.{Decided, told-decided, refined-decided, inside-exact}
 use Rattle.rdb_grammar.proofs.PackedExact.{texts_in-decided}

@@ -25,13 +25,15 @@ module _ {S : Type 0} (one : S → Format S) (exact : (made : S) → Exact (one 
       rw r refl
 
   -- where no part is left, what was made stands
-  pub all_stand : (bytes : List ℕ) (from n : ℕ) (first : S) (at : ℕ) (made : S) → from ≤ length bytes → at ≤ length bytes → GoesOn one bytes from n first at 0 made → Stands (in_turn one n first) made bytes from at
+  pub all_stand : (bytes : List ℕ) (from n : ℕ) (first : S) (at : ℕ) (made : S) → from ≤ length bytes → at ≤ length bytes → GoesOn one bytes from n first at 0 made
+      → Stands (in_turn one n first) made bytes from at
   unfolding in_turn
   all_stand bytes from n first at made le inside h =
       stands_read (in_turn one n first) (in_turn-exact one exact n first) bytes from at made le inside h
 
   -- the fault of a part is that of all
-  pub one_fails : (bytes : List ℕ) (from n : ℕ) (first : S) (at rest : ℕ) (made : S) (which : LoadKind) (place : ℕ) → from ≤ length bytes → GoesOn one bytes from n first at (suc rest) made → Fails (one made) bytes at which place → Fails (in_turn one n first) bytes from which place
+  pub one_fails : (bytes : List ℕ) (from n : ℕ) (first : S) (at rest : ℕ) (made : S) (which : LoadKind) (place : ℕ) → from ≤ length bytes → GoesOn one bytes from n first at (suc rest) made
+      → Fails (one made) bytes at which place → Fails (in_turn one n first) bytes from which place
   unfolding in_turn
   one_fails bytes from n first at rest made which place le h f =
       let r : (one made).read (drop at bytes) ≡ Err (which, length bytes - place) = reads_fault (one made) (exact made) bytes at which place f in
@@ -39,7 +41,8 @@ module _ {S : Type 0} (one : S → Format S) (exact : (made : S) → Exact (one 
       fails_read (in_turn one n first) (in_turn-exact one exact n first) bytes from which place le f.inside (h ∙ last)
 
 -- a collection behind what opens its key makes the item
-pub opened_stands : (bytes : List ℕ) (at next last : ℕ) (name : List ℕ) (layout : Layout) (value : Value) → Stands part (Opens name layout) bytes at next → Stands (laid layout) value bytes next last → Stands item (Key name value) bytes at last
+pub opened_stands : (bytes : List ℕ) (at next last : ℕ) (name : List ℕ) (layout : Layout) (value : Value) → Stands part (Opens name layout) bytes at next
+    → Stands (laid layout) value bytes next last → Stands item (Key name value) bytes at last
 opened_stands bytes at next last name layout value s t =
     let r : part.read (drop at bytes) ≡ Ok (Opens name layout, drop next bytes) = reads part part-exact (Opens name layout) bytes at next s in
     let q : (laid layout).read (drop next bytes) ≡ Ok (value, drop last bytes) = reads (laid layout) (laid-exact layout) value bytes next last t in
@@ -49,7 +52,8 @@ opened_stands bytes at next last name layout value s t =
     stands_read item item-exact bytes at last (Key name value) (omega (arith, first, second)) t.inside whole
 
 -- and its fault is the item's
-pub opened_fails : (bytes : List ℕ) (at next : ℕ) (name : List ℕ) (layout : Layout) (which : LoadKind) (place : ℕ) → Stands part (Opens name layout) bytes at next → Fails (laid layout) bytes next which place → Fails item bytes at which place
+pub opened_fails : (bytes : List ℕ) (at next : ℕ) (name : List ℕ) (layout : Layout) (which : LoadKind) (place : ℕ) → Stands part (Opens name layout) bytes at next
+    → Fails (laid layout) bytes next which place → Fails item bytes at which place
 opened_fails bytes at next name layout which place s f =
     let r : part.read (drop at bytes) ≡ Ok (Opens name layout, drop next bytes) = reads part part-exact (Opens name layout) bytes at next s in
     let q : (laid layout).read (drop next bytes) ≡ Err (which, length bytes - place) = reads_fault (laid layout) (laid-exact layout) bytes next which place f in

@@ -2,7 +2,8 @@
 
 ghost use Rattle.std.specs.Prelude.{◌≡◌, ◌≤◌, length, IfOk, IfErr};
 ghost use Rattle.rdb_grammar.specs.Lengths.{a_length};
-ghost use Rattle.rdb_grammar.specs.StreamParts.{two_lengths, sixteen_bytes, has_marks, has_active, node_head, node_string, entry_count, is_from, last_id, marks_behind, marks_with, group_last, handed, times};
+ghost use Rattle.rdb_grammar.specs.StreamParts.{two_lengths, sixteen_bytes, has_marks, has_active, node_head, node_string, entry_count, is_from, last_id, marks_behind, marks_with};
+ghost use Rattle.rdb_grammar.specs.StreamParts.{group_last, handed, times};
 ghost use Rattle.rdb_grammar.specs.Places.{Stands, Fails};
 ghost use Rattle.rdb_grammar.specs.Views.{text_of, head_of as head_seen, pair_of, handed_of as handed_seen, marks_of as marks_seen};
 ghost use Rattle.rdb_grammar.specs.Returns.{Returns};

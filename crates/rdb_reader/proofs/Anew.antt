@@ -42,8 +42,10 @@ some_is : {A : Type 0} (x y : A) → Some x ≡ Some y → x ≡ y
 some_is x y e = cc
 
 -- a value is put that is encoded as one written anew
-pub put_new : {E : Type 0} (db : ℕ) (key : List ℕ) (value : Value) (means_this : model.Value) (deadline : Option ℕ) (old new : Bases) (m after : Blocks) → IsNewAs old.limits means_this (encoding_of value) → new.limits ≡ old.limits → Within (one_key db key) old new m after → IsArranged new after
-    → (result : Result (Unit {0}) E) → OnOk result (means db new after ≡ put (means db old m) key (record { value = means_this; deadline = deadline })) → OnOk result (HasOnly new after db key value) → OnOk result (AreNew old m → AreNew new after)
+pub put_new : {E : Type 0} (db : ℕ) (key : List ℕ) (value : Value) (means_this : model.Value) (deadline : Option ℕ) (old new : Bases) (m after : Blocks)
+    → IsNewAs old.limits means_this (encoding_of value) → new.limits ≡ old.limits → Within (one_key db key) old new m after → IsArranged new after
+    → (result : Result (Unit {0}) E) → OnOk result (means db new after ≡ put (means db old m) key (record { value = means_this; deadline = deadline }))
+    → OnOk result (HasOnly new after db key value) → OnOk result (AreNew old m → AreNew new after)
 put_new db key value means_this deadline old new m after is same within arranged (Ok u) world only =
     new_on old new m after same (
     written_named value_refs (IsNew new.limits after) (one_key db key) (one_settled db key) old new m after within arranged
@@ -51,7 +53,8 @@ put_new db key value means_this deadline old new m after is same within arranged
     let here : item (table_at new db) at ≡ Some e = subst (λ n. item (table_at new n) at ≡ Some e) named.0 found in
     let mine : after e.key ≡ Some key = bytes ∙ ap Some named.1 in
     let stands = look_stands value_refs value_of value_own new db after arranged key at e here mine _ refl in
-    let told : look (means db new after) key ≡ Some (record { value = means_this; deadline = deadline }) = ap (λ (w : World). look w key) world ∙ look_put (means db old m) key (record { value = means_this; deadline = deadline }) in
+    let told : look (means db new after) key ≡ Some (record { value = means_this; deadline = deadline }) = ap (λ (w : World). look w key) world
+    ∙ look_put (means db old m) key (record { value = means_this; deadline = deadline }) in
     let alike : value_of after e.value ≡ means_this = ap (λ (x : Entry). x.value) (some_is _ _ (sym stands ∙ told)) in
     let own : e.value ≡ value = only at e here mine in
     subst (λ l. IsNewAs l (value_of after e.value) (encoding_of e.value)) (sym same)

@@ -37,7 +37,8 @@ put_first list (suc k) once h =
     (field_joins old (packs.map_of_pairs (take (k + 1) list)) p fresh (map_more list k once inside)))
 
 -- what a hash without a field is told to be where it takes the texts at once
-pub told_at_once : (limits : Limits) (xs : List (List ℕ)) (old new : Map (List ℕ)) → old ≡ empty → ArePackable limits xs → new ≡ packs.map_of_pairs (packs.paired xs) → next_found (paired xs) (all_in with_pair (HashOf old)) ≡ Ok (HashOf new)
+pub told_at_once : (limits : Limits) (xs : List (List ℕ)) (old new : Map (List ℕ)) → old ≡ empty → ArePackable limits xs → new ≡ packs.map_of_pairs (packs.paired xs)
+    → next_found (paired xs) (all_in with_pair (HashOf old)) ≡ Ok (HashOf new)
 told_at_once limits xs old new none a is =
     let list = packs.paired xs in
     ap (λ (q : Result (List Pair) LoadKind). next_found q (all_in with_pair (HashOf old))) (paired_same (length list) xs a.even)

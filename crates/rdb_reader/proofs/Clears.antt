@@ -12,7 +12,8 @@ use Rattle.keyspace.specs.Sound.{IsArranged}
 use Rattle.keyspace.specs.Worlds.{emptied}
 
 -- one more has no key
-pub next_cleared : (old new : Bases) (m after : Blocks) (db : ℕ) → means db new after ≡ emptied (means db old m) → ((k : ℕ) → k < db → (means 0 old m).bases k ≡ no_keys) → (k : ℕ) → k < db + 1 → (means 0 new after).bases k ≡ no_keys
+pub next_cleared : (old new : Bases) (m after : Blocks) (db : ℕ) → means db new after ≡ emptied (means db old m) → ((k : ℕ) → k < db → (means 0 old m).bases k ≡ no_keys) → (k : ℕ)
+    → k < db + 1 → (means 0 new after).bases k ≡ no_keys
 next_cleared old new m after db e before k below =
     ap (λ (w : World). w.bases k) e
     ∙ elim (cases_eq k db) [

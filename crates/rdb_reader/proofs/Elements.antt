@@ -82,26 +82,30 @@ module _ (bytes : List ℕ) (at next : ℕ) (text : List ℕ) (s : Stands string
       fails_read (with_one (SortedOf scores)) (with_one-exact (SortedOf scores)) bytes at kinds.DuplicateElement at within within whole
 
   -- a field and its value
-  pub field_set : (fields : Map (List ℕ)) (value : List ℕ) (last : ℕ) → Stands string value bytes next last → true ≡ not (is_some (get fields text)) → Stands (with_one (HashOf fields)) (HashOf (insert fields text value)) bytes at last
+  pub field_set : (fields : Map (List ℕ)) (value : List ℕ) (last : ℕ) → Stands string value bytes next last → true ≡ not (is_some (get fields text))
+      → Stands (with_one (HashOf fields)) (HashOf (insert fields text value)) bytes at last
   field_set fields value last t new =
       let other : string.read (drop next bytes) ≡ Ok (value, drop last bytes) = reads string string-exact value bytes next last t in
       let whole : (with_one (HashOf fields)).read (drop at bytes) ≡ Ok (HashOf (insert fields text value), drop last bytes) = rw (fresh_read fields (none_not _ true new), other) refl in
       stands_read (with_one (HashOf fields)) (with_one-exact (HashOf fields)) bytes at last (HashOf (insert fields text value)) within t.inside whole
 
-  pub value_fails : (fields : Map (List ℕ)) (which : LoadKind) (place : ℕ) → Fails string bytes next which place → true ≡ not (is_some (get fields text)) → Fails (with_one (HashOf fields)) bytes at which place
+  pub value_fails : (fields : Map (List ℕ)) (which : LoadKind) (place : ℕ) → Fails string bytes next which place → true ≡ not (is_some (get fields text))
+      → Fails (with_one (HashOf fields)) bytes at which place
   value_fails fields which place f new =
       let other : string.read (drop next bytes) ≡ Err (which, length bytes - place) = reads_fault string string-exact bytes next which place f in
       let whole : (with_one (HashOf fields)).read (drop at bytes) ≡ Err (which, length bytes - place) = rw (fresh_read fields (none_not _ true new), other) refl in
       fails_read (with_one (HashOf fields)) (with_one-exact (HashOf fields)) bytes at which place within f.inside whole
 
   -- a member and its score
-  pub score_set : (scores : Map ℤ) (n : ℤ) (last : ℕ) → Stands score n bytes next last → true ≡ not (is_some (get scores text)) → Stands (with_one (SortedOf scores)) (SortedOf (insert scores text n)) bytes at last
+  pub score_set : (scores : Map ℤ) (n : ℤ) (last : ℕ) → Stands score n bytes next last → true ≡ not (is_some (get scores text))
+      → Stands (with_one (SortedOf scores)) (SortedOf (insert scores text n)) bytes at last
   score_set scores n last t new =
       let other : score.read (drop next bytes) ≡ Ok (n, drop last bytes) = reads score score-exact n bytes next last t in
       let whole : (with_one (SortedOf scores)).read (drop at bytes) ≡ Ok (SortedOf (insert scores text n), drop last bytes) = rw (fresh_read scores (none_not _ true new), other) refl in
       stands_read (with_one (SortedOf scores)) (with_one-exact (SortedOf scores)) bytes at last (SortedOf (insert scores text n)) within t.inside whole
 
-  pub score_fails : (scores : Map ℤ) (which : LoadKind) (place : ℕ) → Fails score bytes next which place → true ≡ not (is_some (get scores text)) → Fails (with_one (SortedOf scores)) bytes at which place
+  pub score_fails : (scores : Map ℤ) (which : LoadKind) (place : ℕ) → Fails score bytes next which place → true ≡ not (is_some (get scores text))
+      → Fails (with_one (SortedOf scores)) bytes at which place
   score_fails scores which place f new =
       let other : score.read (drop next bytes) ≡ Err (which, length bytes - place) = reads_fault score score-exact bytes next which place f in
       let whole : (with_one (SortedOf scores)).read (drop at bytes) ≡ Err (which, length bytes - place) = rw (fresh_read scores (none_not _ true new), other) refl in
@@ -130,10 +134,12 @@ nothing_added value bytes at le =
 -- what is put in behind all others is at the end
 pub appended : (xs : List (List ℕ)) (i : ℕ) (x y : List ℕ) → i ≡ length xs → x ≡ y → take i xs ++ x ∷ drop i xs ≡ xs ++ y ∷ []
 appended xs i x y end same =
-    ap (λ (z : List (List ℕ)). z ++ x ∷ drop i xs) (take_all i xs (omega (arith, end))) ∙ ap (λ (z : List (List ℕ)). xs ++ x ∷ z) (drop_all i xs (omega (arith, end))) ∙ ap (λ (z : List ℕ). xs ++ z ∷ []) same
+    ap (λ (z : List (List ℕ)). z ++ x ∷ drop i xs) (take_all i xs (omega (arith, end))) ∙ ap (λ (z : List (List ℕ)). xs ++ x ∷ z) (drop_all i xs (omega (arith, end)))
+    ∙ ap (λ (z : List ℕ). xs ++ z ∷ []) same
 
 -- the fault of a part is that of all
-pub fails_on : (one : Value → Format Value) (exact : (made : Value) → Exact (one made)) (bytes : List ℕ) (from n : ℕ) (first : Value) (at rest : ℕ) (made new : Value) → from ≤ length bytes → GoesOn one bytes from n first at (suc rest) made → (fault : LoadFault) → Reads (one made) bytes at new (Err fault) → Reads (in_turn one n first) bytes from new (Err fault)
+pub fails_on : (one : Value → Format Value) (exact : (made : Value) → Exact (one made)) (bytes : List ℕ) (from n : ℕ) (first : Value) (at rest : ℕ) (made new : Value) → from ≤ length bytes
+    → GoesOn one bytes from n first at (suc rest) made → (fault : LoadFault) → Reads (one made) bytes at new (Err fault) → Reads (in_turn one n first) bytes from new (Err fault)
 fails_on one exact bytes from n first at rest made new le h (loads.Refused what place) f = one_fails one exact bytes from n first at rest made what place le h f
 fails_on one exact bytes from n first at rest made new le h loads.Host f = f
 fails_on one exact bytes from n first at rest made new le h loads.Limit f = f
@@ -145,7 +151,8 @@ on_ok (Ok x) f p = f p
 on_ok (Err e) f p = tt
 
 -- the fault of what is laid out is the collection's
-pub unfilled : (bytes : List ℕ) (moment : ℕ) (old new : World) (name : List ℕ) (layout : Layout) (at : ℕ) (deadline : Option ℕ) (first made : Value) → first ≡ without_any (started layout) → (fault : LoadFault) → FillsLaid bytes at layout first made (Err fault) → ReadsCollection bytes moment old new name layout at deadline (Err fault)
+pub unfilled : (bytes : List ℕ) (moment : ℕ) (old new : World) (name : List ℕ) (layout : Layout) (at : ℕ) (deadline : Option ℕ) (first made : Value) → first ≡ without_any (started layout)
+    → (fault : LoadFault) → FillsLaid bytes at layout first made (Err fault) → ReadsCollection bytes moment old new name layout at deadline (Err fault)
 unfilled bytes moment old new name layout at deadline first made is (loads.Refused what place) f = subst (λ (v : Value). Fails (laid_on layout v) bytes at what place) is f
 unfilled bytes moment old new name layout at deadline first made is loads.Host f = f
 unfilled bytes moment old new name layout at deadline first made is loads.Limit f = f

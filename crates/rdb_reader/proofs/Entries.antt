@@ -33,7 +33,8 @@ module _ (db : ℕ) (bases : Bases) (m : Blocks) (key : List ℕ) where
       all None = refl
       all (Some e) = lasting e e.deadline
 
-  pub is_found : {A : Type 0} (view : A → code.Value) (o : Option A) → IfSome o (λ a. Found bases m db key 0 (view a)) → IfNone o (look (live (means db bases m) 0) key ≡ None) → is_some o ≡ is_some (look (means db bases m) key)
+  pub is_found : {A : Type 0} (view : A → code.Value) (o : Option A) → IfSome o (λ a. Found bases m db key 0 (view a)) → IfNone o (look (live (means db bases m) 0) key ≡ None)
+      → is_some o ≡ is_some (look (means db bases m) key)
   is_found view (Some a) found none = sym (ap is_some found.stands) ∙ ap is_some at_zero
   is_found view None found none = sym (ap is_some none) ∙ ap is_some at_zero
 
@@ -42,7 +43,8 @@ pub one_of_any : (db : ℕ) (key : List ℕ) (old new : Bases) (m after : Blocks
 one_of_any db key old new m after p = within_wider values.value_refs (one_key db key) any_key (λ number touched. tt) (λ number other named. tt) (λ number no. no) old new m after p
 
 -- a value that was made is put
-pub value_put : {E : Type 0} (db : ℕ) (bases : Bases) (m after : Blocks) (made : code.Value) (sound : Sound bases m) (p : Changes m after [] (values.value_refs after made)) (new : Bases) (later : Blocks) (key : List ℕ) (value : Value) (deadline : Option ℕ)
+pub value_put : {E : Type 0} (db : ℕ) (bases : Bases) (m after : Blocks) (made : code.Value) (sound : Sound bases m) (p : Changes m after [] (values.value_refs after made)) (new : Bases)
+    (later : Blocks) (key : List ℕ) (value : Value) (deadline : Option ℕ)
     → values.value_of after made ≡ value → (result : Result (Unit {0}) E)
     → OnOk result (means db new later ≡ put (means db bases after) key (record { value = values.value_of after made; deadline = deadline }))
     → OnOk result (means db new later ≡ put (means db bases m) key (record { value = value; deadline = deadline }))

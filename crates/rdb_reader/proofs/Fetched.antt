@@ -76,7 +76,8 @@ module _ (old mid : HostSeen) (name : List ℕ) (limit : ℕ) (x : Unit {0}) (b 
   not_fetched bytes faults.Memory f = tt
 
   -- the counts of both
-  pub counts_both : (after : ℕ) (fault : LoadFault) → Counts {A = Unit {0}} mid.reading.faults after (mid.reading.sure ≡ true) (Err fault) → Counts {A = Vec ℕ} old.reading.faults after ((old.reading.sure ≡ true) × IsListed old.files name) (Err fault)
+  pub counts_both : (after : ℕ) (fault : LoadFault) → Counts {A = Unit {0}} mid.reading.faults after (mid.reading.sure ≡ true) (Err fault)
+      → Counts {A = Vec ℕ} old.reading.faults after ((old.reading.sure ≡ true) × IsListed old.files name) (Err fault)
   counts_both after (faults.Refused what at) f = f ∙ b.tally.ok
   counts_both after faults.Host f = (subst (λ n. Rose n after) b.tally.ok f.0, λ h. f.1 (b.sure h.0))
   counts_both after faults.Limit f = f ∙ b.tally.ok

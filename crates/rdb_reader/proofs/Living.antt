@@ -40,7 +40,8 @@ module _ (moment : ℕ) where
   after_live state End is = is
   after_live state (Key name value) is = key_live state (record { value = value; deadline = state.deadline }) name (is_kept moment state.deadline value) refl is
 
-  items_live : (bytes : List ℕ) (items : List Item) (at : ℕ) (old : State) (to : ℕ) (new : State) → Items bytes moment items at old to new → live old.world moment ≡ old.world → live new.world moment ≡ new.world
+  items_live : (bytes : List ℕ) (items : List Item) (at : ℕ) (old : State) (to : ℕ) (new : State) → Items bytes moment items at old to new → live old.world moment ≡ old.world
+      → live new.world moment ≡ new.world
   unfolding Items
   items_live bytes [] at old to new h is = subst (λ (s : State). live s.world moment ≡ s.world) (sym h.1) is
   items_live bytes (x ∷ xs) at old to new h is = items_live bytes xs h.0 (after moment old x) to new h.3 (after_live old x is)
@@ -52,7 +53,8 @@ module _ (moment : ℕ) where
       subst (λ w. live w moment ≡ w) (sym f.means) (λ i. record { bases = (all i).bases; selected = 0 })
 
   -- what is loaded is live
-  pub loads_live : (files : Files) (name : List ℕ) (limit : ℕ) (world : World) (result : Result Loaded LoadFault) → Loads files name limit moment world result → Loads files name limit moment (live world moment) result
+  pub loads_live : (files : Files) (name : List ℕ) (limit : ℕ) (world : World) (result : Result Loaded LoadFault) → Loads files name limit moment world result
+      → Loads files name limit moment (live world moment) result
   loads_live files name limit world (Ok loaded) l = subst (λ w. LoadsFile files name limit moment w loaded) (sym (file_live l.bytes world l.read.file)) l
   loads_live files name limit world (Err (faults.Refused what at)) l = (l.0, ap (λ w. live w moment) l.1 ∙ new_live moment)
   loads_live files name limit world (Err faults.Host) l = ap (λ w. live w moment) l ∙ new_live moment

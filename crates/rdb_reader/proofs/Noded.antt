@@ -17,7 +17,8 @@ pub container_fails : (bytes : List ℕ) (at : ℕ) (made : Value) (which : Load
 container_fails bytes at made which place f = record { onward = f.onward; inside = f.inside; faulty = inl f.faulty }
 
 -- behind its container the string of a node is read
-pub node_reads : (bytes : List ℕ) (at next n : ℕ) (made new : Value) → Stands container n bytes at next → (result : Result ℕ LoadFault) → Reads (with_string (n == 1) made) bytes next new result → Reads (with_node made) bytes at new result
+pub node_reads : (bytes : List ℕ) (at next n : ℕ) (made new : Value) → Stands container n bytes at next → (result : Result ℕ LoadFault)
+    → Reads (with_string (n == 1) made) bytes next new result → Reads (with_node made) bytes at new result
 node_reads bytes at next n made new s (Ok last) t =
     let r : container.read (drop at bytes) ≡ Ok (n, drop next bytes) = reads container container-exact n bytes at next s in
     let q : (with_string (n == 1) made).read (drop next bytes) ≡ Ok (new, drop last bytes) = reads (with_string (n == 1) made) (with_string-exact (n == 1) made) new bytes next last t in
@@ -27,7 +28,8 @@ node_reads bytes at next n made new s (Ok last) t =
     stands_read (with_node made) (with_node-exact made) bytes at last new (omega (arith, first, second)) t.inside whole
 node_reads bytes at next n made new s (Err (loads.Refused which place)) f =
     let r : container.read (drop at bytes) ≡ Ok (n, drop next bytes) = reads container container-exact n bytes at next s in
-    let q : (with_string (n == 1) made).read (drop next bytes) ≡ Err (which, length bytes - place) = reads_fault (with_string (n == 1) made) (with_string-exact (n == 1) made) bytes next which place f in
+    let q : (with_string (n == 1) made).read (drop next bytes) ≡ Err (which, length bytes - place) =
+    reads_fault (with_string (n == 1) made) (with_string-exact (n == 1) made) bytes next which place f in
     let whole : (with_node made).read (drop at bytes) ≡ Err (which, length bytes - place) = rw (r, q) refl in
     let first : at ≤ next = s.onward in
     let second : next ≤ length bytes = s.inside in

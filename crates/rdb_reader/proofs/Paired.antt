@@ -114,7 +114,8 @@ done_is x y e = cc
 of_one : (p : Pair) (pairs : List Pair) (z : ℤ) (list : List Scored) → score_in (p.1) ≡ Ok z → ScoresOf pairs list → ScoresOf (p ∷ pairs) ((p.0, z) ∷ list)
 of_one p pairs z list e more = record { many = ap suc more.many; each = at }
   where
-    at : (i : ℕ) → i < length (p ∷ pairs) → ((get_or ((p.0, z) ∷ list) i no_scored).0 ≡ (get_or (p ∷ pairs) i no_pair).0) × (score_in ((get_or (p ∷ pairs) i no_pair).1) ≡ Ok ((get_or ((p.0, z) ∷ list) i no_scored).1))
+    at : (i : ℕ) → i < length (p ∷ pairs) → ((get_or ((p.0, z) ∷ list) i no_scored).0 ≡ (get_or (p ∷ pairs) i no_pair).0)
+        × (score_in ((get_or (p ∷ pairs) i no_pair).1) ≡ Ok ((get_or ((p.0, z) ∷ list) i no_scored).1))
     at zero lt = (refl, e)
     at (suc i) lt = more.each i (omega (arith, lt))
 
@@ -146,7 +147,8 @@ pub pairs_is : (x y : List Pair) → pairs_done x ≡ pairs_done y → x ≡ y
 pairs_is x y e = cc
 
 -- texts that are members with scores, put in
-pub told_all : (xs : List (List ℕ)) (pairs : List Pair) (ss : List Scored) (first : Value) → paired xs ≡ Ok pairs → scored pairs ≡ Ok ss → next_found (next_found (paired xs) scored) (all_in with_scored first) ≡ all_in with_scored first ss
+pub told_all : (xs : List (List ℕ)) (pairs : List Pair) (ss : List Scored) (first : Value) → paired xs ≡ Ok pairs → scored pairs ≡ Ok ss
+    → next_found (next_found (paired xs) scored) (all_in with_scored first) ≡ all_in with_scored first ss
 told_all xs pairs ss first e f =
     ap (λ (q : Result (List Pair) LoadKind). next_found (next_found q scored) (all_in with_scored first)) e
     ∙ ap (λ (q : Result (List Scored) LoadKind). next_found q (all_in with_scored first)) f

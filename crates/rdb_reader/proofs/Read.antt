@@ -60,7 +60,8 @@ module _ (world : World) (name : List ℕ) (entry : Entry) where
     | inr here ↦
         let same : n ≡ db = omega (arith, here, lt) in
         let joined : len (new n) ≡ len (world.bases n) + 1 =
-        ap len (cond-true _ _ _ (eq-eqb n db same)) ∙ len-insert nat_list_cmp_total (world.bases db) name entry ∙ ap (λ o. cond (is_some o) (len (world.bases db)) (len (world.bases db) + 1)) none ∙ ap (λ k. len (world.bases k) + 1) (sym same) in
+        ap len (cond-true _ _ _ (eq-eqb n db same)) ∙ len-insert nat_list_cmp_total (world.bases db) name entry
+        ∙ ap (λ o. cond (is_some o) (len (world.bases db)) (len (world.bases db) + 1)) none ∙ ap (λ k. len (world.bases k) + 1) (sym same) in
         omega (arith, below n (omega (arith, here)), joined)
   ]
 
@@ -80,7 +81,11 @@ module _ (bytes : List ℕ) (moment : ℕ) (world : World) (p : Progress) (h : H
   Further next to count = (r : Reached bytes moment next to) × (p.keys + p.passed + count ≡ keys_among r.items)
 
   further : (x : Item) (next : ℕ) → Stands item x bytes p.at next → is_end x ≡ false → is_fresh state x ≡ true → Further next (after moment state x) (keys_of x)
-  further x next s e fresh = (goes_on bytes moment p.at state x next h.reached s e fresh, omega (arith, h.items, among_more h.reached.items x, ap keys_among (goes_on_items bytes moment p.at state x next h.reached s e fresh)))
+  further x next s e fresh = (
+    goes_on bytes moment p.at state x next h.reached s e fresh,
+    omega
+        (arith, h.items, among_more h.reached.items x, ap keys_among (goes_on_items bytes moment p.at state x next h.reached s e fresh)),
+  )
 
   module _ (next : ℕ) where
     pub passed_read : Stands item Passed bytes p.at next → Holds bytes moment world (record p { at = next }) × (p.at < next)
@@ -105,14 +110,16 @@ module _ (bytes : List ℕ) (moment : ℕ) (world : World) (p : Progress) (h : H
       behind : (look (selecting world p.db) name ≡ None) → Further next (after moment state (Key name value)) 1
       behind none = further (Key name value) next s refl (ap is_none none)
 
-      pub key_kept : (new : World) → Puts moment (selecting world p.db) (selecting new p.db) name entry puts.Kept → Holds bytes moment new (record p { at = next; deadline = None; keys = p.keys + 1 }) × (p.at < next)
+      pub key_kept : (new : World) → Puts moment (selecting world p.db) (selecting new p.db) name entry puts.Kept
+          → Holds bytes moment new (record p { at = next; deadline = None; keys = p.keys + 1 }) × (p.at < next)
       key_kept new k =
           let leads : (after moment state (Key name value)).world ≡ selecting new p.db = cond-true _ _ _ k.1 ∙ sym k.2 in
           let f = subst (λ w. Further next (record { world = w; deadline = None }) 1) leads (behind k.0) in
           let more : keys_below 16 new.bases ≡ keys_below 16 world.bases + 1 = ap (λ (w : World). keys_below 16 w.bases) k.2 ∙ one_more (selecting world p.db) name entry 16 h.selected k.0 in
           (record { reached = f.0; items = omega (arith, f.1); keys = omega (arith, h.keys, more); few = omega (arith, h.few, lt); within = s.inside; selected = h.selected; latest = tt }, lt)
 
-      pub key_passed : (new : World) → Puts moment (selecting world p.db) (selecting new p.db) name entry puts.Passed → Holds bytes moment new (record p { at = next; deadline = None; passed = p.passed + 1 }) × (p.at < next)
+      pub key_passed : (new : World) → Puts moment (selecting world p.db) (selecting new p.db) name entry puts.Passed
+          → Holds bytes moment new (record p { at = next; deadline = None; passed = p.passed + 1 }) × (p.at < next)
       key_passed new k =
           let leads : (after moment state (Key name value)).world ≡ selecting new p.db = cond-false _ _ _ k.1 ∙ sym k.2 in
           let f = subst (λ w. Further next (record { world = w; deadline = None }) 1) leads (behind k.0) in
@@ -162,7 +169,18 @@ collection_key bytes moment so_far old new name layout next s (Err loads.Limit) 
 collection_key bytes moment so_far old new name layout next s (Err loads.Memory) r = inr (record { name = name; layout = layout; next = next; stands = s })
 
 -- nothing is read yet
-pub holds_nothing : (bytes text : List ℕ) (moment next : ℕ) (world : World) → world ≡ new_world → Stands header text bytes 0 next → Holds bytes moment world (record { at = next; db = 0; deadline = None; keys = 0; passed = 0 })
+pub holds_nothing : (bytes text : List ℕ) (moment next : ℕ) (world : World) → world ≡ new_world → Stands header text bytes 0 next
+    → Holds bytes moment world (record { at = next; db = 0; deadline = None; keys = 0; passed = 0 })
 holds_nothing bytes text moment next world e s =
     let P : World → Type 0 = λ w. Holds bytes moment w (record { at = next; db = 0; deadline = None; keys = 0; passed = 0 }) in
-    subst P (sym e) (record { reached = begins bytes text moment next s; items = sym (ap keys_among (begins_items bytes text moment next s)); keys = sym (none_below 16); few = omega arith; within = s.inside; selected = lit< tt; latest = tt })
+    subst P (sym e)
+    (record {
+      reached = begins bytes text moment next s;
+      items = sym (ap keys_among (begins_items bytes text moment next s));
+      keys = sym (none_below 16);
+      few = omega arith;
+      within =
+          s.inside;
+      selected = lit< tt;
+      latest = tt;
+    })

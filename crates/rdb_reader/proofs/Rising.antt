@@ -47,7 +47,8 @@ appended_least xs ys a b =
 numbers_put : (k : List ℕ) (es : List (List ℕ × Unit {0})) → are_numbers (map (λ e. e.0) (put (slice_cmp nat_cmp) k tt es)) ≡ true → are_numbers (map (λ e. e.0) es) ≡ true
 numbers_put k [] h = refl
 numbers_put k (e ∷ es) h =
-    elim (slice_cmp nat_cmp k e.0) as (λ o. are_numbers (map (λ e. e.0) (by_order o ((k, tt) ∷ e ∷ es) ((e.0, tt) ∷ es) (e ∷ put (slice_cmp nat_cmp) k tt es))) ≡ true → are_numbers (map (λ e. e.0) (e ∷ es)) ≡ true) [
+    elim (slice_cmp nat_cmp k e.0) as
+    (λ o. are_numbers (map (λ e. e.0) (by_order o ((k, tt) ∷ e ∷ es) ((e.0, tt) ∷ es) (e ∷ put (slice_cmp nat_cmp) k tt es))) ≡ true → are_numbers (map (λ e. e.0) (e ∷ es)) ≡ true) [
       | Less ↦ λ is. (and_parts (is_some (number_of k)) (are_numbers (map (λ e. e.0) (e ∷ es))) is).1
       | Equal ↦ λ is. is
       | Greater ↦ λ is. let parts = and_parts (is_some (number_of e.0)) (are_numbers (map (λ e. e.0) (put (slice_cmp nat_cmp) k tt es))) is in and_from _ _ parts.0 (numbers_put k es parts.1)
@@ -75,7 +76,8 @@ set_fewer limits a b n m l k all le short Skiplist h = h
 set_fewer limits a b n m l k all le short Quicklist h = h
 set_fewer limits a b n m l k all le short Stream h = h
 
-pub joined_least : (limits : Limits) (set : Strings) (k : List ℕ) (a b : Form) → IsLeast (FitsMembers limits set) a → IsLeastFrom a (FitsMembers limits (insert set k tt)) b → IsLeast (FitsMembers limits (insert set k tt)) b
+pub joined_least : (limits : Limits) (set : Strings) (k : List ℕ) (a b : Form) → IsLeast (FitsMembers limits set) a → IsLeastFrom a (FitsMembers limits (insert set k tt)) b
+    → IsLeast (FitsMembers limits (insert set k tt)) b
 joined_least limits set k a b =
     let made = entries-insert nat_list_cmp_total set k tt in
     let more : len set ≤ len (insert set k tt) = subst (λ n. len set ≤ n) (sym (len-insert nat_list_cmp_total set k tt)) (cond_more _ (len set)) in
@@ -92,7 +94,9 @@ fresh_none (Some x) e = absurd cc
 pairs_put : (k v : List ℕ) (es : List Pair) → list_any (eq_by_cmp (slice_cmp nat_cmp) k) (map (λ e. e.0) es) ≡ false → longest_pair es ≤ longest_pair (put (slice_cmp nat_cmp) k v es)
 pairs_put k v [] none = omega arith
 pairs_put k v (e ∷ es) none =
-    elim (slice_cmp nat_cmp k e.0) as (λ o. (is_eq o || list_any (eq_by_cmp (slice_cmp nat_cmp) k) (map (λ e. e.0) es)) ≡ false → longest_pair (e ∷ es) ≤ longest_pair (by_order o ((k, v) ∷ e ∷ es) ((e.0, v) ∷ es) (e ∷ put (slice_cmp nat_cmp) k v es))) [
+    elim (slice_cmp nat_cmp k e.0) as
+    (λ o. (is_eq o || list_any (eq_by_cmp (slice_cmp nat_cmp) k) (map (λ e. e.0) es)) ≡ false
+    → longest_pair (e ∷ es) ≤ longest_pair (by_order o ((k, v) ∷ e ∷ es) ((e.0, v) ∷ es) (e ∷ put (slice_cmp nat_cmp) k v es))) [
       | Less ↦ λ is. omega arith
       | Equal ↦ λ is. absurd (two_ways is)
       | Greater ↦ λ is. omega (arith, pairs_put k v es is)
@@ -121,11 +125,13 @@ zset_fewer limits n m l k le short Skiplist h = h
 zset_fewer limits n m l k le short Quicklist h = h
 zset_fewer limits n m l k le short Stream h = h
 
-pub scored_least : (limits : Limits) (scores : ScoreMap) (k : List ℕ) (v : ℤ) (a b : Form) → IsLeast (FitsScored limits scores) a → IsLeastFrom a (FitsScored limits (insert scores k v)) b → IsLeast (FitsScored limits (insert scores k v)) b
+pub scored_least : (limits : Limits) (scores : ScoreMap) (k : List ℕ) (v : ℤ) (a b : Form) → IsLeast (FitsScored limits scores) a → IsLeastFrom a (FitsScored limits (insert scores k v)) b
+    → IsLeast (FitsScored limits (insert scores k v)) b
 scored_least limits scores k v a b =
     let made = entries-insert nat_list_cmp_total scores k v in
     let more : len scores ≤ len (insert scores k v) = subst (λ n. len scores ≤ n) (sym (len-insert nat_list_cmp_total scores k v)) (cond_more _ (len scores)) in
-    let long : longest_member (entries scores) ≤ longest_member (entries (insert scores k v)) = subst (λ es. longest_member (entries scores) ≤ longest_member es) (sym made) (scores_put k v (entries scores)) in
+    let long : longest_member (entries scores) ≤ longest_member (entries (insert scores k v)) =
+    subst (λ es. longest_member (entries scores) ≤ longest_member es) (sym made) (scores_put k v (entries scores)) in
     least_then (FitsScored limits scores) (FitsScored limits (insert scores k v)) a b (zset_fewer limits _ _ _ _ more long)
 
 hash_fewer : (limits : Limits) (n m l k : ℕ) → n ≤ m → l ≤ k → (form : Form) → FitsHash limits m k form → FitsHash limits n l form
@@ -136,9 +142,11 @@ hash_fewer limits n m l k le short Skiplist h = h
 hash_fewer limits n m l k le short Quicklist h = h
 hash_fewer limits n m l k le short Stream h = h
 
-pub field_least : (limits : Limits) (fields : FieldMap) (k v : List ℕ) (a b : Form) → get fields k ≡ None → IsLeast (FitsFields limits fields) a → IsLeastFrom a (FitsFields limits (insert fields k v)) b → IsLeast (FitsFields limits (insert fields k v)) b
+pub field_least : (limits : Limits) (fields : FieldMap) (k v : List ℕ) (a b : Form) → get fields k ≡ None → IsLeast (FitsFields limits fields) a
+    → IsLeastFrom a (FitsFields limits (insert fields k v)) b → IsLeast (FitsFields limits (insert fields k v)) b
 field_least limits fields k v a b none =
     let made = entries-insert nat_list_cmp_total fields k v in
     let more : len fields ≤ len (insert fields k v) = subst (λ n. len fields ≤ n) (sym (len-insert nat_list_cmp_total fields k v)) (cond_more _ (len fields)) in
-    let long : longest_pair (entries fields) ≤ longest_pair (entries (insert fields k v)) = subst (λ es. longest_pair (entries fields) ≤ longest_pair es) (sym made) (pairs_put k v (entries fields) (sym (contains_key-keys fields k) ∙ ap is_some none)) in
+    let long : longest_pair (entries fields) ≤ longest_pair (entries (insert fields k v)) =
+    subst (λ es. longest_pair (entries fields) ≤ longest_pair es) (sym made) (pairs_put k v (entries fields) (sym (contains_key-keys fields k) ∙ ap is_some none)) in
     least_then (FitsFields limits fields) (FitsFields limits (insert fields k v)) a b (hash_fewer limits _ _ _ _ more long)

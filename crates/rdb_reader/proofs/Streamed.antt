@@ -19,6 +19,7 @@ pub same_stream : (a b : Stream) → StreamOf a ≡ StreamOf b → a ≡ b
 same_stream a b e = ap (stream_in b) e
 
 -- its fault is that of loading
-pub stream_fails : (type : StreamType) (bytes : List ℕ) (at : ℕ) (value : Value) (fault : ItemFault) → StreamReads (stream type) bytes at value (Err fault) → Reads (stream type) bytes at value (Err (load_fault fault))
+pub stream_fails : (type : StreamType) (bytes : List ℕ) (at : ℕ) (value : Value) (fault : ItemFault) → StreamReads (stream type) bytes at value (Err fault)
+    → Reads (stream type) bytes at value (Err (load_fault fault))
 stream_fails type bytes at value (items.Refused which place) f = f
 stream_fails type bytes at value items.Memory f = f

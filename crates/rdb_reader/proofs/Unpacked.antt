@@ -84,13 +84,16 @@ abbrev pub PutSoFar : {E : Type 0} → (Value → E → Result Value LoadKind) �
 PutSoFar one first xs k made = all_in one first xs ≡ all_in one made (drop k xs)
 
 -- one more is put in
-pub put_one : {E : Type 0} (one : Value → E → Result Value LoadKind) (first : Value) (xs : List E) (k : ℕ) (d : E) (made more : Value) → k < length xs → PutSoFar one first xs k made → one made (get_or xs k d) ≡ Ok more → PutSoFar one first xs (k + 1) more
+pub put_one : {E : Type 0} (one : Value → E → Result Value LoadKind) (first : Value) (xs : List E) (k : ℕ) (d : E) (made more : Value) → k < length xs → PutSoFar one first xs k made
+    → one made (get_or xs k d) ≡ Ok more → PutSoFar one first xs (k + 1) more
 put_one {E = E} one first xs k d made more inside h e =
-    let step : all_in one made (get_or xs k d ∷ drop (k + 1) xs) ≡ all_in one more (drop (k + 1) xs) = ap (λ (q : Result Value LoadKind). next_found q (λ (z : Value). all_in one z (drop (k + 1) xs))) e in
+    let step : all_in one made (get_or xs k d ∷ drop (k + 1) xs) ≡ all_in one more (drop (k + 1) xs) =
+    ap (λ (q : Result Value LoadKind). next_found q (λ (z : Value). all_in one z (drop (k + 1) xs))) e in
     h ∙ ap (λ (ys : List E). all_in one made ys) (drop_more xs k d inside) ∙ step
 
 -- the fault of one is that of all
-pub put_breaks : {E : Type 0} (one : Value → E → Result Value LoadKind) (first : Value) (xs : List E) (k : ℕ) (d : E) (made : Value) (kind : LoadKind) → k < length xs → PutSoFar one first xs k made → one made (get_or xs k d) ≡ Err kind → all_in one first xs ≡ Err kind
+pub put_breaks : {E : Type 0} (one : Value → E → Result Value LoadKind) (first : Value) (xs : List E) (k : ℕ) (d : E) (made : Value) (kind : LoadKind) → k < length xs
+    → PutSoFar one first xs k made → one made (get_or xs k d) ≡ Err kind → all_in one first xs ≡ Err kind
 put_breaks {E = E} one first xs k d made kind inside h e =
     let step : all_in one made (get_or xs k d ∷ drop (k + 1) xs) ≡ Err kind = ap (λ (q : Result Value LoadKind). next_found q (λ (z : Value). all_in one z (drop (k + 1) xs))) e in
     h ∙ ap (λ (ys : List E). all_in one made ys) (drop_more xs k d inside) ∙ step
@@ -100,7 +103,8 @@ pub put_all : {E : Type 0} (one : Value → E → Result Value LoadKind) (first 
 put_all {E = E} one first xs k made over h = h ∙ ap (λ (ys : List E). all_in one made ys) (drop_all k xs over)
 
 -- what became of one fault becomes of all
-pub breaks_on : {E : Type 0} (one : Value → E → Result Value LoadKind) (first : Value) (xs : List E) (k : ℕ) (d x : E) (made old new : Value) (at : ℕ) → k < length xs → x ≡ get_or xs k d → PutSoFar one first xs k made → (fault : LoadFault) → Makes (one made x) at old (Err fault) → Makes (all_in one first xs) at new (Err fault)
+pub breaks_on : {E : Type 0} (one : Value → E → Result Value LoadKind) (first : Value) (xs : List E) (k : ℕ) (d x : E) (made old new : Value) (at : ℕ) → k < length xs → x ≡ get_or xs k d
+    → PutSoFar one first xs k made → (fault : LoadFault) → Makes (one made x) at old (Err fault) → Makes (all_in one first xs) at new (Err fault)
 breaks_on {E = E} one first xs k d x made old new at inside is h (loads.Refused what place) f = (put_breaks one first xs k d made what inside h (ap (λ (y : E). one made y) (sym is) ∙ f.0), f.1)
 breaks_on one first xs k d x made old new at inside is h loads.Host f = f
 breaks_on one first xs k d x made old new at inside is h loads.Limit f = f
@@ -144,19 +148,22 @@ no_pairs bytes made fault f =
 
 pub scores_made : (bytes : List ℕ) (made : Value) → IsPack bytes → (scores_on made).found bytes ≡ next_found (next_found (paired (texts bytes)) scored) (all_in with_scored made)
 scores_made bytes made p =
-    ap (λ (q : Result (List (List ℕ)) LoadKind). next_found (next_found (next_found q paired) scored) (all_in with_scored made)) (texts_in-decided.again bytes (texts bytes) ((exactly_one bytes).whole p))
+    ap (λ (q : Result (List (List ℕ)) LoadKind). next_found (next_found (next_found q paired) scored) (all_in with_scored made))
+    (texts_in-decided.again bytes (texts bytes) ((exactly_one bytes).whole p))
 
 pub no_scores : (bytes : List ℕ) (made : Value) (fault : PackFault) → IsFault bytes fault → (scores_on made).found bytes ≡ Err kinds.Listpack
 no_scores bytes made fault f =
     ap (λ (q : Result (List (List ℕ)) LoadKind). next_found (next_found (next_found q paired) scored) (all_in with_scored made)) (texts_in-decided.first bytes kinds.Listpack ((fault, f), refl))
 
 -- the fault of what holds members of a set
-pub no_intset_makes : (packed : Packed) (bytes : List ℕ) (made new : Value) (at : ℕ) (fault : IntsetFault) (load : LoadFault) → packed ≡ packs.Numbers → load ≡ loads.Refused kinds.Intset at → HasFault bytes fault → Makes ((held packed made).found bytes) at new (Err load)
+pub no_intset_makes : (packed : Packed) (bytes : List ℕ) (made new : Value) (at : ℕ) (fault : IntsetFault) (load : LoadFault) → packed ≡ packs.Numbers
+    → load ≡ loads.Refused kinds.Intset at → HasFault bytes fault → Makes ((held packed made).found bytes) at new (Err load)
 no_intset_makes packed bytes made new at fault load e f h =
     subst (λ (p : Packed). Makes ((held p made).found bytes) at new (Err load)) (sym e)
     (subst (λ (l : LoadFault). Makes ((numbers_on made).found bytes) at new (Err l)) (sym f) (no_numbers bytes made fault h, refl))
 
-pub no_pack_makes : (packed : Packed) (bytes : List ℕ) (made new : Value) (at : ℕ) (fault : PackFault) (load : LoadFault) → packed ≡ packs.Texts → load ≡ loads.Refused kinds.Listpack at → IsFault bytes fault → Makes ((held packed made).found bytes) at new (Err load)
+pub no_pack_makes : (packed : Packed) (bytes : List ℕ) (made new : Value) (at : ℕ) (fault : PackFault) (load : LoadFault) → packed ≡ packs.Texts → load ≡ loads.Refused kinds.Listpack at
+    → IsFault bytes fault → Makes ((held packed made).found bytes) at new (Err load)
 no_pack_makes packed bytes made new at fault load e f h =
     subst (λ (p : Packed). Makes ((held p made).found bytes) at new (Err load)) (sym e)
     (subst (λ (l : LoadFault). Makes ((texts_on made).found bytes) at new (Err l)) (sym f) (no_texts bytes made fault h, refl))

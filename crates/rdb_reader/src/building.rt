@@ -64,7 +64,9 @@ pub(crate) fn push_element<B: BlockStore>(
     requires at { at ≤ length bytes.now }
     ensures adds { Adds bytes.now at (ListOf (chain.elements (B.blocks store.old) list.old)) (ListOf (chain.elements (B.blocks store.new) list.new)) result }
     ensures sound { chain.IsQuick (B.blocks store.new) list.new }
-    ensures form { IfOk result (λ next. IsLeast (FitsList (pack_len (chain.elements (B.blocks store.old) list.old))) list.old.form → IsLeast (FitsList (pack_len (chain.elements (B.blocks store.new) list.new))) list.new.form) }
+    ensures form { IfOk result
+        (λ next. IsLeast (FitsList (pack_len (chain.elements (B.blocks store.old) list.old))) list.old.form
+        → IsLeast (FitsList (pack_len (chain.elements (B.blocks store.new) list.new))) list.new.form) }
     ensures changes { Changes (B.blocks store.old) (B.blocks store.new) (chain.refs list.old) (chain.refs list.new) }
     ensures served { Served B.step store.old store.new }
 {
@@ -93,7 +95,9 @@ fn add_member<B: BlockStore>(
     ensures adds { Adds bytes.now at (SetOf (set.members (B.blocks store.old) members.old)) (SetOf (set.members (B.blocks store.new) members.new)) result }
     ensures sound { set.IsMembers (B.blocks store.new) members.new }
     ensures settings { set.KeepsSettings members.old members.new }
-    ensures form { IfOk result (λ next. IsLeast (FitsMembers members.old.limits (set.members (B.blocks store.old) members.old)) (set.form_of members.old) → IsLeast (FitsMembers members.old.limits (set.members (B.blocks store.new) members.new)) (set.form_of members.new)) }
+    ensures form { IfOk result
+        (λ next. IsLeast (FitsMembers members.old.limits (set.members (B.blocks store.old) members.old)) (set.form_of members.old)
+        → IsLeast (FitsMembers members.old.limits (set.members (B.blocks store.new) members.new)) (set.form_of members.new)) }
     ensures changes { Changes (B.blocks store.old) (B.blocks store.new) (set.refs members.old) (set.refs members.new) }
     ensures served { Served B.step store.old store.new }
 {
@@ -122,7 +126,9 @@ fn set_field<B: BlockStore>(
     ensures adds { Adds bytes.now at (HashOf (hash.fields (B.blocks store.old) fields.old)) (HashOf (hash.fields (B.blocks store.new) fields.new)) result }
     ensures sound { hash.IsFields (B.blocks store.new) fields.new }
     ensures settings { hash.KeepsSettings fields.old fields.new }
-    ensures form { IfOk result (λ next. IsLeast (FitsFields fields.old.limits (hash.fields (B.blocks store.old) fields.old)) (hash.form_of fields.old) → IsLeast (FitsFields fields.old.limits (hash.fields (B.blocks store.new) fields.new)) (hash.form_of fields.new)) }
+    ensures form { IfOk result
+        (λ next. IsLeast (FitsFields fields.old.limits (hash.fields (B.blocks store.old) fields.old)) (hash.form_of fields.old)
+        → IsLeast (FitsFields fields.old.limits (hash.fields (B.blocks store.new) fields.new)) (hash.form_of fields.new)) }
     ensures changes { Changes (B.blocks store.old) (B.blocks store.new) (hash.refs fields.old) (hash.refs fields.new) }
     ensures served { Served B.step store.old store.new }
 {
@@ -162,7 +168,9 @@ fn set_score<B: BlockStore>(
     ensures adds { Adds bytes.now at (SortedOf (zset.scores (B.blocks store.old) scored.old)) (SortedOf (zset.scores (B.blocks store.new) scored.new)) result }
     ensures sound { zset.IsScored (B.blocks store.new) scored.new }
     ensures settings { zset.KeepsSettings scored.old scored.new }
-    ensures form { IfOk result (λ next. IsLeast (FitsScored scored.old.limits (zset.scores (B.blocks store.old) scored.old)) (zset.form_of scored.old) → IsLeast (FitsScored scored.old.limits (zset.scores (B.blocks store.new) scored.new)) (zset.form_of scored.new)) }
+    ensures form { IfOk result
+        (λ next. IsLeast (FitsScored scored.old.limits (zset.scores (B.blocks store.old) scored.old)) (zset.form_of scored.old)
+        → IsLeast (FitsScored scored.old.limits (zset.scores (B.blocks store.new) scored.new)) (zset.form_of scored.new)) }
     ensures changes { Changes (B.blocks store.old) (B.blocks store.new) (zset.refs scored.old) (zset.refs scored.new) }
     ensures served { Served B.step store.old store.new }
 {
@@ -201,7 +209,9 @@ fn add_element<B: BlockStore>(
     requires at { at ≤ length bytes.now }
     ensures adds { Adds bytes.now at (value_of (B.blocks store.old) value.old) (value_of (B.blocks store.new) value.new) result }
     ensures sound { (limits : Limits) (seed : ℕ) → IsSound limits seed (B.blocks store.old) value.old → IsSound limits seed (B.blocks store.new) value.new }
-    ensures form { IfOk result (λ next. (limits : Limits) (seed : ℕ) → IsSound limits seed (B.blocks store.old) value.old → IsNew limits (B.blocks store.old) value.old → IsNew limits (B.blocks store.new) value.new) }
+    ensures form { IfOk result
+        (λ next. (limits : Limits) (seed : ℕ) → IsSound limits seed (B.blocks store.old) value.old → IsNew limits (B.blocks store.old) value.old
+        → IsNew limits (B.blocks store.new) value.new) }
     ensures changes { Changes (B.blocks store.old) (B.blocks store.new) (value_refs (B.blocks store.old) value.old) (value_refs (B.blocks store.new) value.new) }
     ensures served { Served B.step store.old store.new }
 {
@@ -229,7 +239,9 @@ pub(crate) fn fill<B: BlockStore>(
     requires at { at ≤ length bytes.now }
     ensures fills { Fills bytes.now at count (value_of (B.blocks store.old) value.old) (value_of (B.blocks store.new) value.new) result }
     ensures sound { (limits : Limits) (seed : ℕ) → IsSound limits seed (B.blocks store.old) value.old → IsSound limits seed (B.blocks store.new) value.new }
-    ensures form { IfOk result (λ next. (limits : Limits) (seed : ℕ) → IsSound limits seed (B.blocks store.old) value.old → IsNew limits (B.blocks store.old) value.old → IsNew limits (B.blocks store.new) value.new) }
+    ensures form { IfOk result
+        (λ next. (limits : Limits) (seed : ℕ) → IsSound limits seed (B.blocks store.old) value.old → IsNew limits (B.blocks store.old) value.old
+        → IsNew limits (B.blocks store.new) value.new) }
     ensures changes { Changes (B.blocks store.old) (B.blocks store.new) (value_refs (B.blocks store.old) value.old) (value_refs (B.blocks store.new) value.new) }
     ensures served { Served B.step store.old store.new }
 {

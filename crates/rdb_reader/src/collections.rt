@@ -80,12 +80,16 @@ fn put_made<B: BlockStore>(
     requires latest { IsDeadline deadline }
     requires beside { SoundBeside keyspace.old.bases (B.blocks keyspace.old.store) (value_refs (B.blocks keyspace.old.store) value) }
     requires own { IsSound keyspace.old.bases.limits keyspace.old.bases.seed (B.blocks keyspace.old.store) value }
-    ensures puts { IfOk result (Puts moment (means db keyspace.old.bases (B.blocks keyspace.old.store)) (means db keyspace.new.bases (B.blocks keyspace.new.store)) name.now (record { value = value_of (B.blocks keyspace.old.store) value; deadline = deadline })) }
+    ensures puts { IfOk result
+        (Puts moment (means db keyspace.old.bases (B.blocks keyspace.old.store)) (means db keyspace.new.bases (B.blocks keyspace.new.store)) name.now
+        (record { value = value_of (B.blocks keyspace.old.store) value; deadline = deadline })) }
     ensures sound { Sound keyspace.new.bases (B.blocks keyspace.new.store) }
     ensures served { Served B.step keyspace.old.store keyspace.new.store }
     ensures settings { SameSettings keyspace.old.bases keyspace.new.bases }
     ensures within { Within any_key keyspace.old.bases keyspace.new.bases (B.blocks keyspace.old.store) (B.blocks keyspace.new.store) }
-    ensures form { IfOk result (λ put. IsNew keyspace.old.bases.limits (B.blocks keyspace.old.store) value → AreNew keyspace.old.bases (B.blocks keyspace.old.store) → AreNew keyspace.new.bases (B.blocks keyspace.new.store)) }
+    ensures form { IfOk result
+        (λ put. IsNew keyspace.old.bases.limits (B.blocks keyspace.old.store) value → AreNew keyspace.old.bases (B.blocks keyspace.old.store)
+        → AreNew keyspace.new.bases (B.blocks keyspace.new.store)) }
 {
     match fate(keyspace, db, name, &value, deadline, moment) {
         Put::Kept => {
@@ -121,7 +125,8 @@ pub fn put_collection<B: BlockStore>(
     requires latest { IsDeadline deadline }
     requires at { at ≤ length bytes.now }
     requires sound { Sound keyspace.old.bases (B.blocks keyspace.old.store) }
-    ensures reads { ReadsCollection bytes.now moment (means db keyspace.old.bases (B.blocks keyspace.old.store)) (means db keyspace.new.bases (B.blocks keyspace.new.store)) (text_of name.now) layout at deadline result }
+    ensures reads { ReadsCollection bytes.now moment (means db keyspace.old.bases (B.blocks keyspace.old.store)) (means db keyspace.new.bases (B.blocks keyspace.new.store)) (text_of name.now) layout
+        at deadline result }
     ensures sound { Sound keyspace.new.bases (B.blocks keyspace.new.store) }
     ensures served { Served B.step keyspace.old.store keyspace.new.store }
     ensures settings { SameSettings keyspace.old.bases keyspace.new.bases }

@@ -62,7 +62,8 @@ fn read_key<B: BlockStore>(
     requires latest { IsDeadline so_far.deadline }
     requires stands { IsPartAt bytes.now so_far.at next (key_of (text_of name.now) value.now) }
     requires sound { Sound keyspace.old.bases (B.blocks keyspace.old.store) }
-    ensures reads { ReadsKey bytes.now moment so_far (means so_far.db keyspace.old.bases (B.blocks keyspace.old.store)) (means so_far.db keyspace.new.bases (B.blocks keyspace.new.store)) (text_of name.now) result }
+    ensures reads { ReadsKey bytes.now moment so_far (means so_far.db keyspace.old.bases (B.blocks keyspace.old.store)) (means so_far.db keyspace.new.bases (B.blocks keyspace.new.store))
+        (text_of name.now) result }
     ensures sound { Sound keyspace.new.bases (B.blocks keyspace.new.store) }
     ensures served { Served B.step keyspace.old.store keyspace.new.store }
     ensures settings { SameSettings keyspace.old.bases keyspace.new.bases }

@@ -45,7 +45,9 @@ fn put_text<B: BlockStore>(
     requires db { db < 16 }
     requires latest { IsDeadline deadline }
     requires sound { Sound keyspace.old.bases (B.blocks keyspace.old.store) }
-    ensures world { OnOk result (means db keyspace.new.bases (B.blocks keyspace.new.store) ≡ put (means db keyspace.old.bases (B.blocks keyspace.old.store)) name.now (record { value = Str (text_of value.now); deadline = deadline })) }
+    ensures world { OnOk result
+        (means db keyspace.new.bases (B.blocks keyspace.new.store) ≡ put (means db keyspace.old.bases (B.blocks keyspace.old.store)) name.now
+        (record { value = Str (text_of value.now); deadline = deadline })) }
     ensures sound { Sound keyspace.new.bases (B.blocks keyspace.new.store) }
     ensures served { Served B.step keyspace.old.store keyspace.new.store }
     ensures settings { SameSettings keyspace.old.bases keyspace.new.bases }
@@ -103,7 +105,9 @@ pub fn put_key<B: BlockStore>(
     requires latest { IsDeadline deadline }
     requires sound { Sound keyspace.old.bases (B.blocks keyspace.old.store) }
     ensures memory { OnErr result (in_time moment deadline ≡ true) }
-    ensures puts { IfOk result (Puts moment (means db keyspace.old.bases (B.blocks keyspace.old.store)) (means db keyspace.new.bases (B.blocks keyspace.new.store)) (text_of name.now) (record { value = Str (text_of value.now); deadline = deadline })) }
+    ensures puts { IfOk result
+        (Puts moment (means db keyspace.old.bases (B.blocks keyspace.old.store)) (means db keyspace.new.bases (B.blocks keyspace.new.store)) (text_of name.now)
+        (record { value = Str (text_of value.now); deadline = deadline })) }
     ensures sound { Sound keyspace.new.bases (B.blocks keyspace.new.store) }
     ensures served { Served B.step keyspace.old.store keyspace.new.store }
     ensures settings { SameSettings keyspace.old.bases keyspace.new.bases }

@@ -35,7 +35,9 @@ fn push<B: BlockStore>(list: &mut Quick, store: &mut B, text: &[u8]) -> Result<(
     ensures pushed { OnOk result (chain.elements (B.blocks store.new) list.new ≡ chain.elements (B.blocks store.old) list.old ++ text.now ∷ []) }
     ensures memory { IfErr result (λ fault. fault ≡ LoadFault.Memory) }
     ensures sound { chain.IsQuick (B.blocks store.new) list.new }
-    ensures form { OnOk result (IsLeast (FitsList (pack_len (chain.elements (B.blocks store.old) list.old))) list.old.form → IsLeast (FitsList (pack_len (chain.elements (B.blocks store.new) list.new))) list.new.form) }
+    ensures form { OnOk result
+        (IsLeast (FitsList (pack_len (chain.elements (B.blocks store.old) list.old))) list.old.form
+        → IsLeast (FitsList (pack_len (chain.elements (B.blocks store.new) list.new))) list.new.form) }
     ensures changes { Changes (B.blocks store.old) (B.blocks store.new) (chain.refs list.old) (chain.refs list.new) }
     ensures served { Served B.step store.old store.new }
 {
@@ -57,7 +59,9 @@ fn push_texts<B: BlockStore>(
     requires { chain.IsQuick (B.blocks store.old) list.old }
     ensures makes { Makes (all_in with_text (ListOf (chain.elements (B.blocks store.old) list.old)) (list_of pack.now)) at (ListOf (chain.elements (B.blocks store.new) list.new)) result }
     ensures sound { chain.IsQuick (B.blocks store.new) list.new }
-    ensures form { OnOk result (IsLeast (FitsList (pack_len (chain.elements (B.blocks store.old) list.old))) list.old.form → IsLeast (FitsList (pack_len (chain.elements (B.blocks store.new) list.new))) list.new.form) }
+    ensures form { OnOk result
+        (IsLeast (FitsList (pack_len (chain.elements (B.blocks store.old) list.old))) list.old.form
+        → IsLeast (FitsList (pack_len (chain.elements (B.blocks store.new) list.new))) list.new.form) }
     ensures changes { Changes (B.blocks store.old) (B.blocks store.new) (chain.refs list.old) (chain.refs list.new) }
     ensures served { Served B.step store.old store.new }
 {
@@ -88,7 +92,9 @@ fn take_texts<B: BlockStore>(
     requires { chain.IsQuick (B.blocks store.old) list.old }
     ensures makes { Makes (all_in with_text (ListOf (chain.elements (B.blocks store.old) list.old)) (list_of pack.now)) at (ListOf (chain.elements (B.blocks store.new) list.new)) result }
     ensures sound { chain.IsQuick (B.blocks store.new) list.new }
-    ensures form { OnOk result (IsLeast (FitsList (pack_len (chain.elements (B.blocks store.old) list.old))) list.old.form → IsLeast (FitsList (pack_len (chain.elements (B.blocks store.new) list.new))) list.new.form) }
+    ensures form { OnOk result
+        (IsLeast (FitsList (pack_len (chain.elements (B.blocks store.old) list.old))) list.old.form
+        → IsLeast (FitsList (pack_len (chain.elements (B.blocks store.new) list.new))) list.new.form) }
     ensures changes { Changes (B.blocks store.old) (B.blocks store.new) (chain.refs list.old) (chain.refs list.new) }
     ensures served { Served B.step store.old store.new }
 {
@@ -110,7 +116,9 @@ fn unpack_texts<B: BlockStore>(
     requires { chain.IsQuick (B.blocks store.old) list.old }
     ensures makes { Makes ((texts_on (ListOf (chain.elements (B.blocks store.old) list.old))).found payload.now) at (ListOf (chain.elements (B.blocks store.new) list.new)) result }
     ensures sound { chain.IsQuick (B.blocks store.new) list.new }
-    ensures form { OnOk result (IsLeast (FitsList (pack_len (chain.elements (B.blocks store.old) list.old))) list.old.form → IsLeast (FitsList (pack_len (chain.elements (B.blocks store.new) list.new))) list.new.form) }
+    ensures form { OnOk result
+        (IsLeast (FitsList (pack_len (chain.elements (B.blocks store.old) list.old))) list.old.form
+        → IsLeast (FitsList (pack_len (chain.elements (B.blocks store.new) list.new))) list.new.form) }
     ensures changes { Changes (B.blocks store.old) (B.blocks store.new) (chain.refs list.old) (chain.refs list.new) }
     ensures served { Served B.step store.old store.new }
 {
@@ -132,7 +140,9 @@ fn read_elements<B: BlockStore>(
     requires at { at ≤ length bytes.now }
     ensures fills { Reads (inside string (texts_on (ListOf (chain.elements (B.blocks store.old) list.old)))) bytes.now at (ListOf (chain.elements (B.blocks store.new) list.new)) result }
     ensures sound { chain.IsQuick (B.blocks store.new) list.new }
-    ensures form { IfOk result (λ next. IsLeast (FitsList (pack_len (chain.elements (B.blocks store.old) list.old))) list.old.form → IsLeast (FitsList (pack_len (chain.elements (B.blocks store.new) list.new))) list.new.form) }
+    ensures form { IfOk result
+        (λ next. IsLeast (FitsList (pack_len (chain.elements (B.blocks store.old) list.old))) list.old.form
+        → IsLeast (FitsList (pack_len (chain.elements (B.blocks store.new) list.new))) list.new.form) }
     ensures changes { Changes (B.blocks store.old) (B.blocks store.new) (chain.refs list.old) (chain.refs list.new) }
     ensures served { Served B.step store.old store.new }
 {
@@ -159,7 +169,9 @@ fn read_node<B: BlockStore>(
     requires at { at ≤ length bytes.now }
     ensures adds { Reads (with_node (ListOf (chain.elements (B.blocks store.old) list.old))) bytes.now at (ListOf (chain.elements (B.blocks store.new) list.new)) result }
     ensures sound { chain.IsQuick (B.blocks store.new) list.new }
-    ensures form { IfOk result (λ next. IsLeast (FitsList (pack_len (chain.elements (B.blocks store.old) list.old))) list.old.form → IsLeast (FitsList (pack_len (chain.elements (B.blocks store.new) list.new))) list.new.form) }
+    ensures form { IfOk result
+        (λ next. IsLeast (FitsList (pack_len (chain.elements (B.blocks store.old) list.old))) list.old.form
+        → IsLeast (FitsList (pack_len (chain.elements (B.blocks store.new) list.new))) list.new.form) }
     ensures changes { Changes (B.blocks store.old) (B.blocks store.new) (chain.refs list.old) (chain.refs list.new) }
     ensures served { Served B.step store.old store.new }
 {
@@ -185,7 +197,9 @@ fn read_list<B: BlockStore>(
     requires at { at ≤ length bytes.now }
     ensures fills { Reads (in_turn with_node count (ListOf (chain.elements (B.blocks store.old) list.old))) bytes.now at (ListOf (chain.elements (B.blocks store.new) list.new)) result }
     ensures sound { chain.IsQuick (B.blocks store.new) list.new }
-    ensures form { IfOk result (λ next. IsLeast (FitsList (pack_len (chain.elements (B.blocks store.old) list.old))) list.old.form → IsLeast (FitsList (pack_len (chain.elements (B.blocks store.new) list.new))) list.new.form) }
+    ensures form { IfOk result
+        (λ next. IsLeast (FitsList (pack_len (chain.elements (B.blocks store.old) list.old))) list.old.form
+        → IsLeast (FitsList (pack_len (chain.elements (B.blocks store.new) list.new))) list.new.form) }
     ensures changes { Changes (B.blocks store.old) (B.blocks store.new) (chain.refs list.old) (chain.refs list.new) }
     ensures served { Served B.step store.old store.new }
 {
@@ -213,7 +227,9 @@ pub(crate) fn read_nodes<B: BlockStore>(
     requires at { at ≤ length bytes.now }
     ensures fills { Reads (in_turn with_node count (value_of (B.blocks store.old) value.old)) bytes.now at (value_of (B.blocks store.new) value.new) result }
     ensures sound { (limits : Limits) (seed : ℕ) → IsSound limits seed (B.blocks store.old) value.old → IsSound limits seed (B.blocks store.new) value.new }
-    ensures form { IfOk result (λ next. (limits : Limits) (seed : ℕ) → IsSound limits seed (B.blocks store.old) value.old → IsNew limits (B.blocks store.old) value.old → IsNew limits (B.blocks store.new) value.new) }
+    ensures form { IfOk result
+        (λ next. (limits : Limits) (seed : ℕ) → IsSound limits seed (B.blocks store.old) value.old → IsNew limits (B.blocks store.old) value.old
+        → IsNew limits (B.blocks store.new) value.new) }
     ensures changes { Changes (B.blocks store.old) (B.blocks store.new) (value_refs (B.blocks store.old) value.old) (value_refs (B.blocks store.new) value.new) }
     ensures served { Served B.step store.old store.new }
 {

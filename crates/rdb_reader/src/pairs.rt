@@ -67,7 +67,9 @@ fn set_pair<B: BlockStore>(
     ensures makes { Makes (with_pair (HashOf (hash.fields (B.blocks store.old) fields.old)) (field.now, value.now)) at (HashOf (hash.fields (B.blocks store.new) fields.new)) result }
     ensures sound { hash.IsFields (B.blocks store.new) fields.new }
     ensures settings { hash.KeepsSettings fields.old fields.new }
-    ensures form { OnOk result (IsLeast (FitsFields fields.old.limits (hash.fields (B.blocks store.old) fields.old)) (hash.form_of fields.old) → IsLeast (FitsFields fields.old.limits (hash.fields (B.blocks store.new) fields.new)) (hash.form_of fields.new)) }
+    ensures form { OnOk result
+        (IsLeast (FitsFields fields.old.limits (hash.fields (B.blocks store.old) fields.old)) (hash.form_of fields.old)
+        → IsLeast (FitsFields fields.old.limits (hash.fields (B.blocks store.new) fields.new)) (hash.form_of fields.new)) }
     ensures changes { Changes (B.blocks store.old) (B.blocks store.new) (hash.refs fields.old) (hash.refs fields.new) }
     ensures served { Served B.step store.old store.new }
 {
@@ -87,10 +89,13 @@ fn set_pairs<B: BlockStore>(
     at: usize,
 ) -> Result<(), LoadFault>
     requires { hash.IsFields (B.blocks store.old) fields.old }
-    ensures makes { Makes (next_found (paired (list_of pack.now)) (all_in with_pair (HashOf (hash.fields (B.blocks store.old) fields.old)))) at (HashOf (hash.fields (B.blocks store.new) fields.new)) result }
+    ensures makes { Makes (next_found (paired (list_of pack.now)) (all_in with_pair (HashOf (hash.fields (B.blocks store.old) fields.old)))) at (HashOf (hash.fields (B.blocks store.new) fields.new))
+        result }
     ensures sound { hash.IsFields (B.blocks store.new) fields.new }
     ensures settings { hash.KeepsSettings fields.old fields.new }
-    ensures form { OnOk result (IsLeast (FitsFields fields.old.limits (hash.fields (B.blocks store.old) fields.old)) (hash.form_of fields.old) → IsLeast (FitsFields fields.old.limits (hash.fields (B.blocks store.new) fields.new)) (hash.form_of fields.new)) }
+    ensures form { OnOk result
+        (IsLeast (FitsFields fields.old.limits (hash.fields (B.blocks store.old) fields.old)) (hash.form_of fields.old)
+        → IsLeast (FitsFields fields.old.limits (hash.fields (B.blocks store.new) fields.new)) (hash.form_of fields.new)) }
     ensures changes { Changes (B.blocks store.old) (B.blocks store.new) (hash.refs fields.old) (hash.refs fields.new) }
     ensures served { Served B.step store.old store.new }
 {
@@ -126,10 +131,13 @@ fn take_pairs<B: BlockStore>(
     at: usize,
 ) -> Result<(), LoadFault>
     requires { hash.IsFields (B.blocks store.old) fields.old }
-    ensures makes { Makes (next_found (paired (list_of pack.now)) (all_in with_pair (HashOf (hash.fields (B.blocks store.old) fields.old)))) at (HashOf (hash.fields (B.blocks store.new) fields.new)) result }
+    ensures makes { Makes (next_found (paired (list_of pack.now)) (all_in with_pair (HashOf (hash.fields (B.blocks store.old) fields.old)))) at (HashOf (hash.fields (B.blocks store.new) fields.new))
+        result }
     ensures sound { hash.IsFields (B.blocks store.new) fields.new }
     ensures settings { hash.KeepsSettings fields.old fields.new }
-    ensures form { OnOk result (IsLeast (FitsFields fields.old.limits (hash.fields (B.blocks store.old) fields.old)) (hash.form_of fields.old) → IsLeast (FitsFields fields.old.limits (hash.fields (B.blocks store.new) fields.new)) (hash.form_of fields.new)) }
+    ensures form { OnOk result
+        (IsLeast (FitsFields fields.old.limits (hash.fields (B.blocks store.old) fields.old)) (hash.form_of fields.old)
+        → IsLeast (FitsFields fields.old.limits (hash.fields (B.blocks store.new) fields.new)) (hash.form_of fields.new)) }
     ensures changes { Changes (B.blocks store.old) (B.blocks store.new) (hash.refs fields.old) (hash.refs fields.new) }
     ensures served { Served B.step store.old store.new }
 {
@@ -152,7 +160,9 @@ fn unpack_pairs<B: BlockStore>(
     ensures makes { Makes ((pairs_on (HashOf (hash.fields (B.blocks store.old) fields.old))).found payload.now) at (HashOf (hash.fields (B.blocks store.new) fields.new)) result }
     ensures sound { hash.IsFields (B.blocks store.new) fields.new }
     ensures settings { hash.KeepsSettings fields.old fields.new }
-    ensures form { OnOk result (IsLeast (FitsFields fields.old.limits (hash.fields (B.blocks store.old) fields.old)) (hash.form_of fields.old) → IsLeast (FitsFields fields.old.limits (hash.fields (B.blocks store.new) fields.new)) (hash.form_of fields.new)) }
+    ensures form { OnOk result
+        (IsLeast (FitsFields fields.old.limits (hash.fields (B.blocks store.old) fields.old)) (hash.form_of fields.old)
+        → IsLeast (FitsFields fields.old.limits (hash.fields (B.blocks store.new) fields.new)) (hash.form_of fields.new)) }
     ensures changes { Changes (B.blocks store.old) (B.blocks store.new) (hash.refs fields.old) (hash.refs fields.new) }
     ensures served { Served B.step store.old store.new }
 {
@@ -175,7 +185,9 @@ pub(crate) fn read_fields<B: BlockStore>(
     ensures fills { Reads (inside string (pairs_on (HashOf (hash.fields (B.blocks store.old) fields.old)))) bytes.now at (HashOf (hash.fields (B.blocks store.new) fields.new)) result }
     ensures sound { hash.IsFields (B.blocks store.new) fields.new }
     ensures settings { hash.KeepsSettings fields.old fields.new }
-    ensures form { IfOk result (λ next. IsLeast (FitsFields fields.old.limits (hash.fields (B.blocks store.old) fields.old)) (hash.form_of fields.old) → IsLeast (FitsFields fields.old.limits (hash.fields (B.blocks store.new) fields.new)) (hash.form_of fields.new)) }
+    ensures form { IfOk result
+        (λ next. IsLeast (FitsFields fields.old.limits (hash.fields (B.blocks store.old) fields.old)) (hash.form_of fields.old)
+        → IsLeast (FitsFields fields.old.limits (hash.fields (B.blocks store.new) fields.new)) (hash.form_of fields.new)) }
     ensures changes { Changes (B.blocks store.old) (B.blocks store.new) (hash.refs fields.old) (hash.refs fields.new) }
     ensures served { Served B.step store.old store.new }
 {
@@ -248,7 +260,9 @@ fn set_scored<B: BlockStore>(
     ensures makes { Makes (with_scored (SortedOf (zset.scores (B.blocks store.old) scored.old)) (member.now, score)) at (SortedOf (zset.scores (B.blocks store.new) scored.new)) result }
     ensures sound { zset.IsScored (B.blocks store.new) scored.new }
     ensures settings { zset.KeepsSettings scored.old scored.new }
-    ensures form { OnOk result (IsLeast (FitsScored scored.old.limits (zset.scores (B.blocks store.old) scored.old)) (zset.form_of scored.old) → IsLeast (FitsScored scored.old.limits (zset.scores (B.blocks store.new) scored.new)) (zset.form_of scored.new)) }
+    ensures form { OnOk result
+        (IsLeast (FitsScored scored.old.limits (zset.scores (B.blocks store.old) scored.old)) (zset.form_of scored.old)
+        → IsLeast (FitsScored scored.old.limits (zset.scores (B.blocks store.new) scored.new)) (zset.form_of scored.new)) }
     ensures changes { Changes (B.blocks store.old) (B.blocks store.new) (zset.refs scored.old) (zset.refs scored.new) }
     ensures served { Served B.step store.old store.new }
 {
@@ -269,10 +283,13 @@ fn set_scores<B: BlockStore>(
     at: usize,
 ) -> Result<(), LoadFault>
     requires { zset.IsScored (B.blocks store.old) scored.old }
-    ensures makes { Makes (next_found (next_found (paired (list_of pack.now)) scored_of) (all_in with_scored (SortedOf (zset.scores (B.blocks store.old) scored.old)))) at (SortedOf (zset.scores (B.blocks store.new) scored.new)) result }
+    ensures makes { Makes (next_found (next_found (paired (list_of pack.now)) scored_of) (all_in with_scored (SortedOf (zset.scores (B.blocks store.old) scored.old)))) at
+        (SortedOf (zset.scores (B.blocks store.new) scored.new)) result }
     ensures sound { zset.IsScored (B.blocks store.new) scored.new }
     ensures settings { zset.KeepsSettings scored.old scored.new }
-    ensures form { OnOk result (IsLeast (FitsScored scored.old.limits (zset.scores (B.blocks store.old) scored.old)) (zset.form_of scored.old) → IsLeast (FitsScored scored.old.limits (zset.scores (B.blocks store.new) scored.new)) (zset.form_of scored.new)) }
+    ensures form { OnOk result
+        (IsLeast (FitsScored scored.old.limits (zset.scores (B.blocks store.old) scored.old)) (zset.form_of scored.old)
+        → IsLeast (FitsScored scored.old.limits (zset.scores (B.blocks store.new) scored.new)) (zset.form_of scored.new)) }
     ensures changes { Changes (B.blocks store.old) (B.blocks store.new) (zset.refs scored.old) (zset.refs scored.new) }
     ensures served { Served B.step store.old store.new }
 {
@@ -318,7 +335,9 @@ fn unpack_scores<B: BlockStore>(
     ensures makes { Makes ((scores_on (SortedOf (zset.scores (B.blocks store.old) scored.old))).found payload.now) at (SortedOf (zset.scores (B.blocks store.new) scored.new)) result }
     ensures sound { zset.IsScored (B.blocks store.new) scored.new }
     ensures settings { zset.KeepsSettings scored.old scored.new }
-    ensures form { OnOk result (IsLeast (FitsScored scored.old.limits (zset.scores (B.blocks store.old) scored.old)) (zset.form_of scored.old) → IsLeast (FitsScored scored.old.limits (zset.scores (B.blocks store.new) scored.new)) (zset.form_of scored.new)) }
+    ensures form { OnOk result
+        (IsLeast (FitsScored scored.old.limits (zset.scores (B.blocks store.old) scored.old)) (zset.form_of scored.old)
+        → IsLeast (FitsScored scored.old.limits (zset.scores (B.blocks store.new) scored.new)) (zset.form_of scored.new)) }
     ensures changes { Changes (B.blocks store.old) (B.blocks store.new) (zset.refs scored.old) (zset.refs scored.new) }
     ensures served { Served B.step store.old store.new }
 {
@@ -341,7 +360,9 @@ pub(crate) fn read_scored<B: BlockStore>(
     ensures fills { Reads (inside string (scores_on (SortedOf (zset.scores (B.blocks store.old) scored.old)))) bytes.now at (SortedOf (zset.scores (B.blocks store.new) scored.new)) result }
     ensures sound { zset.IsScored (B.blocks store.new) scored.new }
     ensures settings { zset.KeepsSettings scored.old scored.new }
-    ensures form { IfOk result (λ next. IsLeast (FitsScored scored.old.limits (zset.scores (B.blocks store.old) scored.old)) (zset.form_of scored.old) → IsLeast (FitsScored scored.old.limits (zset.scores (B.blocks store.new) scored.new)) (zset.form_of scored.new)) }
+    ensures form { IfOk result
+        (λ next. IsLeast (FitsScored scored.old.limits (zset.scores (B.blocks store.old) scored.old)) (zset.form_of scored.old)
+        → IsLeast (FitsScored scored.old.limits (zset.scores (B.blocks store.new) scored.new)) (zset.form_of scored.new)) }
     ensures changes { Changes (B.blocks store.old) (B.blocks store.new) (zset.refs scored.old) (zset.refs scored.new) }
     ensures served { Served B.step store.old store.new }
 {

@@ -51,7 +51,9 @@ fn join<B: BlockStore>(
     ensures makes { Makes (with_text (SetOf (set.members (B.blocks store.old) members.old)) text.now) at (SetOf (set.members (B.blocks store.new) members.new)) result }
     ensures sound { set.IsMembers (B.blocks store.new) members.new }
     ensures settings { set.KeepsSettings members.old members.new }
-    ensures form { OnOk result (IsLeast (FitsMembers members.old.limits (set.members (B.blocks store.old) members.old)) (set.form_of members.old) → IsLeast (FitsMembers members.old.limits (set.members (B.blocks store.new) members.new)) (set.form_of members.new)) }
+    ensures form { OnOk result
+        (IsLeast (FitsMembers members.old.limits (set.members (B.blocks store.old) members.old)) (set.form_of members.old)
+        → IsLeast (FitsMembers members.old.limits (set.members (B.blocks store.new) members.new)) (set.form_of members.new)) }
     ensures changes { Changes (B.blocks store.old) (B.blocks store.new) (set.refs members.old) (set.refs members.new) }
     ensures served { Served B.step store.old store.new }
 {
@@ -74,7 +76,9 @@ fn join_numbers<B: BlockStore>(
     ensures makes { Makes (all_in with_text (SetOf (set.members (B.blocks store.old) members.old)) (map canonical numbers.now)) at (SetOf (set.members (B.blocks store.new) members.new)) result }
     ensures sound { set.IsMembers (B.blocks store.new) members.new }
     ensures settings { set.KeepsSettings members.old members.new }
-    ensures form { OnOk result (IsLeast (FitsMembers members.old.limits (set.members (B.blocks store.old) members.old)) (set.form_of members.old) → IsLeast (FitsMembers members.old.limits (set.members (B.blocks store.new) members.new)) (set.form_of members.new)) }
+    ensures form { OnOk result
+        (IsLeast (FitsMembers members.old.limits (set.members (B.blocks store.old) members.old)) (set.form_of members.old)
+        → IsLeast (FitsMembers members.old.limits (set.members (B.blocks store.new) members.new)) (set.form_of members.new)) }
     ensures changes { Changes (B.blocks store.old) (B.blocks store.new) (set.refs members.old) (set.refs members.new) }
     ensures served { Served B.step store.old store.new }
 {
@@ -110,7 +114,9 @@ fn join_texts<B: BlockStore>(
     ensures makes { Makes (all_in with_text (SetOf (set.members (B.blocks store.old) members.old)) (list_of pack.now)) at (SetOf (set.members (B.blocks store.new) members.new)) result }
     ensures sound { set.IsMembers (B.blocks store.new) members.new }
     ensures settings { set.KeepsSettings members.old members.new }
-    ensures form { OnOk result (IsLeast (FitsMembers members.old.limits (set.members (B.blocks store.old) members.old)) (set.form_of members.old) → IsLeast (FitsMembers members.old.limits (set.members (B.blocks store.new) members.new)) (set.form_of members.new)) }
+    ensures form { OnOk result
+        (IsLeast (FitsMembers members.old.limits (set.members (B.blocks store.old) members.old)) (set.form_of members.old)
+        → IsLeast (FitsMembers members.old.limits (set.members (B.blocks store.new) members.new)) (set.form_of members.new)) }
     ensures changes { Changes (B.blocks store.old) (B.blocks store.new) (set.refs members.old) (set.refs members.new) }
     ensures served { Served B.step store.old store.new }
 {
@@ -149,7 +155,9 @@ fn unpack<B: BlockStore>(
     ensures makes { Makes ((held packed (SetOf (set.members (B.blocks store.old) members.old))).found payload.now) at (SetOf (set.members (B.blocks store.new) members.new)) result }
     ensures sound { set.IsMembers (B.blocks store.new) members.new }
     ensures settings { set.KeepsSettings members.old members.new }
-    ensures form { OnOk result (IsLeast (FitsMembers members.old.limits (set.members (B.blocks store.old) members.old)) (set.form_of members.old) → IsLeast (FitsMembers members.old.limits (set.members (B.blocks store.new) members.new)) (set.form_of members.new)) }
+    ensures form { OnOk result
+        (IsLeast (FitsMembers members.old.limits (set.members (B.blocks store.old) members.old)) (set.form_of members.old)
+        → IsLeast (FitsMembers members.old.limits (set.members (B.blocks store.new) members.new)) (set.form_of members.new)) }
     ensures changes { Changes (B.blocks store.old) (B.blocks store.new) (set.refs members.old) (set.refs members.new) }
     ensures served { Served B.step store.old store.new }
 {
@@ -181,7 +189,9 @@ fn read_members<B: BlockStore>(
     ensures fills { Reads (inside string (held packed (SetOf (set.members (B.blocks store.old) members.old)))) bytes.now at (SetOf (set.members (B.blocks store.new) members.new)) result }
     ensures sound { set.IsMembers (B.blocks store.new) members.new }
     ensures settings { set.KeepsSettings members.old members.new }
-    ensures form { IfOk result (λ next. IsLeast (FitsMembers members.old.limits (set.members (B.blocks store.old) members.old)) (set.form_of members.old) → IsLeast (FitsMembers members.old.limits (set.members (B.blocks store.new) members.new)) (set.form_of members.new)) }
+    ensures form { IfOk result
+        (λ next. IsLeast (FitsMembers members.old.limits (set.members (B.blocks store.old) members.old)) (set.form_of members.old)
+        → IsLeast (FitsMembers members.old.limits (set.members (B.blocks store.new) members.new)) (set.form_of members.new)) }
     ensures changes { Changes (B.blocks store.old) (B.blocks store.new) (set.refs members.old) (set.refs members.new) }
     ensures served { Served B.step store.old store.new }
 {
@@ -210,7 +220,9 @@ pub(crate) fn read_payload<B: BlockStore>(
     requires at { at ≤ length bytes.now }
     ensures fills { Reads (inside string (held packed (value_of (B.blocks store.old) value.old))) bytes.now at (value_of (B.blocks store.new) value.new) result }
     ensures sound { (limits : Limits) (seed : ℕ) → IsSound limits seed (B.blocks store.old) value.old → IsSound limits seed (B.blocks store.new) value.new }
-    ensures form { IfOk result (λ next. (limits : Limits) (seed : ℕ) → IsSound limits seed (B.blocks store.old) value.old → IsNew limits (B.blocks store.old) value.old → IsNew limits (B.blocks store.new) value.new) }
+    ensures form { IfOk result
+        (λ next. (limits : Limits) (seed : ℕ) → IsSound limits seed (B.blocks store.old) value.old → IsNew limits (B.blocks store.old) value.old
+        → IsNew limits (B.blocks store.new) value.new) }
     ensures changes { Changes (B.blocks store.old) (B.blocks store.new) (value_refs (B.blocks store.old) value.old) (value_refs (B.blocks store.new) value.new) }
     ensures served { Served B.step store.old store.new }
 {

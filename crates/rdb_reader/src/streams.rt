@@ -44,7 +44,9 @@ pub(crate) fn read_whole<B: BlockStore>(
     requires at { at ≤ length bytes.now }
     ensures fills { Reads (stream_format stream_type) bytes.now at (value_of (B.blocks store.new) value.new) result }
     ensures sound { (limits : Limits) (seed : ℕ) → IsSound limits seed (B.blocks store.old) value.old → IsSound limits seed (B.blocks store.new) value.new }
-    ensures form { IfOk result (λ next. (limits : Limits) (seed : ℕ) → IsSound limits seed (B.blocks store.old) value.old → IsNew limits (B.blocks store.old) value.old → IsNew limits (B.blocks store.new) value.new) }
+    ensures form { IfOk result
+        (λ next. (limits : Limits) (seed : ℕ) → IsSound limits seed (B.blocks store.old) value.old → IsNew limits (B.blocks store.old) value.old
+        → IsNew limits (B.blocks store.new) value.new) }
     ensures changes { Changes (B.blocks store.old) (B.blocks store.new) (value_refs (B.blocks store.old) value.old) (value_refs (B.blocks store.new) value.new) }
     ensures served { Served B.step store.old store.new }
 {

@@ -12,10 +12,12 @@ use Rattle.rdb_grammar.specs.declared.values.StreamType.{StreamType}
 use Rattle.rdb_grammar.specs.Format.{Format, give, followed, checked}
 use Rattle.rdb_grammar.specs.Strings.{string}
 use Rattle.rdb_grammar.specs.Places.{Stands, Fails}
-use Rattle.rdb_grammar.specs.StreamParts.{Begun, begun, claimed, claimed_id, consumer_name, counted, group_last, group_name, handed, is_claimed, named_group, pending_id, sixteen_bytes, times, with_claim, with_consumer, with_group, with_unclaimed}
+use Rattle.rdb_grammar.specs.StreamParts.{Begun, begun, claimed, claimed_id, consumer_name, counted, group_last, group_name, handed, is_claimed, named_group, pending_id, sixteen_bytes}
+use Rattle.rdb_grammar.specs.StreamParts.{times, with_claim, with_consumer, with_group, with_unclaimed}
 use Rattle.rdb_grammar.proofs.Exactly.{Exact, give-exact, followed-exact, checked-exact}
 use Rattle.rdb_grammar.proofs.StringsExact.{string-exact}
-use Rattle.rdb_grammar.proofs.StreamsExact.{claimed_id-exact, consumer_name-exact, counted-exact, group_last-exact, group_name-exact, handed-exact, named_group-exact, pending_id-exact, sixteen_bytes-exact, times-exact, with_claim-exact, with_consumer-exact, with_unclaimed-exact}
+use Rattle.rdb_grammar.proofs.StreamsExact.{claimed_id-exact, consumer_name-exact, counted-exact, group_last-exact, group_name-exact, handed-exact, named_group-exact, pending_id-exact}
+use Rattle.rdb_grammar.proofs.StreamsExact.{sixteen_bytes-exact, times-exact, with_claim-exact, with_consumer-exact, with_unclaimed-exact}
 use Rattle.rdb_streams.specs.Grouped.{behind_name}
 use Rattle.rdb_streams.specs.Reading.{Reads}
 use Rattle.rdb_streams.proofs.Placed.{give_stands, first_fails, then_reads, tested_fails, passes, falls}
@@ -61,7 +63,8 @@ module _ (bytes : List ℕ) (at : ℕ) (made : Begun) where
       handed_fails which place f = behind_id made (Err (faults.Refused which place)) (first_fails handed (put_behind id) bytes next which place f)
 
       -- one entry more
-      pub pending_put : (how : ℕ × ℕ) (last : ℕ) → Stands handed how bytes next last → Stands (with_unclaimed made) (record { group = made.group; unclaimed = insert made.unclaimed id how }) bytes at last
+      pub pending_put : (how : ℕ × ℕ) (last : ℕ) → Stands handed how bytes next last
+          → Stands (with_unclaimed made) (record { group = made.group; unclaimed = insert made.unclaimed id how }) bytes at last
       pending_put how last t =
           let more : Begun = record { group = made.group; unclaimed = insert made.unclaimed id how } in
           behind_id more (Ok last) (then_reads handed (put_behind id) bytes next handed-exact (λ x. give-exact _) last how t more (Ok last) (give_stands more bytes last t.inside))
@@ -86,9 +89,11 @@ module _ (consumer : List ℕ) (bytes : List ℕ) (at : ℕ) (made : Begun) wher
     -- it is pending for the consumer now
     pub claim_made : (how : ℕ × ℕ) → get made.unclaimed id ≡ Some how → Stands (with_claim consumer made) (claimed consumer made id (Some how)) bytes at next
     claim_made how some =
-        let old : Stands (claimed_id made) id bytes at next = passes kinds.Group (λ id. not (is_none (get made.unclaimed id))) sixteen_bytes bytes at next id s (ap (λ (o : Option (ℕ × ℕ)). not (is_none o)) some) in
+        let old : Stands (claimed_id made) id bytes at next = passes kinds.Group (λ id. not (is_none (get made.unclaimed id))) sixteen_bytes bytes at next id s
+        (ap (λ (o : Option (ℕ × ℕ)). not (is_none o)) some) in
         let new : Begun = claimed consumer made id (get made.unclaimed id) in
-        let all : Stands (with_claim consumer made) new bytes at next = then_reads (claimed_id made) claim_behind bytes at (claimed_id-exact made) (λ x. give-exact _) next id old new (Ok next) (give_stands new bytes next s.inside) in
+        let all : Stands (with_claim consumer made) new bytes at next =
+        then_reads (claimed_id made) claim_behind bytes at (claimed_id-exact made) (λ x. give-exact _) next id old new (Ok next) (give_stands new bytes next s.inside) in
         subst (λ (o : Option (ℕ × ℕ)). Stands (with_claim consumer made) (claimed consumer made id o) bytes at next) some all
 
 -- ---- consumers
@@ -128,7 +133,8 @@ module _ (type : StreamType) (bytes : List ℕ) (at : ℕ) (made : Begun) where
       pub times_fails : (which : LoadKind) (place : ℕ) → Fails (times type) bytes next which place → Fails (with_consumer type made) bytes at which place
       times_fails which place f = behind_consumer made (Err (faults.Refused which place)) (first_fails (times type) (claims_behind name) bytes next which place f)
 
-      pub claims_read : (last : ℕ) → Stands (times type) tt bytes next last → (new : Begun) (result : Result ℕ ItemFault) → Reads (counted (with_claim name) (named name)) bytes last new result → Reads (with_consumer type made) bytes at new result
+      pub claims_read : (last : ℕ) → Stands (times type) tt bytes next last → (new : Begun) (result : Result ℕ ItemFault)
+          → Reads (counted (with_claim name) (named name)) bytes last new result → Reads (with_consumer type made) bytes at new result
       claims_read last t new result r =
           behind_consumer new result (then_reads (times type) (claims_behind name) bytes next (times-exact type) (claims_behind-exact name) last tt t new result r)
 
@@ -167,7 +173,8 @@ module _ (type : StreamType) (name : List ℕ) where
       behind_last : (new : List ℕ × Begun) (result : Result ℕ ItemFault) → Reads (pendings_behind last) bytes next new result → Reads (behind_name type name) bytes at new result
       behind_last = then_reads (group_last type) pendings_behind bytes at (group_last-exact type) pendings_behind-exact next last s
 
-      pub pendings_fail : (some : Begun) (new : List ℕ × Begun) (fault : ItemFault) → Reads (counted with_unclaimed (begun last)) bytes next some (Err fault) → Reads (behind_name type name) bytes at new (Err fault)
+      pub pendings_fail : (some : Begun) (new : List ℕ × Begun) (fault : ItemFault) → Reads (counted with_unclaimed (begun last)) bytes next some (Err fault)
+          → Reads (behind_name type name) bytes at new (Err fault)
       pendings_fail some new (faults.Refused which place) f =
           behind_last new (Err (faults.Refused which place)) (first_fails (counted with_unclaimed (begun last)) consumers_behind bytes next which place f)
       pendings_fail some new faults.Memory f = tt
@@ -177,10 +184,12 @@ module _ (type : StreamType) (name : List ℕ) where
         behind_pendings new result r =
             behind_last new result (then_reads (counted with_unclaimed (begun last)) consumers_behind bytes next (all_pendings-exact last) consumers_behind-exact middle pending t new result r)
 
-        pub consumers_read : (new : Begun) (result : Result ℕ ItemFault) → Reads (counted (with_consumer type) pending) bytes middle new result → Reads (behind_name type name) bytes at (name, new) result
+        pub consumers_read : (new : Begun) (result : Result ℕ ItemFault) → Reads (counted (with_consumer type) pending) bytes middle new result
+            → Reads (behind_name type name) bytes at (name, new) result
         consumers_read new (Ok end) r =
             behind_pendings (name, new) (Ok end)
-            (then_reads (counted (with_consumer type) pending) named_of bytes middle (all_consumers-exact pending) (λ made. give-exact _) end new r (name, new) (Ok end) (give_stands (name, new) bytes end r.inside))
+            (then_reads (counted (with_consumer type) pending) named_of bytes middle (all_consumers-exact pending) (λ made. give-exact _) end new r (name, new) (Ok end)
+            (give_stands (name, new) bytes end r.inside))
         consumers_read new (Err (faults.Refused which place)) f =
             behind_pendings (name, new) (Err (faults.Refused which place)) (first_fails (counted (with_consumer type) pending) named_of bytes middle which place f)
         consumers_read new (Err faults.Memory) f = tt

@@ -31,7 +31,8 @@ module _ {S : Type 0} (one : S → Format S) (exact : (made : S) → Exact (one 
       rw r refl
 
   -- behind one part the others are left
-  pub count_on : (next rest : ℕ) (made : S) (last : ℕ) (more : S) → CountsOn one bytes at first next (suc rest) made → Stands (one made) more bytes next last → CountsOn one bytes at first last rest more
+  pub count_on : (next rest : ℕ) (made : S) (last : ℕ) (more : S) → CountsOn one bytes at first next (suc rest) made → Stands (one made) more bytes next last
+      → CountsOn one bytes at first last rest more
   unfolding in_turn
   count_on next rest made last more h s =
       let r : (one made).read (drop next bytes) ≡ Ok (more, drop last bytes) = reads (one made) (exact made) more bytes next last s in
@@ -46,7 +47,8 @@ module _ {S : Type 0} (one : S → Format S) (exact : (made : S) → Exact (one 
         stands_read (counted one first) (counted-exact one exact first) bytes at next made le inside h
 
     -- the fault of a part is that of all
-    pub part_fails : (next rest : ℕ) (made new : S) → CountsOn one bytes at first next (suc rest) made → (fault : ItemFault) → Reads (one made) bytes next new (Err fault) → Reads (counted one first) bytes at new (Err fault)
+    pub part_fails : (next rest : ℕ) (made new : S) → CountsOn one bytes at first next (suc rest) made → (fault : ItemFault) → Reads (one made) bytes next new (Err fault)
+        → Reads (counted one first) bytes at new (Err fault)
     unfolding in_turn
     part_fails next rest made new h (faults.Refused which place) f =
         let r : (one made).read (drop next bytes) ≡ Err (which, length bytes - place) = reads_fault (one made) (exact made) bytes next which place f in

@@ -90,7 +90,8 @@ pub groups-then : (a b c : Log) → b ≡ record a { groups = b.groups } → c �
 groups-then a b c h k = k ∙ ap (λ (s : Log). record s { groups = c.groups }) h
 
 -- a consumer stays where an id becomes pending
-pub consumer-stays : (groups : Groups) (name consumer : List ℕ) (id : Id) (entry : Pending) → map.contains_key groups name ≡ true → IfSome (map.get groups name) (λ group. IsTrue (has_consumer consumer group))
+pub consumer-stays : (groups : Groups) (name consumer : List ℕ) (id : Id) (entry : Pending) → map.contains_key groups name ≡ true
+    → IfSome (map.get groups name) (λ group. IsTrue (has_consumer consumer group))
     → IfSome (map.get (changed groups name (with_pending id entry)) name) (λ group. IsTrue (has_consumer consumer group))
 consumer-stays groups name consumer id entry there h =
     let is : map.get groups name ≡ Some (group_in groups name) = group-there groups name there in

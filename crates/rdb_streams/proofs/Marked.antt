@@ -70,7 +70,8 @@ all_behind-exact : (type : StreamType) (made : Nodes) → Exact (all_behind type
 all_behind-exact type made = followed-exact _ _ (marks-exact type made.entries) (groups_behind-exact type made)
 
 -- the faults of nodes are those of the stream
-pub nodes_fail : (type : StreamType) (bytes : List ℕ) (at : ℕ) (m : Blocks) (s : Log) (value : Value) (fault : ItemFault) → ReadsNodes bytes at m s (Err fault) → Reads (stream type) bytes at value (Err fault)
+pub nodes_fail : (type : StreamType) (bytes : List ℕ) (at : ℕ) (m : Blocks) (s : Log) (value : Value) (fault : ItemFault) → ReadsNodes bytes at m s (Err fault)
+    → Reads (stream type) bytes at value (Err fault)
 nodes_fail type bytes at m s value (faults.Refused which place) f = first_fails (counted with_node no_nodes) (all_behind type) bytes at which place f
 nodes_fail type bytes at m s value faults.Memory f = f
 
@@ -82,19 +83,24 @@ module _ (type : StreamType) (bytes : List ℕ) (at mid : ℕ) (m : Blocks) (s :
   same = λ i. marks_with type (length (entries m s)) (λ last. sym (r.2.is_greatest last) i)
 
   -- so are those of the marks behind them
-  pub marks_fail : (len : ℕ) → len ≡ length (entries m s) → (value : Value) (fault : ItemFault) (which : _) (place : ℕ) → fault ≡ faults.Refused which place → Fails (marks_with type len (is_from greatest)) bytes mid which place → Reads (stream type) bytes at value (Err fault)
+  pub marks_fail : (len : ℕ) → len ≡ length (entries m s) → (value : Value) (fault : ItemFault) (which : _) (place : ℕ) → fault ≡ faults.Refused which place
+      → Fails (marks_with type len (is_from greatest)) bytes mid which place → Reads (stream type) bytes at value (Err fault)
   marks_fail len are value fault which place is f =
-      let here : Fails (marks type (entries m s)) bytes mid which place = subst (λ (one : Format Marks). Fails one bytes mid which place) (ap (λ n. marks_with type n (is_from greatest)) are ∙ same) f in
+      let here : Fails (marks type (entries m s)) bytes mid which place =
+      subst (λ (one : Format Marks). Fails one bytes mid which place) (ap (λ n. marks_with type n (is_from greatest)) are ∙ same) f in
       subst (λ x. Reads (stream type) bytes at value (Err x)) (sym is) (
-      then_reads (counted with_node no_nodes) (all_behind type) bytes at (counted-exact with_node with_node-exact no_nodes) (all_behind-exact type) mid made r.1 value (Err (faults.Refused which place))
+      then_reads (counted with_node no_nodes) (all_behind type) bytes at (counted-exact with_node with_node-exact no_nodes) (all_behind-exact type) mid made r.1 value
+      (Err (faults.Refused which place))
       (first_fails (marks type made.entries) (groups_behind type made) bytes mid which place here))
 
   -- and groups behind marks make it whole
-  pub groups_read : (len : ℕ) → len ≡ length (entries m s) → (x : Marks) (next : ℕ) → Stands (marks_with type len (is_from greatest)) x bytes mid next → (groups : Groups) (value : Value) → value ≡ StreamOf (record { entries = entries m s; last = x.last; deleted = x.deleted; added = x.added; groups = groups })
+  pub groups_read : (len : ℕ) → len ≡ length (entries m s) → (x : Marks) (next : ℕ) → Stands (marks_with type len (is_from greatest)) x bytes mid next → (groups : Groups) (value : Value)
+      → value ≡ StreamOf (record { entries = entries m s; last = x.last; deleted = x.deleted; added = x.added; groups = groups })
       → (result : Result ℕ ItemFault) → Reads (counted (with_group type) empty) bytes next groups result → Reads (stream type) bytes at value result
   groups_read len are x next t groups value is result g =
       let here : Stands (marks type (entries m s)) x bytes mid next = subst (λ (one : Format Marks). Stands one x bytes mid next) (ap (λ n. marks_with type n (is_from greatest)) are ∙ same) t in
-      let last = seen_as (counted (with_group type) empty) (counted-exact (with_group type) (with_group-exact type) empty) (λ gs. StreamOf (record { entries = made.entries; last = x.last; deleted = x.deleted; added = x.added; groups = gs })) groups bytes next result g in
+      let last = seen_as (counted (with_group type) empty) (counted-exact (with_group type) (with_group-exact type) empty)
+      (λ gs. StreamOf (record { entries = made.entries; last = x.last; deleted = x.deleted; added = x.added; groups = gs })) groups bytes next result g in
       let behind = then_reads (marks type made.entries) (groups_behind type made) bytes mid (marks-exact type made.entries) (groups_behind-exact type made) next x here _ result last in
       subst (λ v. Reads (stream type) bytes at v result) (sym is)
       (then_reads (counted with_node no_nodes) (all_behind type) bytes at (counted-exact with_node with_node-exact no_nodes) (all_behind-exact type) mid made r.1 _ result behind)
@@ -102,7 +108,8 @@ module _ (type : StreamType) (bytes : List ℕ) (at mid : ℕ) (m : Blocks) (s :
 -- ---- the stream with its marks and groups
 
 -- what a stream is with other marks and groups
-module _ (m : Blocks) (old new : Log) (last deleted : Id) (added : ℕ) (groups : Groups) (is : IsStream m old) (now : new ≡ record old { last = last; deleted = deleted; added = added; groups = groups }) where
+module _ (m : Blocks) (old new : Log) (last deleted : Id) (added : ℕ) (groups : Groups) (is : IsStream m old)
+    (now : new ≡ record old { last = last; deleted = deleted; added = added; groups = groups }) where
   pub marked_sound : IsId last → AreUpto last (nodes m old) → IsStream m new
   marked_sound fits upto = subst (IsStream m) (sym now) (record { parts = is.parts; counted = is.counted; fits = fits; upto = upto; kept = is.kept })
 

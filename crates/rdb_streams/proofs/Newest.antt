@@ -46,7 +46,8 @@ and_true true = refl
 and_true false = refl
 
 -- an id that isn't below one from the greatest on isn't below the greatest
-both_from : (greatest : Option Id) (id : Id) → From greatest id → (last : Id) → (is_from greatest (pair_of last) && not (is_lt (id_cmp (pair_of last) (pair_of id)))) ≡ not (is_lt (id_cmp (pair_of last) (pair_of id)))
+both_from : (greatest : Option Id) (id : Id) → From greatest id → (last : Id)
+    → (is_from greatest (pair_of last) && not (is_lt (id_cmp (pair_of last) (pair_of id)))) ≡ not (is_lt (id_cmp (pair_of last) (pair_of id)))
 both_from None id p last = refl
 both_from (Some g) id p last = elim (below_or_not last id) [
   | inl below ↦
@@ -77,7 +78,8 @@ abbrev Goes : List StreamEntry → Seen → List Stored → Type 0
 Goes entries seen es = IsGreatest entries seen.greatest → AllByRecursion (λ e. From seen.greatest e.id) es → IsGreatest (entries ++ live_of es) (seen_behind seen es).greatest
 
 -- one entry and those behind it
-one_goes : (e : Stored) (es : List Stored) → AllByRecursion (λ f. From (Some e.id) f.id) es → ((xs : List StreamEntry) (s : Seen) → Goes xs s es) → (entries : List StreamEntry) (seen : Seen) (b : Bool) → e.deleted ≡ b → Goes entries seen (e ∷ es)
+one_goes : (e : Stored) (es : List Stored) → AllByRecursion (λ f. From (Some e.id) f.id) es → ((xs : List StreamEntry) (s : Seen) → Goes xs s es)
+    → (entries : List StreamEntry) (seen : Seen) (b : Bool) → e.deleted ≡ b → Goes entries seen (e ∷ es)
 one_goes e es rise goes entries seen true is h from =
     let more : Seen = seen_more seen e in
     let same : more.greatest ≡ seen.greatest = cond-true e.deleted seen.greatest (Some e.id) is in
@@ -89,7 +91,8 @@ one_goes e es rise goes entries seen false is h from =
     let all : (entries ++ plain e ∷ []) ++ live_of es ≡ entries ++ live_of (e ∷ es) =
     append_assoc entries (plain e ∷ []) (live_of es) ∙ ap (λ (xs : List StreamEntry). entries ++ xs) (sym (live_kept e es is)) in
     subst (λ (xs : List StreamEntry). IsGreatest xs (seen_behind more es).greatest) all
-    (goes (entries ++ plain e ∷ []) more (subst (IsGreatest (entries ++ plain e ∷ [])) (sym same) (one_greatest entries seen.greatest e h from.0)) (subst (λ (o : Option Id). AllByRecursion (λ f. From o f.id) es) (sym same) rise))
+    (goes (entries ++ plain e ∷ []) more (subst (IsGreatest (entries ++ plain e ∷ [])) (sym same) (one_greatest entries seen.greatest e h from.0))
+    (subst (λ (o : Option Id). AllByRecursion (λ f. From o f.id) es) (sym same) rise))
 
 -- all entries of a node, whose ids rise
 pub more_greatest : (es : List Stored) → Sorted es → AllByRecursion (λ e. IsId e.id) es → (entries : List StreamEntry) (seen : Seen) → Goes entries seen es

@@ -87,11 +87,14 @@ module _ (bytes : List ℕ) (at : ℕ) (made : Nodes) where
       node_not_put m s faults.Memory h = tt
 
 -- behind a node the others are read
-pub nodes_on : (bytes : List ℕ) (from n : ℕ) (first : Nodes) (at rest : ℕ) (made : Nodes) (next : ℕ) (more : Nodes) → GoesOn with_node bytes from n first at (suc rest) made → Stands (with_node made) more bytes at next → GoesOn with_node bytes from n first next rest more
+pub nodes_on : (bytes : List ℕ) (from n : ℕ) (first : Nodes) (at rest : ℕ) (made : Nodes) (next : ℕ) (more : Nodes) → GoesOn with_node bytes from n first at (suc rest) made
+    → Stands (with_node made) more bytes at next → GoesOn with_node bytes from n first next rest more
 nodes_on bytes from n first at rest made next more h s = h ∙ one_on with_node with_node-exact bytes at rest made next more s
 
 -- the fault of a node is that of all
-pub nodes_fail : (bytes : List ℕ) (from n : ℕ) (first : Nodes) (at rest : ℕ) (made : Nodes) (m : Blocks) (s : Log) → from ≤ length bytes → GoesOn with_node bytes from n first at (suc rest) made → (fault : ItemFault) → ReadsOn (with_node made) bytes at m s (Err fault) → ReadsOn (in_turn with_node n first) bytes from m s (Err fault)
+pub nodes_fail : (bytes : List ℕ) (from n : ℕ) (first : Nodes) (at rest : ℕ) (made : Nodes) (m : Blocks) (s : Log) → from ≤ length bytes
+    → GoesOn with_node bytes from n first at (suc rest) made → (fault : ItemFault) → ReadsOn (with_node made) bytes at m s (Err fault)
+    → ReadsOn (in_turn with_node n first) bytes from m s (Err fault)
 nodes_fail bytes from n first at rest made m s le h (faults.Refused what place) f = one_fails with_node with_node-exact bytes from n first at rest made what place le h f
 nodes_fail bytes from n first at rest made m s le h faults.Memory f = tt
 

@@ -98,7 +98,8 @@ from_greatest ps None id fits h below = tt
 from_greatest ps (Some g) id fits h below =
     λ is. (let bad : true ≡ false = sym (parts_upto id fits ps below) ∙ h (pair_of id) ∙ ap not (lt_below id g is) in cc)
 
-pub all_from : (ps : List Part) (greatest : Option Id) (es : List Stored) → IsGreatest (entries_in ps) greatest → AllByRecursion (λ e. IsId e.id) es → AreAbove ps es → AllByRecursion (λ e. From greatest e.id) es
+pub all_from : (ps : List Part) (greatest : Option Id) (es : List Stored) → IsGreatest (entries_in ps) greatest → AllByRecursion (λ e. IsId e.id) es → AreAbove ps es
+    → AllByRecursion (λ e. From greatest e.id) es
 all_from ps greatest [] h ids above = tt
 all_from ps greatest (e ∷ es) h ids above = (from_greatest ps greatest e.id ids.0 h above.0, all_from ps greatest es h ids.1 above.1)
 
@@ -113,7 +114,8 @@ above_id last ps [] fits ids low upto = tt
 above_id last ps (e ∷ es) fits ids low upto = (all_below last e.id ((id_laws.below last e.id fits ids.0).0 low.0) ps upto, above_id last ps es fits ids.1 low.1 upto)
 
 -- by its first id
-node_above : (before : Option Id) (key : Id) (list : List (List ℕ)) (ps : List Part) (es : List Stored) → IsNode key list → entries_of key list ≡ es → is_above before es ≡ true → IsAnId before → Covers before ps → AreAbove ps (entries_of key list)
+node_above : (before : Option Id) (key : Id) (list : List (List ℕ)) (ps : List Part) (es : List Stored) → IsNode key list → entries_of key list ≡ es → is_above before es ≡ true
+    → IsAnId before → Covers before ps → AreAbove ps (entries_of key list)
 node_above None key list ps es node is above fits cover = above_none (entries_of key list) ps cover
 node_above (Some last) key list ps [] node is above fits cover = subst (AreAbove ps) (sym is) tt
 node_above (Some last) key list ps (e ∷ es) node is above fits cover =
@@ -127,7 +129,8 @@ is_kept true x y h = refl
 is_kept false x y h = absurd (let bad : told_by false x ≡ Ok y = h in cc)
 
 -- where it was found behind them
-pub found_above : (made : Nodes) (key : Id) (payload : List ℕ) (ps : List Part) (y : Nodes) → IsPack payload → IsNode key (texts payload) → (node_on key made).found payload ≡ Ok y → IsAnId made.last → Covers made.last ps → AreAbove ps (entries_of key (texts payload))
+pub found_above : (made : Nodes) (key : Id) (payload : List ℕ) (ps : List Part) (y : Nodes) → IsPack payload → IsNode key (texts payload) → (node_on key made).found payload ≡ Ok y
+    → IsAnId made.last → Covers made.last ps → AreAbove ps (entries_of key (texts payload))
 found_above made key payload ps y pack node found fits cover =
     let es = entries_of key (texts payload) in
     let told = node_behind key payload made es made.last (is_above made.last es) (is_read key payload es pack node refl) refl refl in

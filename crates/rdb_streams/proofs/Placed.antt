@@ -26,7 +26,8 @@ module _ {A B : Type 0} (one : Format A) (next : A → Format B) (bytes : List �
 
   module _ (e : Exact one) (f : (x : A) → Exact (next x)) where
     -- behind the first part the other is read
-    pub then_reads : (middle : ℕ) (x : A) → Stands one x bytes at middle → (new : B) (result : Result ℕ ItemFault) → Reads (next x) bytes middle new result → Reads (followed one next) bytes at new result
+    pub then_reads : (middle : ℕ) (x : A) → Stands one x bytes at middle → (new : B) (result : Result ℕ ItemFault) → Reads (next x) bytes middle new result
+        → Reads (followed one next) bytes at new result
     then_reads middle x s new (Ok last) t =
         let r : one.read (drop at bytes) ≡ Ok (x, drop middle bytes) = reads one e x bytes at middle s in
         let q : (next x).read (drop middle bytes) ≡ Ok (new, drop last bytes) = reads (next x) (f x) new bytes middle last t in
@@ -40,7 +41,8 @@ module _ {A B : Type 0} (one : Format A) (next : A → Format B) (bytes : List �
     then_reads middle x s new (Err faults.Memory) t = tt
 
 -- a part, seen as something else
-pub seen_as : {A B : Type 0} (one : Format A) → Exact one → (of : A → B) (x : A) (bytes : List ℕ) (at : ℕ) (result : Result ℕ ItemFault) → Reads one bytes at x result → Reads (followed one (λ x. give (of x))) bytes at (of x) result
+pub seen_as : {A B : Type 0} (one : Format A) → Exact one → (of : A → B) (x : A) (bytes : List ℕ) (at : ℕ) (result : Result ℕ ItemFault) → Reads one bytes at x result
+    → Reads (followed one (λ x. give (of x))) bytes at (of x) result
 seen_as one e of x bytes at (Ok last) s = then_reads one (λ x. give (of x)) bytes at e (λ x. give-exact (of x)) last x s (of x) (Ok last) (give_stands (of x) bytes last s.inside)
 seen_as one e of x bytes at (Err (faults.Refused which place)) f = first_fails one (λ x. give (of x)) bytes at which place f
 seen_as one e of x bytes at (Err faults.Memory) t = t

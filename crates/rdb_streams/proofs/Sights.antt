@@ -61,7 +61,8 @@ deleted_none : (es : List Stored) → AreDeleted es → live_of es ≡ []
 deleted_none [] h = refl
 deleted_none (e ∷ es) h = live_left e es h.0 ∙ deleted_none es h.1
 
-latest_one : (P : Stored → Type 0) (seen : Seen) (e : Stored) (es : List Stored) (b : Bool) → e.deleted ≡ b → P e → Latest (λ f. P f × (id_number e.id < id_number f.id)) (seen_more seen e) es → Latest P seen (e ∷ es)
+latest_one : (P : Stored → Type 0) (seen : Seen) (e : Stored) (es : List Stored) (b : Bool) → e.deleted ≡ b → P e
+    → Latest (λ f. P f × (id_number e.id < id_number f.id)) (seen_more seen e) es → Latest P seen (e ∷ es)
 latest_one P seen e es true is p (inl h) = inl (h.0 ∙ cond-true e.deleted seen.greatest (Some e.id) is, (is, h.1))
 latest_one P seen e es false is p (inl h) = inr (e, h.0 ∙ cond-false e.deleted seen.greatest (Some e.id) is, p, ((λ live. omega arith), deleted_upto e.id es h.1))
 latest_one P seen e es b is p (inr f) = inr (f.0, f.1, f.2.0, ((λ live. omega (arith, f.2.1)), f.3))
@@ -69,7 +70,8 @@ latest_one P seen e es b is p (inr f) = inr (f.0, f.1, f.2.0, ((λ live. omega (
 latest_case : (P : Stored → Type 0) (seen : Seen) (es : List Stored) → Sorted es → AllByRecursion P es → Latest P seen es
 latest_case P seen [] sorted each = inl (refl, tt)
 latest_case P seen (e ∷ es) sorted each =
-    latest_one P seen e es e.deleted refl each.0 (latest_case (λ f. P f × (id_number e.id < id_number f.id)) (seen_more seen e) es sorted.1 (both P (λ f. id_number e.id < id_number f.id) es each.1 sorted.0))
+    latest_one P seen e es e.deleted refl each.0
+    (latest_case (λ f. P f × (id_number e.id < id_number f.id)) (seen_more seen e) es sorted.1 (both P (λ f. id_number e.id < id_number f.id) es each.1 sorted.0))
 
 -- what stands before is by the same entries
 before_is : (seen : Seen) (es : List Stored) → (seen_behind seen es).before ≡ last_of seen.before es
@@ -124,7 +126,8 @@ no_parts m s (p ∷ ps) h none =
 
 -- ---- one node more
 
-module _ (m after : Blocks) (s new : Log) (key : Id) (list : List (List ℕ)) (seen : Seen) (h : Sees m s seen) (node : IsNode key list) (above : AreAbove (nodes m s) (entries_of key list)) (changed : IsChanged m after s new (loaded (stream_of m s) (entries_of key list))) where
+module _ (m after : Blocks) (s new : Log) (key : Id) (list : List (List ℕ)) (seen : Seen) (h : Sees m s seen) (node : IsNode key list) (above : AreAbove (nodes m s) (entries_of key list))
+    (changed : IsChanged m after s new (loaded (stream_of m s) (entries_of key list))) where
   now_entries : entries after new ≡ entries m s ++ live_of (entries_of key list)
   now_entries = ap (λ v. v.entries) changed.value_is
 

@@ -22,7 +22,8 @@ use Rattle.plain_model.specs.declared.keys.KeyCommand.{KeyCommand}
 use Rattle.plain_model.specs.declared.keys.KeyCommand.TheVariants as keys
 use Rattle.plain_model.specs.declared.connection.ConnectionCommand.{ConnectionCommand}
 use Rattle.plain_model.specs.declared.connection.ConnectionCommand.TheVariants as connection
-use Rattle.keyspace.specs.Scopes.{Scope, Reach, untouched, two_keys, all_keys, everything, number_or, scope, string_reach, list_reach, set_reach, hash_reach, zset_reach, stream_reach, key_reach, connection_reach, reach_of, scope_of}
+use Rattle.keyspace.specs.Scopes.{Scope, Reach, untouched, two_keys, all_keys, everything, number_or, scope, string_reach, list_reach, set_reach, hash_reach, zset_reach, stream_reach}
+use Rattle.keyspace.specs.Scopes.{key_reach, connection_reach, reach_of, scope_of}
 use Rattle.keyspace.specs.Scopes as reach
 use Rattle.cmd_keys.specs.Found.{IsDatabase}
 use Rattle.cmd_keys.proofs.KeyLemmas.{asked_copy, asked_move}

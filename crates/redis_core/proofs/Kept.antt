@@ -8,7 +8,8 @@ use Rattle.int_text.specs.Decimal.{is_i64}
 use Rattle.plain_model.specs.Outcomes.{Outcome, IsRefusal, leaves}
 use Rattle.plain_model.specs.Meant.{meant}
 use Rattle.plain_model.specs.Steps.{may, step}
-use Rattle.plain_model.specs.StringSteps.{on_string, with_string, or_null, or_empty, ok, allows, append, set_range, number_at, count_on, count, any_there, set_outcome, with_lifetime, set_for, getex_outcome, string_outcome}
+use Rattle.plain_model.specs.StringSteps.{on_string, with_string, or_null, or_empty, ok, allows, append, set_range, number_at, count_on, count, any_there, set_outcome, with_lifetime}
+use Rattle.plain_model.specs.StringSteps.{set_for, getex_outcome, string_outcome}
 use Rattle.plain_model.specs.Deadlines.{due, with_due, from_zero, lasts_until, expire}
 use Rattle.plain_model.specs.KeySteps.{permits, expire_where_permitted, expire_outcome, rename_outcome, renamenx_outcome, or_selected, copy, move, may_keys}
 use Rattle.plain_model.specs.ConnectionSteps.{may_connection}
@@ -39,7 +40,8 @@ use Rattle.plain_model.specs.declared.zset_command.Aggregate.{Aggregate}
 use Rattle.plain_model.specs.SetSteps.{Members, or_no_members, has, drop_members, move_to, move_from, PopsMembers, StoresJoin, sets_at, may_sets}
 use Rattle.plain_model.specs.SetSteps as set_steps
 use Rattle.plain_model.specs.HashSteps.{Fields, or_no_fields, set_missing, unset_fields, number_in, count_field, count_on_field, hash_outcome, may_hashes}
-use Rattle.plain_model.specs.ZsetSteps.{Scores, Scored, or_no_scores, admits, passes, is_score, or_zero, add_to, raise, raise_to, drop_part, within, pop, or_one, zset_outcome, StoresScores, store_scores, are_scores, zsets_at, weights_of, may_zsets}
+use Rattle.plain_model.specs.ZsetSteps.{Scores, Scored, or_no_scores, admits, passes, is_score, or_zero, add_to, raise, raise_to, drop_part, within, pop, or_one, zset_outcome}
+use Rattle.plain_model.specs.ZsetSteps.{StoresScores, store_scores, are_scores, zsets_at, weights_of, may_zsets}
 use Rattle.plain_model.specs.ZsetSteps as zset_steps
 use Rattle.plain_model.specs.declared.zset_command.ScoreRules.{ScoreRules}
 use Rattle.plain_model.specs.declared.zset_command.Direction.{Direction}
@@ -49,7 +51,8 @@ use Rattle.plain_model.specs.declared.set_command.SetCommand.{SetCommand}
 use Rattle.plain_model.specs.declared.set_command.SetCommand.TheVariants as sets
 use Rattle.plain_model.specs.declared.hash_command.HashCommand.{HashCommand}
 use Rattle.plain_model.specs.declared.hash_command.HashCommand.TheVariants as hashes
-use Rattle.plain_model.specs.ListSteps.{Elements, list_range, from_end, first_or_null, push_there, pop_of, set_place, set_at, trim, insert_there, insert_beside, inserted_beside, remove_equal, place_of, move_first, move_there, list_outcome}
+use Rattle.plain_model.specs.ListSteps.{Elements, list_range, from_end, first_or_null, push_there, pop_of, set_place, set_at, trim, insert_there, insert_beside, inserted_beside}
+use Rattle.plain_model.specs.ListSteps.{remove_equal, place_of, move_first, move_there, list_outcome}
 use Rattle.plain_model.specs.declared.list_command.Side.{Side}
 use Rattle.plain_model.specs.declared.list_command.ListEnd.{ListEnd}
 use Rattle.plain_model.specs.declared.list_command.ListEnd.TheVariants.{Head, Tail}
@@ -115,7 +118,8 @@ module _ (old : World) where
   with_due_keeps : (moment : ℕ) (time : Time) (answer : ℤ → Outcome) → ((deadline : ℤ) → Keeps (answer deadline)) → Keeps (with_due old moment time answer)
   with_due_keeps moment time answer h = either (is_i64 (due moment time)) _ _ (h (due moment time)) (λ r. refl)
 
-  lifetime_keeps : (moment : ℕ) (key : List ℕ) (lifetime : Lifetime) (answer : Option ℕ → Outcome) → ((deadline : Option ℕ) → Keeps (answer deadline)) → Keeps (with_lifetime old moment key lifetime answer)
+  lifetime_keeps : (moment : ℕ) (key : List ℕ) (lifetime : Lifetime) (answer : Option ℕ → Outcome) → ((deadline : Option ℕ) → Keeps (answer deadline))
+      → Keeps (with_lifetime old moment key lifetime answer)
   lifetime_keeps moment key lifetimes.Forever answer h = h None
   lifetime_keeps moment key lifetimes.Kept answer h = h (deadline_of (look old key))
   lifetime_keeps moment key (lifetimes.Until time) answer h = with_due_keeps moment time _ (λ deadline. h (Some (from_zero deadline)))
@@ -123,7 +127,8 @@ module _ (old : World) where
   getex_keeps : (moment : ℕ) (key : List ℕ) (renewal : Renewal) → Keeps (getex_outcome old moment key renewal)
   getex_keeps moment key renewals.Unchanged = on_string_keeps (look old key) _ (λ before r. refl)
   getex_keeps moment key renewals.Persist = on_string_keeps (look old key) _ (λ before r. no_error before r)
-  getex_keeps moment key (renewals.Until time) = with_due_keeps moment time _ (λ deadline. on_string_keeps (look old key) (λ before. leaves (or_null before ∷ []) (expire old moment key deadline (look old key))) (λ before r. no_error before r))
+  getex_keeps moment key (renewals.Until time) = with_due_keeps moment time _
+      (λ deadline. on_string_keeps (look old key) (λ before. leaves (or_null before ∷ []) (expire old moment key deadline (look old key))) (λ before r. no_error before r))
 
   set_for_keeps : (moment : ℕ) (key : List ℕ) (unit : TimeUnit) (n : ℤ) (value : List ℕ) → Keeps (set_for old moment key unit n value)
   set_for_keeps moment key unit n value =
@@ -131,7 +136,8 @@ module _ (old : World) where
 
   outcome_keeps : (moment : ℕ) (command : StringCommand) → Keeps (string_outcome moment old command)
   outcome_keeps moment (strings.Get key) = on_string_keeps (look old key) _ (λ before r. refl)
-  outcome_keeps moment (strings.Set key value options) = lifetime_keeps moment key options.lifetime _ (λ deadline. set_keeps moment key (record { value = Str value; deadline = deadline }) options.condition options.get)
+  outcome_keeps moment (strings.Set key value options) = lifetime_keeps moment key options.lifetime _
+      (λ deadline. set_keeps moment key (record { value = Str value; deadline = deadline }) options.condition options.get)
   outcome_keeps moment (strings.SetNx key value) = either (is_some (look old key)) _ _ (λ r. refl) (λ r. absurd r)
   outcome_keeps moment (strings.SetEx key n value) = set_for_keeps moment key Seconds n value
   outcome_keeps moment (strings.PSetEx key n value) = set_for_keeps moment key Milliseconds n value
@@ -191,7 +197,8 @@ module _ (old : World) where
   keys_keep seed moment (keys.Rename from to) reply new m r = m.1 ∙ rename_keeps from to (look old from) (subst IsRefusal m.0 r)
   keys_keep seed moment (keys.RenameNx from to) reply new m r = m.1 ∙ renamenx_keeps from to (look old from) (subst IsRefusal m.0 r)
   keys_keep seed moment (keys.Copy from to options) reply new m r =
-      m.1 ∙ either ((or_selected old options.db == old.selected) && bytes_eq from to) _ _ (λ x. refl) (copied_keeps (or_selected old options.db) to options.replace (look old from)) (subst IsRefusal m.0 r)
+      m.1 ∙ either ((or_selected old options.db == old.selected) && bytes_eq from to) _ _ (λ x. refl) (copied_keeps (or_selected old options.db) to options.replace (look old from))
+      (subst IsRefusal m.0 r)
   keys_keep seed moment (keys.MoveKey key number) reply new m r = m.1 ∙ either (number == old.selected) _ _ (λ x. refl) (moved_keeps key number (look old key)) (subst IsRefusal m.0 r)
   keys_keep seed moment keys.RandomKey reply new m r = m.1
   keys_keep seed moment (keys.ObjectEncoding key) reply new m r = m.1
@@ -202,7 +209,8 @@ module _ (old : World) where
   of_type_keeps None answer h = λ r. refl
   of_type_keeps (Some own) answer h = h (Some own)
 
-  on_type_keeps : {A : Type 0} (in_value : Value → Option A) (entry : Option Entry) (answer : Option A → Outcome) → ((before : Option A) → Keeps (answer before)) → Keeps (on_type in_value old entry answer)
+  on_type_keeps : {A : Type 0} (in_value : Value → Option A) (entry : Option Entry) (answer : Option A → Outcome) → ((before : Option A) → Keeps (answer before))
+      → Keeps (on_type in_value old entry answer)
   on_type_keeps in_value None answer h = h None
   on_type_keeps in_value (Some entry) answer h = of_type_keeps (in_value entry.value) answer h
 
@@ -331,16 +339,21 @@ module _ (old : World) where
   told_of_keeps None told reply new m = m.1
   told_of_keeps (Some own) told reply new m = m.1
 
-  told_keeps : {A : Type 0} (in_value : Value → Option A) (entry : Option Entry) (told : Option A → List Part → Type 0) (reply : List Part) (new : World) → may_tell in_value old entry told reply new → new ≡ old
+  told_keeps : {A : Type 0} (in_value : Value → Option A) (entry : Option Entry) (told : Option A → List Part → Type 0) (reply : List Part) (new : World)
+      → may_tell in_value old entry told reply new → new ≡ old
   told_keeps in_value None told reply new m = m.1
   told_keeps in_value (Some entry) told reply new m = told_of_keeps (in_value entry.value) told reply new m
 
   -- so does what refuses none that it does
-  done_of_keeps : {A : Type 0} (own : Option A) (does : Option A → List Part → World → Type 0) → ((before : Option A) (reply : List Part) (new : World) → does before reply new → IsRefusal reply → new ≡ old) → (reply : List Part) (new : World) → may_do_of old own does reply new → IsRefusal reply → new ≡ old
+  done_of_keeps : {A : Type 0} (own : Option A) (does : Option A → List Part → World → Type 0)
+      → ((before : Option A) (reply : List Part) (new : World) → does before reply new → IsRefusal reply → new ≡ old) → (reply : List Part) (new : World) → may_do_of old own does reply new
+      → IsRefusal reply → new ≡ old
   done_of_keeps None does h reply new m r = m.1
   done_of_keeps (Some own) does h reply new m r = h (Some own) reply new m r
 
-  done_keeps : {A : Type 0} (in_value : Value → Option A) (entry : Option Entry) (does : Option A → List Part → World → Type 0) → ((before : Option A) (reply : List Part) (new : World) → does before reply new → IsRefusal reply → new ≡ old) → (reply : List Part) (new : World) → may_do in_value old entry does reply new → IsRefusal reply → new ≡ old
+  done_keeps : {A : Type 0} (in_value : Value → Option A) (entry : Option Entry) (does : Option A → List Part → World → Type 0)
+      → ((before : Option A) (reply : List Part) (new : World) → does before reply new → IsRefusal reply → new ≡ old) → (reply : List Part) (new : World)
+      → may_do in_value old entry does reply new → IsRefusal reply → new ≡ old
   done_keeps in_value None does h reply new m r = h None reply new m r
   done_keeps in_value (Some entry) does h reply new m r = done_of_keeps (in_value entry.value) does h reply new m r
 
@@ -360,7 +373,8 @@ module _ (old : World) where
   scores_keep : (to : List ℕ) (scores : Scores) → Keeps (store_scores old to scores)
   scores_keep to scores = either (are_scores (entries scores)) _ _ (λ r. absurd r) (λ r. refl)
 
-  score_joins_keep : (to : List ℕ) (join : ScoreJoin) (how : Aggregate) (weights : List ℤ) (own : Option (List Scores)) (reply : List Part) (new : World) → StoresScores old to join how weights own reply new → IsRefusal reply → new ≡ old
+  score_joins_keep : (to : List ℕ) (join : ScoreJoin) (how : Aggregate) (weights : List ℤ) (own : Option (List Scores)) (reply : List Part) (new : World)
+      → StoresScores old to join how weights own reply new → IsRefusal reply → new ≡ old
   score_joins_keep to join how weights own reply new m r = m.2.1 ∙ scores_keep to m.0 (subst IsRefusal m.2.0 r)
 
   may_sets_keep : (seed : ℕ) (command : SetCommand) (reply : List Part) (new : World) → may_sets seed old command reply new → IsRefusal reply → new ≡ old
@@ -425,7 +439,8 @@ module _ (old : World) where
 
   may_zsets_keep : (seed : ℕ) (command : ZsetCommand) (reply : List Part) (new : World) → may_zsets seed old command reply new → IsRefusal reply → new ≡ old
   may_zsets_keep seed (zsets.ZRandMember key n more) reply new m r = told_keeps _ (look old key) _ reply new m
-  may_zsets_keep seed (zsets.ZJoinStore join to keys how) reply new m r = done_of_keeps (zsets_at old keys) (StoresScores old to join how (weights_of keys)) (score_joins_keep to join how (weights_of keys)) reply new m r
+  may_zsets_keep seed (zsets.ZJoinStore join to keys how) reply new m r =
+      done_of_keeps (zsets_at old keys) (StoresScores old to join how (weights_of keys)) (score_joins_keep to join how (weights_of keys)) reply new m r
   may_zsets_keep seed (zsets.ZScan key cursor options) reply new m r = told_keeps _ (look old key) _ reply new m
   may_zsets_keep seed command reply new m r = m.1 ∙ zsets_keep command (subst IsRefusal m.0 r)
 

@@ -19,14 +19,18 @@ unhashed blocks old _ none _ start = refl
 unhashed blocks old _ none _ (more count mid new steps last) = absurd (omega (arith, none))
 
 -- databases and store stay where no step is planned
-pub rests_none : {S : Type 0} (blocks : S → Blocks) (heap : S → Heap) (step_of : S → S → Type 0) (moment : ℕ) (plan : Plan) (old new : State S) (done : StepsDone) → plan.expire ≡ 0 → plan.rehash ≡ 0 → plan.defrag ≡ 0
+pub rests_none : {S : Type 0} (blocks : S → Blocks) (heap : S → Heap) (step_of : S → S → Type 0) (moment : ℕ) (plan : Plan) (old new : State S) (done : StepsDone) → plan.expire ≡ 0
+    → plan.rehash ≡ 0 → plan.defrag ≡ 0
     → EngineRests blocks heap step_of moment plan old new done → (new.bases ≡ old.bases) × (new.store ≡ old.store)
 rests_none {S = S} blocks heap step_of moment plan old new done none unrehashed still r =
     let w = r.works in
     let u = unpacked blocks heap done.defrag (w.all_packed ∙ still) w.mid old.walk (keyspace_of new) new.walk w.packed in
     let few = w.rehashed.few in
-    let same = unhashed (blocks w.thinned.store) w.thinned.bases done.rehash (omega (arith, few, unrehashed)) w.mid.bases w.rehashed.steps in
-    (ap (λ (k : Keyspace S). k.bases) u.0 ∙ same ∙ ap (λ (k : Keyspace S). k.bases) (w.unthinned none), ap (λ (k : Keyspace S). k.store) u.0 ∙ w.store ∙ ap (λ (k : Keyspace S). k.store) (w.unthinned none))
+    let same = unhashed (blocks w.thinned.store) w.thinned.bases done.rehash (omega (arith, few, unrehashed)) w.mid.bases w.rehashed.steps in (
+      ap (λ (k : Keyspace S). k.bases) u.0 ∙ same ∙ ap (λ (k : Keyspace S). k.bases) (w.unthinned none),
+      ap (λ (k : Keyspace S). k.store) u.0 ∙ w.store
+          ∙ ap (λ (k : Keyspace S). k.store) (w.unthinned none),
+    )
 
 -- tables that come from none still do
 pub still_grown : (scope : Scope) (old new : Bases) (m after : Blocks) → Within scope old new m after → AreGrown old m → AreGrown new after

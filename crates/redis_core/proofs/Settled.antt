@@ -103,7 +103,8 @@ module _ (scope : Scope) (touched : Touched) (fits : Fits scope touched) (old ne
   }
 
 -- what a reply shows of the tables before it, it shows whatever follows
-connection_shows_on : {S : Type 0} (blocks : S → Blocks) (old mid new : Keyspace S) (at : Ctx) (same : means at.db new.bases (blocks new.store) ≡ means at.db mid.bases (blocks mid.store)) (command : ConnectionCommand) → found.IsCommon command → (reply : List Part) → connection_shown blocks old mid at command reply → connection_shown blocks old new at command reply
+connection_shows_on : {S : Type 0} (blocks : S → Blocks) (old mid new : Keyspace S) (at : Ctx) (same : means at.db new.bases (blocks new.store) ≡ means at.db mid.bases (blocks mid.store))
+    (command : ConnectionCommand) → found.IsCommon command → (reply : List Part) → connection_shown blocks old mid at command reply → connection_shown blocks old new at command reply
 connection_shows_on blocks old mid new at same (connection.Ping text) none reply s = tt
 connection_shows_on blocks old mid new at same (connection.Echo text) none reply s = tt
 connection_shows_on blocks old mid new at same connection.Quit none reply s = tt
@@ -116,7 +117,8 @@ connection_shows_on blocks old mid new at same (connection.DebugRehash n) none r
 connection_shows_on blocks old mid new at same (connection.DebugDefrag n) none reply s = absurd none
 
 -- what the reply of a common command shows of the tables before it, it shows whatever follows
-shows_on : {S : Type 0} (blocks : S → Blocks) (old mid new : Keyspace S) (at : Ctx) (same : means at.db new.bases (blocks new.store) ≡ means at.db mid.bases (blocks mid.store)) (command : Command) → IsCommon command → (reply : List Part) → Shows blocks old mid at command reply → Shows blocks old new at command reply
+shows_on : {S : Type 0} (blocks : S → Blocks) (old mid new : Keyspace S) (at : Ctx) (same : means at.db new.bases (blocks new.store) ≡ means at.db mid.bases (blocks mid.store))
+    (command : Command) → IsCommon command → (reply : List Part) → Shows blocks old mid at command reply → Shows blocks old new at command reply
 shows_on blocks old mid new at same (Strings command) none reply s = tt
 shows_on blocks old mid new at same (Lists command) none reply s = tt
 shows_on blocks old mid new at same (Sets command) none reply s = s
@@ -133,7 +135,8 @@ module _ {S E : Type 0} (blocks : S → Blocks) (step : S → S → Type 0) (old
   -- a command and the settling of its tables are together within the command's scope
   both_within : Within (scope_of at.db command) old.bases new.bases (blocks old.store) (blocks new.store)
   both_within = further (scope_of at.db command) old.bases mid.bases new.bases (blocks old.store) (blocks mid.store) (blocks new.store) ran.kept.held.within
-      (within_wider value_refs (shrinking (touched_of at.db command)) (scope_of at.db command) (fits_of at.db command).into (λ number key no. absurd no) (λ number no. absurd no) mid.bases new.bases (blocks mid.store) (blocks new.store) settled.within)
+      (within_wider value_refs (shrinking (touched_of at.db command)) (scope_of at.db command) (fits_of at.db command).into (λ number key no. absurd no) (λ number no. absurd no) mid.bases
+      new.bases (blocks mid.store) (blocks new.store) settled.within)
 
   -- after a command and the settling of its tables the keyspace is sound, changed within the command's scope
   held_both : Held blocks step (scope_of at.db command) old new
@@ -142,7 +145,8 @@ module _ {S E : Type 0} (blocks : S → Blocks) (step : S → S → Type 0) (old
         sound = settled.sound;
         served = settled.served;
         settings = settled.settings;
-        within = within_wider value_refs (shrinking (touched_of at.db command)) (scope_of at.db command) (fits_of at.db command).into (λ number key no. absurd no) (λ number no. absurd no) mid.bases new.bases (blocks mid.store) (blocks new.store) settled.within;
+        within = within_wider value_refs (shrinking (touched_of at.db command)) (scope_of at.db command) (fits_of at.db command).into (λ number key no. absurd no) (λ number no. absurd no)
+            mid.bases new.bases (blocks mid.store) (blocks new.store) settled.within;
       })
 
   -- a common command with its tables settled behind it runs as it did, where the settling leaves the world
@@ -164,7 +168,8 @@ module _ {S E : Type 0} (blocks : S → Blocks) (step : S → S → Type 0) (old
   }
 
   -- where the touched databases are settled, each table that lost a key since the command began is
-  pub settled_settles : Sound old.bases (blocks old.store) → ((number : ℕ) → covers (touched_of at.db command) number → AreSettled new.bases number) → Settles old.bases new.bases (blocks old.store) (blocks new.store)
+  pub settled_settles : Sound old.bases (blocks old.store) → ((number : ℕ) → covers (touched_of at.db command) number → AreSettled new.bases number)
+      → Settles old.bases new.bases (blocks old.store) (blocks new.store)
   settled_settles sound done = settles_from (scope_of at.db command) (touched_of at.db command) (fits_of at.db command) old.bases new.bases (blocks old.store) (blocks new.store) sound both_within done
 
 -- ---- the tables of databases are settled, one after the other
@@ -176,7 +181,8 @@ module _ {S : Type 0} (blocks : S → Blocks) (step : S → S → Type 0) where
     sound = held.sound;
     served = held.served;
     settings = held.settings;
-    within = within_wider value_refs (no_key db) (shrinking touched) (λ number is. subst (covers touched) (sym is) here) (λ number key no. no.1) (λ number no. no) old.bases new.bases (blocks old.store) (blocks new.store) held.within;
+    within = within_wider value_refs (no_key db) (shrinking touched) (λ number is. subst (covers touched) (sym is) here) (λ number key no. no.1) (λ number no. no) old.bases new.bases
+        (blocks old.store) (blocks new.store) held.within;
   }
 
   -- what is settled stays settled while another database's tables are
@@ -191,7 +197,8 @@ module _ {S : Type 0} (blocks : S → Blocks) (step : S → S → Type 0) where
   ]
 
   -- all below a number are settled, and the database of that number too
-  pub below_settled : (mid new : Keyspace S) (db : ℕ) → ((number : ℕ) → number < db → AreSettled mid.bases number) → Held blocks step (no_key db) mid new → AreSettled new.bases db → (number : ℕ) → number < db + 1 → AreSettled new.bases number
+  pub below_settled : (mid new : Keyspace S) (db : ℕ) → ((number : ℕ) → number < db → AreSettled mid.bases number) → Held blocks step (no_key db) mid new → AreSettled new.bases db
+      → (number : ℕ) → number < db + 1 → AreSettled new.bases number
   below_settled mid new db first held last number below = elim (cases_eq number db) [
     | inl here ↦ subst (AreSettled new.bases) (sym here) last
     | inr apart ↦ settled_then mid new number db (first number (omega (arith, below, apart))) held last
@@ -228,5 +235,6 @@ pub two_settled : (bases : Bases) (db other : ℕ) → AreSettled bases db → A
 two_settled bases db other first last number here = elim here [ inl one ↦ subst (AreSettled bases) (sym one) first | inr two ↦ subst (AreSettled bases) (sym two) last ]
 
 -- equal accounts of what is touched have the same databases settled
-pub covered : (touched same : Touched) → touched ≡ same → (bases : Bases) → ((number : ℕ) → covers same number → AreSettled bases number) → (number : ℕ) → covers touched number → AreSettled bases number
+pub covered : (touched same : Touched) → touched ≡ same → (bases : Bases) → ((number : ℕ) → covers same number → AreSettled bases number) → (number : ℕ) → covers touched number
+    → AreSettled bases number
 covered touched same is bases done number here = done number (subst (λ (t : Touched). covers t number) is here)

@@ -41,14 +41,16 @@ use Rattle.redis_core.specs.declared.answering.Answered.{Answered}
 use Rattle.redis_core.specs.Engines.{State, keyspace_of, world_of, Keeps, Executes, Stands, Answers, answered_with}
 
 -- what is told of a line that is known
-pub ok_told : {E : Type 0} (result : Result (List Part) E) (line : List ℕ) → line ≡ codes "OK" → IfOk result (λ reply. reply ≡ Simple line ∷ []) → IfOk result (λ reply. reply ≡ Simple (codes "OK") ∷ [])
+pub ok_told : {E : Type 0} (result : Result (List Part) E) (line : List ℕ) → line ≡ codes "OK" → IfOk result (λ reply. reply ≡ Simple line ∷ [])
+    → IfOk result (λ reply. reply ≡ Simple (codes "OK") ∷ [])
 ok_told (Ok reply) line is told = told ∙ ap (λ t. Simple t ∷ []) is
 ok_told (Err e) line is told = tt
 
 -- a common command makes no steps, moves nothing, and leaves the walk
 
 -- a common command on the connection or the server leaves the walk that is open
-common_connection : {S : Type 0} (blocks : S → Blocks) (heap : S → Heap) (old new : Keyspace S) (walk : Option Walk) (command : ConnectionCommand) (reply : List Part) → IsCommon (Connection command) → connection_tends blocks heap old new walk walk command reply
+common_connection : {S : Type 0} (blocks : S → Blocks) (heap : S → Heap) (old new : Keyspace S) (walk : Option Walk) (command : ConnectionCommand) (reply : List Part)
+    → IsCommon (Connection command) → connection_tends blocks heap old new walk walk command reply
 common_connection blocks heap old new walk (connection.Ping text) reply common = refl
 common_connection blocks heap old new walk (connection.Echo text) reply common = refl
 common_connection blocks heap old new walk connection.Quit reply common = refl
@@ -61,7 +63,8 @@ common_connection blocks heap old new walk (connection.DebugRehash n) reply comm
 common_connection blocks heap old new walk (connection.DebugDefrag n) reply common = absurd common
 
 -- a common command of any family leaves the walk that is open
-common_tends : {S : Type 0} (blocks : S → Blocks) (heap : S → Heap) (old new : Keyspace S) (walk : Option Walk) (command : Command) (reply : List Part) → IsCommon command → Tends blocks heap old new walk walk command reply
+common_tends : {S : Type 0} (blocks : S → Blocks) (heap : S → Heap) (old new : Keyspace S) (walk : Option Walk) (command : Command) (reply : List Part) → IsCommon command
+    → Tends blocks heap old new walk walk command reply
 common_tends blocks heap old new walk (Strings command) reply common = refl
 common_tends blocks heap old new walk (Lists command) reply common = refl
 common_tends blocks heap old new walk (Sets command) reply common = refl
@@ -73,7 +76,8 @@ common_tends blocks heap old new walk (Connection command) reply common = common
 
 module _ {S E : Type 0} (blocks : S → Blocks) (heap : S → Heap) (step_of : S → S → Type 0) (at : Ctx) (walk : Option Walk) where
   -- a common command ran
-  pub family_answers : (old new : Keyspace S) (command : Command) (result : Result (List Part) E) (quit : Bool) → at.db < 16 → quit ≡ is_quit command → IsCommon command → Runs blocks step_of old new at command result
+  pub family_answers : (old new : Keyspace S) (command : Command) (result : Result (List Part) E) (quit : Bool) → at.db < 16 → quit ≡ is_quit command → IsCommon command
+      → Runs blocks step_of old new at command result
       → IfOk result (λ reply. Settles old.bases new.bases (blocks old.store) (blocks new.store)) → Answers blocks heap step_of old new walk walk at (Ok command) (answered_with at.db quit result)
   family_answers old new command (Ok reply) quit within is common r settles = record {
     served = λ none. r.kept.held.served;
@@ -99,7 +103,8 @@ module _ {S E : Type 0} (blocks : S → Blocks) (heap : S → Heap) (step_of : S
   }
 
   -- nothing changed
-  pub stays : (keyspace : Keyspace S) (result : Result Answered E) → Sound keyspace.bases (blocks keyspace.store) → IfOk result (λ answered. answered.selected < 16) → IfOk result (λ answered. IsRefusal answered.reply → answered.selected ≡ at.db) → Stands blocks keyspace keyspace at result
+  pub stays : (keyspace : Keyspace S) (result : Result Answered E) → Sound keyspace.bases (blocks keyspace.store) → IfOk result (λ answered. answered.selected < 16)
+      → IfOk result (λ answered. IsRefusal answered.reply → answered.selected ≡ at.db) → Stands blocks keyspace keyspace at result
   stays keyspace (Ok answered) sound within same = record { within = within; refused = λ r. (refl, same r); sound = sound; settings = same_settings keyspace.bases }
   stays keyspace (Err e) sound within same = record { within = tt; refused = tt; sound = sound; settings = same_settings keyspace.bases }
 
@@ -134,11 +139,13 @@ module _ {S E : Type 0} (blocks : S → Blocks) (heap : S → Heap) (step_of : S
       })
 
   -- a command that is known
-  known_answers : {old new : Keyspace S} {after : Option Walk} {result : Result Answered E} (command same : Command) → command ≡ same → Answers blocks heap step_of old new walk after at (Ok same) result → Answers blocks heap step_of old new walk after at (Ok command) result
+  known_answers : {old new : Keyspace S} {after : Option Walk} {result : Result Answered E} (command same : Command) → command ≡ same
+      → Answers blocks heap step_of old new walk after at (Ok same) result → Answers blocks heap step_of old new walk after at (Ok command) result
   known_answers {old} {new} {after} {result} command same is r = subst (λ c. Answers blocks heap step_of old new walk after at (Ok c) result) (sym is) r
 
   -- SELECT
-  pub select_answers : (keyspace : Keyspace S) (command : Command) (number : ℕ) (result : Result (List Part) E) → Ready blocks keyspace at → IsAsked command → command ≡ Connection (connection.Select number) → IfOk result (λ reply. reply ≡ Simple (codes "OK") ∷ [])
+  pub select_answers : (keyspace : Keyspace S) (command : Command) (number : ℕ) (result : Result (List Part) E) → Ready blocks keyspace at → IsAsked command
+      → command ≡ Connection (connection.Select number) → IfOk result (λ reply. reply ≡ Simple (codes "OK") ∷ [])
       → Answers blocks heap step_of keyspace keyspace walk walk at (Ok command) (answered_with number false result)
   select_answers keyspace command number (Ok reply) ready asked is told = known_answers command (Connection (connection.Select number)) is (record {
     served = λ none. no_step;
@@ -149,12 +156,14 @@ module _ {S E : Type 0} (blocks : S → Blocks) (heap : S → Heap) (step_of : S
     settles = settles_none keyspace.bases (blocks keyspace.store);
     answers = (told, refl);
     quits = refl;
-    stands = stays keyspace (Ok (record { reply = reply; selected = number; quit = false })) ready.sound (subst FitsCommand is (command_fits asked.words command asked.means)) (λ r. absurd (subst IsRefusal told r));
+    stands = stays keyspace (Ok (record { reply = reply; selected = number; quit = false })) ready.sound (subst FitsCommand is (command_fits asked.words command asked.means))
+        (λ r. absurd (subst IsRefusal told r));
   })
   select_answers keyspace command number (Err e) ready asked is told = nothing_answers keyspace (Ok command) e ready
 
   -- MEMORY SLABS
-  pub slabs_answers : (keyspace : Keyspace S) (command : Command) (result : Result (List Part) E) → Ready blocks keyspace at → command ≡ Connection connection.MemorySlabs → IfOk result (λ reply. ListsSlabs (heap keyspace.store) reply)
+  pub slabs_answers : (keyspace : Keyspace S) (command : Command) (result : Result (List Part) E) → Ready blocks keyspace at → command ≡ Connection connection.MemorySlabs
+      → IfOk result (λ reply. ListsSlabs (heap keyspace.store) reply)
       → Answers blocks heap step_of keyspace keyspace walk walk at (Ok command) (answered_with at.db false result)
   slabs_answers keyspace command (Ok reply) ready is told = known_answers command (Connection connection.MemorySlabs) is (record {
     served = λ none. no_step;
@@ -169,7 +178,9 @@ module _ {S E : Type 0} (blocks : S → Blocks) (heap : S → Heap) (step_of : S
   })
   slabs_answers keyspace command (Err e) ready is told = nothing_answers keyspace (Ok command) e ready
 
-  module _ (old new : Keyspace S) (command : Command) (steps : ℕ) (ready : Ready blocks old at) (world : (number : ℕ) → means number new.bases (blocks new.store) ≡ means number old.bases (blocks old.store)) (sound : Sound new.bases (blocks new.store)) (settings : SameSettings old.bases new.bases) where
+  module _ (old new : Keyspace S) (command : Command) (steps : ℕ) (ready : Ready blocks old at)
+      (world : (number : ℕ) → means number new.bases (blocks new.store) ≡ means number old.bases (blocks old.store)) (sound : Sound new.bases (blocks new.store))
+      (settings : SameSettings old.bases new.bases) where
     -- DEBUG REHASH
     pub rehash_answers : (result : Result (List Part) E) → command ≡ Connection (connection.DebugRehash steps) → new.store ≡ old.store → IfOk result (λ reply. IsRehashed blocks steps old new reply)
         → Answers blocks heap step_of old new walk walk at (Ok command) (answered_with at.db false result)
@@ -197,7 +208,8 @@ module _ {S E : Type 0} (blocks : S → Blocks) (heap : S → Heap) (step_of : S
     })
 
     -- DEBUG DEFRAG
-    pub defrag_answers : (after : Option Walk) (result : Result (List Part) E) → command ≡ Connection (connection.DebugDefrag steps) → IfOk result (λ reply. IsDefragged blocks heap old new walk after steps reply) → IfErr result (λ e. (new ≡ old) × (after ≡ walk))
+    pub defrag_answers : (after : Option Walk) (result : Result (List Part) E) → command ≡ Connection (connection.DebugDefrag steps)
+        → IfOk result (λ reply. IsDefragged blocks heap old new walk after steps reply) → IfErr result (λ e. (new ≡ old) × (after ≡ walk))
         → Answers blocks heap step_of old new walk after at (Ok command) (answered_with at.db false result)
     defrag_answers after (Ok reply) is shown none = known_answers command (Connection (connection.DebugDefrag steps)) is (record {
       served = λ none. absurd none;
@@ -223,7 +235,8 @@ module _ {S E : Type 0} (blocks : S → Blocks) (heap : S → Heap) (step_of : S
     })
 
 -- an engine that used a moment and did nothing more
-pub observed_keeps : {S : Type 0} (blocks : S → Blocks) (engine inside : State S) (last : ℕ) → inside ≡ record engine { last = last } → Sound inside.bases (blocks inside.store) → Keeps blocks engine inside
+pub observed_keeps : {S : Type 0} (blocks : S → Blocks) (engine inside : State S) (last : ℕ) → inside ≡ record engine { last = last } → Sound inside.bases (blocks inside.store)
+    → Keeps blocks engine inside
 observed_keeps blocks engine inside last e sound = record {
   sound = sound;
   settings = record { limits = ap (λ x. x.bases.limits) e; seed = ap (λ x. x.bases.seed) e; turn = ap (λ x. x.bases.turn) e };
@@ -235,7 +248,8 @@ observed_served step_of engine inside last e = subst (Served step_of engine.stor
 
 module _ {S : Type 0} (blocks : S → Blocks) (heap : S → Heap) (step_of : S → S → Type 0) where
   -- a reply that came says the same whatever else might have come
-  came_alone : {E : Type 0} (old new : Keyspace S) (before after : Option Walk) (at : Ctx) (words : Words) (answered : Answered) → Answers {E = E} blocks heap step_of old new before after at (meant words) (Ok answered)
+  came_alone : {E : Type 0} (old new : Keyspace S) (before after : Option Walk) (at : Ctx) (words : Words) (answered : Answered)
+      → Answers {E = E} blocks heap step_of old new before after at (meant words) (Ok answered)
       → Answers {E = ⊥} blocks heap step_of old new before after at (meant words) (Ok (record { reply = answered.reply; selected = answered.selected; quit = asks_to_quit words }))
   came_alone old new before after at words answered a = record {
     answers = a.answers;
@@ -250,18 +264,24 @@ module _ {S : Type 0} (blocks : S → Blocks) (heap : S → Heap) (step_of : S �
   }
 
   -- an engine answers as its keyspace does, at the moment that it used
-  pub executes : {E : Type 0} (engine inside : State S) (moment : ℕ) (words : Words) (answered : Answered) (bases : Bases) (store : S) (walk : Option Walk) → inside ≡ record engine { last = max engine.last moment } → inside.is_spent ≡ false
-      → Answers {E = E} blocks heap step_of (record { bases = inside.bases; store = inside.store }) (record { bases = bases; store = store }) inside.walk walk (record { db = inside.selected; moment = inside.last }) (meant words) (Ok answered)
+  pub executes : {E : Type 0} (engine inside : State S) (moment : ℕ) (words : Words) (answered : Answered) (bases : Bases) (store : S) (walk : Option Walk)
+      → inside ≡ record engine { last = max engine.last moment } → inside.is_spent ≡ false
+      → Answers {E = E} blocks heap step_of (record { bases = inside.bases; store = inside.store }) (record { bases = bases; store = store }) inside.walk walk
+      (record { db = inside.selected; moment = inside.last }) (meant words) (Ok answered)
       → Executes blocks heap step_of moment engine words answered.reply (record inside { bases = bases; store = store; selected = answered.selected; walk = walk })
   executes engine inside moment words answered bases store walk e alive a = record {
     last = ap (λ x. x.last) e;
-    answers = subst (λ (x : State S). Answers {E = ⊥} blocks heap step_of (keyspace_of x) (record { bases = bases; store = store }) x.walk walk (record { db = x.selected; moment = inside.last }) (meant words) (Ok (record { reply = answered.reply; selected = answered.selected; quit = asks_to_quit words }))) e
+    answers = subst
+        (λ (x : State S). Answers {E = ⊥} blocks heap step_of (keyspace_of x) (record { bases = bases; store = store }) x.walk walk (record { db = x.selected; moment = inside.last })
+        (meant words) (Ok (record { reply = answered.reply; selected = answered.selected; quit = asks_to_quit words }))) e
         (came_alone (keyspace_of inside) (record { bases = bases; store = store }) inside.walk walk (record { db = inside.selected; moment = inside.last }) words answered a);
     alive = alive;
   }
 
   -- what an engine answers is a step from the world that it holds: what was gone at the last moment that it used is gone
-  pub executes_step : (moment : ℕ) (old : State S) (words : Words) (reply : List Part) (new : State S) → Executes blocks heap step_of moment old words reply new → step old.bases.seed (world_of blocks old) new.last words reply (world_of blocks new)
+  pub executes_step : (moment : ℕ) (old : State S) (words : Words) (reply : List Part) (new : State S) → Executes blocks heap step_of moment old words reply new
+      → step old.bases.seed (world_of blocks old) new.last words reply (world_of blocks new)
   executes_step moment old words reply new x =
-      let held : live (means old.selected old.bases (blocks old.store)) new.last ≡ live (world_of blocks old) new.last = sym (live_later (means old.selected old.bases (blocks old.store)) old.last new.last (omega (arith, x.last))) in
+      let held : live (means old.selected old.bases (blocks old.store)) new.last ≡ live (world_of blocks old) new.last =
+      sym (live_later (means old.selected old.bases (blocks old.store)) old.last new.last (omega (arith, x.last))) in
       subst (λ w. may_meant old.bases.seed w new.last (meant words) reply (world_of blocks new)) held x.answers.answers

@@ -22,7 +22,8 @@ use Rattle.redis_core.specs.Engines.{State, keyspace_of}
 use Rattle.redis_core.specs.declared.background.StepsDone.{StepsDone}
 
 -- what a walk has passed depends on the elements alone
-passed_same : (m : Blocks) (old new : Bases) (walk : Walk) (r : BlockRef) → ((db : ℕ) → (table_at new db).items ≡ (table_at old db).items) → HasPassed (value_refs m) (value_marks m) new walk r → HasPassed (value_refs m) (value_marks m) old walk r
+passed_same : (m : Blocks) (old new : Bases) (walk : Walk) (r : BlockRef) → ((db : ℕ) → (table_at new db).items ≡ (table_at old db).items)
+    → HasPassed (value_refs m) (value_marks m) new walk r → HasPassed (value_refs m) (value_marks m) old walk r
 passed_same m old new walk r same (of_database number at e below found isin) = of_database number at e below (sym (at_same number at) ∙ found) isin
   where
     at_same : (number at : ℕ) → item (table_at new number) at ≡ item (table_at old number) at
@@ -38,12 +39,14 @@ passed_same m old new walk r same (of_mark e found before) = of_mark e (sym (at_
 
 module _ {S : Type 0} (blocks : S → Blocks) (heap : S → Heap) where
   -- rehash steps leave it
-  swept_same : (old new : Keyspace S) (walk : Walk) → new.store ≡ old.store → ((db : ℕ) → (table_at new.bases db).items ≡ (table_at old.bases db).items) → IsSweptTo blocks heap old walk → IsSweptTo blocks heap new walk
+  swept_same : (old new : Keyspace S) (walk : Walk) → new.store ≡ old.store → ((db : ℕ) → (table_at new.bases db).items ≡ (table_at old.bases db).items) → IsSweptTo blocks heap old walk
+      → IsSweptTo blocks heap new walk
   swept_same old new walk store same s =
       subst (λ (x : S). Swept (heap x) (HasPassed (value_refs (blocks x)) (value_marks (blocks x)) new.bases walk)) (sym store)
       (record { passing = s.passing; kept = s.kept; calm = λ r passed. s.calm r (passed_same (blocks old.store) old.bases new.bases walk r same passed) })
 
-  tidy_same : (old new : Keyspace S) (walk : Option Walk) → new.store ≡ old.store → ((db : ℕ) → (table_at new.bases db).items ≡ (table_at old.bases db).items) → IsTidy blocks heap old walk → IsTidy blocks heap new walk
+  tidy_same : (old new : Keyspace S) (walk : Option Walk) → new.store ≡ old.store → ((db : ℕ) → (table_at new.bases db).items ≡ (table_at old.bases db).items) → IsTidy blocks heap old walk
+      → IsTidy blocks heap new walk
   tidy_same old new None store same t = tt
   tidy_same old new (Some walk) store same t = swept_same old new walk store same t
 
@@ -67,11 +70,13 @@ module _ {S : Type 0} (blocks : S → Blocks) (heap : S → Heap) where
   pub step_least : (old new : Keyspace S) (before after : Option Walk) → WalksOn blocks heap old new before after → IsTidy blocks heap old before → after ≡ None → HasLeastSlabs blocks heap new
   step_least old new before after w t none = w.least (left_done w.visit w.to (sym w.left ∙ none)) (opens_swept old w.mid before w.from w.opens t)
 
-  packs_tidy : (old : Keyspace S) (before : Option Walk) (steps : ℕ) (new : Keyspace S) (after : Option Walk) → Packs blocks heap old before steps new after → IsTidy blocks heap old before → IsTidy blocks heap new after
+  packs_tidy : (old : Keyspace S) (before : Option Walk) (steps : ℕ) (new : Keyspace S) (after : Option Walk) → Packs blocks heap old before steps new after → IsTidy blocks heap old before
+      → IsTidy blocks heap new after
   packs_tidy old before _ _ _ packs.start t = t
   packs_tidy old before _ _ _ (packs.more steps mid new walk after p w) t = step_tidy mid new walk after w (packs_tidy old before steps mid walk p t)
 
-  packs_least : (old : Keyspace S) (before : Option Walk) (steps : ℕ) (new : Keyspace S) (after : Option Walk) → Packs blocks heap old before steps new after → 0 < steps → after ≡ None → IsTidy blocks heap old before → HasLeastSlabs blocks heap new
+  packs_least : (old : Keyspace S) (before : Option Walk) (steps : ℕ) (new : Keyspace S) (after : Option Walk) → Packs blocks heap old before steps new after → 0 < steps → after ≡ None
+      → IsTidy blocks heap old before → HasLeastSlabs blocks heap new
   packs_least old before _ _ _ packs.start some none t = absurd (omega (arith, some))
   packs_least old before _ _ _ (packs.more steps mid new walk after p w) some none t = step_least mid new walk after w (packs_tidy old before steps mid walk p t) none
 

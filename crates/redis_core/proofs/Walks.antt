@@ -63,7 +63,8 @@ table_of_slabs heap reply is = record {
 
 module _ {S : Type 0} (blocks : S → Blocks) (heap : S → Heap) where
   -- all steps are left, or none is, or one is made
-  pub all_left : (old new : Keyspace S) (before after : Option Walk) (steps ended : ℕ) → Defrags blocks heap (steps - 0) old new before after ended → Defrags blocks heap steps old new before after ended
+  pub all_left : (old new : Keyspace S) (before after : Option Walk) (steps ended : ℕ) → Defrags blocks heap (steps - 0) old new before after ended
+      → Defrags blocks heap steps old new before after ended
   all_left old new before after steps ended d =
       let all : steps - 0 ≡ steps = omega arith in
       subst (λ n. Defrags blocks heap n old new before after ended) all d
@@ -77,7 +78,8 @@ module _ {S : Type 0} (blocks : S → Blocks) (heap : S → Heap) where
       let is : left ≡ (left - 1) + 1 = omega (arith, some) in
       subst (λ n. Defrags blocks heap n old new before None 1) (sym is) (defrags.ends (left - 1) old new before ended)
 
-  pub step_goes_on : (old mid new : Keyspace S) (before walk after : Option Walk) (place : Walk) (left rest ended : ℕ) → WalksOn blocks heap old mid before walk → walk ≡ Some place → left ≡ rest + 1 → Defrags blocks heap rest mid new (Some place) after ended → Defrags blocks heap left old new before after ended
+  pub step_goes_on : (old mid new : Keyspace S) (before walk after : Option Walk) (place : Walk) (left rest ended : ℕ) → WalksOn blocks heap old mid before walk → walk ≡ Some place
+      → left ≡ rest + 1 → Defrags blocks heap rest mid new (Some place) after ended → Defrags blocks heap left old new before after ended
   step_goes_on old mid new before walk after place left rest ended w is one d =
       let went : WalksOn blocks heap old mid before (Some place) = subst (λ (o : Option Walk). WalksOn blocks heap old mid before o) is w in
       subst (λ n. Defrags blocks heap n old new before after ended) (sym one) (defrags.goes_on rest ended old mid new before after place went d)
@@ -89,16 +91,19 @@ module _ {S : Type 0} (blocks : S → Blocks) (heap : S → Heap) where
   ends_once _ _ _ _ _ _ (defrags.goes_on left ended old mid new before after walk w d) = (let e = ends_once left mid new (Some walk) after ended d in (omega (arith, e.0), e.1))
 
   -- from a walk that left no block behind, a pass that ends leaves the least slabs
-  pass_least : (steps : ℕ) (old new : Keyspace S) (before after : Option Walk) (ended : ℕ) → Defrags blocks heap steps old new before after ended → ended ≡ 1 → IsTidy blocks heap old before → HasLeastSlabs blocks heap new
+  pass_least : (steps : ℕ) (old new : Keyspace S) (before after : Option Walk) (ended : ℕ) → Defrags blocks heap steps old new before after ended → ended ≡ 1
+      → IsTidy blocks heap old before → HasLeastSlabs blocks heap new
   pass_least _ _ _ _ _ _ (defrags.made keyspace walk) one tidy = absurd (omega (arith, one))
   pass_least _ _ _ _ _ _ (defrags.ends left old new before w) one tidy = step_least blocks heap old new before None w tidy refl
-  pass_least _ _ _ _ _ _ (defrags.goes_on left ended old mid new before after walk w d) one tidy = pass_least left mid new (Some walk) after ended d one (step_tidy blocks heap old mid before (Some walk) w tidy)
+  pass_least _ _ _ _ _ _ (defrags.goes_on left ended old mid new before after walk w d) one tidy =
+      pass_least left mid new (Some walk) after ended d one (step_tidy blocks heap old mid before (Some walk) w tidy)
 
   one_told : (ended : ℕ) → Number (pos ended) ∷ [] ≡ Number (pos 1) ∷ [] → ended ≡ 1
   one_told ended is = cc
 
   -- where no walk was open, a DEBUG DEFRAG that answers 1 leaves them
-  pub ends_least : (m : Result Command Refusal) (old new : Keyspace S) (before after : Option Walk) (reply : List Part) → TendsMeant blocks heap old new before after m reply → before ≡ None → EndsPass m reply → HasLeastSlabs blocks heap new
+  pub ends_least : (m : Result Command Refusal) (old new : Keyspace S) (before after : Option Walk) (reply : List Part) → TendsMeant blocks heap old new before after m reply
+      → before ≡ None → EndsPass m reply → HasLeastSlabs blocks heap new
   ends_least (Ok (Connection (connection.DebugDefrag steps))) old new before after reply tends none ends =
       pass_least steps old new before after tends.ended tends.defrags (one_told tends.ended (sym tends.is ∙ ends)) (subst (λ (walk : Option Walk). IsTidy blocks heap old walk) (sym none) tt)
   ends_least other old new before after reply tends none ends = absurd ends

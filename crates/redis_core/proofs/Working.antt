@@ -22,20 +22,25 @@ use Rattle.redis_core.specs.Walking.{Packs as packs}
 use Rattle.redis_core.specs.Engines.{State, keyspace_of}
 use Rattle.redis_core.specs.declared.background.StepsDone.{StepsDone}
 
-module _ {S : Type 0} (blocks : S → Blocks) (heap : S → Heap) (old mid new : Keyspace S) (before : Option Walk) (from to : Walk) (visit : Visit) (opens : Opens blocks heap old mid before from) (bases : mid.bases ≡ old.bases) (same : blocks mid.store ≡ blocks old.store) where
+module _ {S : Type 0} (blocks : S → Blocks) (heap : S → Heap) (old mid new : Keyspace S) (before : Option Walk) (from to : Walk) (visit : Visit)
+    (opens : Opens blocks heap old mid before from) (bases : mid.bases ≡ old.bases) (same : blocks mid.store ≡ blocks old.store) where
   -- a keyspace over which a walk was opened is the same
   pub opened_sound : Sound old.bases (blocks old.store) → Sound mid.bases (blocks mid.store)
   opened_sound sound = subst (λ (b : Bases). Sound b (blocks mid.store)) (sym bases) (subst (Sound old.bases) (sym same) sound)
 
-  pub walked_means : Relocates value_refs value_of IsSound mid.bases new.bases (blocks mid.store) (blocks new.store) → (number : ℕ) → means number new.bases (blocks new.store) ≡ means number old.bases (blocks old.store)
+  pub walked_means : Relocates value_refs value_of IsSound mid.bases new.bases (blocks mid.store) (blocks new.store) → (number : ℕ)
+      → means number new.bases (blocks new.store) ≡ means number old.bases (blocks old.store)
   walked_means r number = r.means number ∙ ap (λ (b : Bases). means number b (blocks mid.store)) bases ∙ ap (means number old.bases) same
 
   pub walked_settings : Relocates value_refs value_of IsSound mid.bases new.bases (blocks mid.store) (blocks new.store) → SameSettings old.bases new.bases
   walked_settings r = subst (λ (b : Bases). SameSettings b new.bases) bases r.settings
 
   -- one step of the walk
-  pub walked : Sound old.bases (blocks old.store) → Relocates value_refs value_of IsSound mid.bases new.bases (blocks mid.store) (blocks new.store) → SameShapes encoding_of encoding_of mid.bases new.bases → SameShapes (value_tables (blocks mid.store)) (value_tables (blocks new.store)) mid.bases new.bases → Goes (shapes (value_marks (blocks mid.store)) mid.bases) from to visit → (visit ≡ Done) ↔ (to.database ≡ 16)
-      → (visit ≡ More → IsSweptTo blocks heap mid from → IsSweptTo blocks heap new to) → (visit ≡ Done → Sound mid.bases (blocks mid.store) → IsSweptTo blocks heap mid from → HasLeastSlabs blocks heap new)
+  pub walked : Sound old.bases (blocks old.store) → Relocates value_refs value_of IsSound mid.bases new.bases (blocks mid.store) (blocks new.store)
+      → SameShapes encoding_of encoding_of mid.bases new.bases → SameShapes (value_tables (blocks mid.store)) (value_tables (blocks new.store)) mid.bases new.bases
+      → Goes (shapes (value_marks (blocks mid.store)) mid.bases) from to visit → (visit ≡ Done) ↔ (to.database ≡ 16)
+      → (visit ≡ More → IsSweptTo blocks heap mid from → IsSweptTo blocks heap new to)
+      → (visit ≡ Done → Sound mid.bases (blocks mid.store) → IsSweptTo blocks heap mid from → HasLeastSlabs blocks heap new)
       → (after : Option Walk) → after ≡ left_open visit to → WalksOn blocks heap old new before after
   walked sound r encodings tables goes ended swept least after left = record {
     mid = mid;
@@ -53,12 +58,16 @@ module _ {S : Type 0} (blocks : S → Blocks) (heap : S → Heap) (old mid new :
     least = λ is s. least is (opened_sound sound) s;
   }
 
-module _ {S : Type 0} (blocks : S → Blocks) (heap : S → Heap) (step_of : S → S → Type 0) (moment : ℕ) (plan : Plan) (old thinned mid new : Keyspace S) (before after : Option Walk) (done : StepsDone) where
+module _ {S : Type 0} (blocks : S → Blocks) (heap : S → Heap) (step_of : S → S → Type 0) (moment : ℕ) (plan : Plan) (old thinned mid new : Keyspace S) (before after : Option Walk)
+    (done : StepsDone) where
   -- expiry steps, then rehash steps, then steps of the walk
-  pub worked : Expired value_refs moment old.bases (blocks old.store) plan.expire done.expired thinned.bases (blocks thinned.store) → (plan.expire ≡ 0 → thinned ≡ old) → ((number later : ℕ) → moment ≤ later → live (means number thinned.bases (blocks thinned.store)) later ≡ live (means number old.bases (blocks old.store)) later)
+  pub worked : Expired value_refs moment old.bases (blocks old.store) plan.expire done.expired thinned.bases (blocks thinned.store) → (plan.expire ≡ 0 → thinned ≡ old)
+      → ((number later : ℕ) → moment ≤ later → live (means number thinned.bases (blocks thinned.store)) later ≡ live (means number old.bases (blocks old.store)) later)
       → Served step_of old.store thinned.store → thinned.bases.limits ≡ old.bases.limits → thinned.bases.seed ≡ old.bases.seed
-      → Rehashed (blocks thinned.store) plan.rehash done.rehash thinned.bases mid.bases → mid.store ≡ thinned.store → ((number : ℕ) → means number mid.bases (blocks thinned.store) ≡ means number thinned.bases (blocks thinned.store)) → SameSettings thinned.bases mid.bases
-      → Packs blocks heap mid before done.defrag new after → done.defrag ≡ plan.defrag → ((number : ℕ) → means number new.bases (blocks new.store) ≡ means number mid.bases (blocks mid.store)) → Sound new.bases (blocks new.store) → SameSettings mid.bases new.bases
+      → Rehashed (blocks thinned.store) plan.rehash done.rehash thinned.bases mid.bases → mid.store ≡ thinned.store
+      → ((number : ℕ) → means number mid.bases (blocks thinned.store) ≡ means number thinned.bases (blocks thinned.store)) → SameSettings thinned.bases mid.bases
+      → Packs blocks heap mid before done.defrag new after → done.defrag ≡ plan.defrag
+      → ((number : ℕ) → means number new.bases (blocks new.store) ≡ means number mid.bases (blocks mid.store)) → Sound new.bases (blocks new.store) → SameSettings mid.bases new.bases
       → DoesPlan blocks heap step_of moment plan old new before after done
   worked expired unthinned stays served limits seed rehashed store world settings packed all packs sound settings' =
       let both = settings_then thinned.bases mid.bases new.bases settings settings' in
@@ -72,7 +81,8 @@ module _ {S : Type 0} (blocks : S → Blocks) (heap : S → Heap) (step_of : S �
         store = store;
         packed = packed;
         all_packed = all;
-        stays = λ number later late. ap (λ w. live w later) (packs number) ∙ ap (λ (s : S). live (means number mid.bases (blocks s)) later) store ∙ ap (λ w. live w later) (world number) ∙ stays number later late;
+        stays = λ number later late. ap (λ w. live w later) (packs number) ∙ ap (λ (s : S). live (means number mid.bases (blocks s)) later) store ∙ ap (λ w. live w later) (world number)
+            ∙ stays number later late;
         sound = sound;
         settings = both;
         limits = both.limits ∙ limits;
@@ -80,8 +90,10 @@ module _ {S : Type 0} (blocks : S → Blocks) (heap : S → Heap) (step_of : S �
       }
 
 -- an engine does the work that its keyspace does, at the moment that it used
-pub rests : {S : Type 0} (blocks : S → Blocks) (heap : S → Heap) (step_of : S → S → Type 0) (engine inside : State S) (moment : ℕ) (plan : Plan) (bases : Bases) (store : S) (walk : Option Walk) (done : StepsDone) → inside ≡ record engine { last = max engine.last moment }
-    → DoesPlan blocks heap step_of inside.last plan (record { bases = inside.bases; store = inside.store }) (record { bases = bases; store = store }) inside.walk walk done → EngineRests blocks heap step_of moment plan engine (record inside { bases = bases; store = store; walk = walk }) done
+pub rests : {S : Type 0} (blocks : S → Blocks) (heap : S → Heap) (step_of : S → S → Type 0) (engine inside : State S) (moment : ℕ) (plan : Plan) (bases : Bases) (store : S)
+    (walk : Option Walk) (done : StepsDone) → inside ≡ record engine { last = max engine.last moment }
+    → DoesPlan blocks heap step_of inside.last plan (record { bases = inside.bases; store = inside.store }) (record { bases = bases; store = store }) inside.walk walk done
+    → EngineRests blocks heap step_of moment plan engine (record inside { bases = bases; store = store; walk = walk }) done
 rests {S = S} blocks heap step_of engine inside moment plan bases store walk done e w = record {
   last = ap (λ x. x.last) e;
   works = subst (λ (x : State S). DoesPlan blocks heap step_of inside.last plan (keyspace_of x) (record { bases = bases; store = store }) x.walk walk done) e w;
@@ -90,7 +102,8 @@ rests {S = S} blocks heap step_of engine inside moment plan bases store walk don
 }
 
 -- no step of the walk leaves all
-pub unpacked : {S : Type 0} (blocks : S → Blocks) (heap : S → Heap) (steps : ℕ) → steps ≡ 0 → (old : Keyspace S) (before : Option Walk) (new : Keyspace S) (after : Option Walk) → Packs blocks heap old before steps new after → (new ≡ old) × (after ≡ before)
+pub unpacked : {S : Type 0} (blocks : S → Blocks) (heap : S → Heap) (steps : ℕ) → steps ≡ 0 → (old : Keyspace S) (before : Option Walk) (new : Keyspace S) (after : Option Walk)
+    → Packs blocks heap old before steps new after → (new ≡ old) × (after ≡ before)
 unpacked blocks heap _ none old before _ _ packs.start = (refl, refl)
 unpacked blocks heap _ none old before _ _ (packs.more steps mid new walk after p w) = absurd (omega (arith, none))
 
@@ -100,7 +113,8 @@ pub record Stills {S : Type 0} (step_of : S → S → Type 0) (old new : State S
   pub walk : new.walk ≡ old.walk
   pub served : Served step_of old.store new.store
 
-pub rests_still : {S : Type 0} (blocks : S → Blocks) (heap : S → Heap) (step_of : S → S → Type 0) (moment : ℕ) (plan : Plan) (old new : State S) (done : StepsDone) → plan.expire ≡ 0 → plan.defrag ≡ 0 → EngineRests blocks heap step_of moment plan old new done → Stills step_of old new
+pub rests_still : {S : Type 0} (blocks : S → Blocks) (heap : S → Heap) (step_of : S → S → Type 0) (moment : ℕ) (plan : Plan) (old new : State S) (done : StepsDone) → plan.expire ≡ 0
+    → plan.defrag ≡ 0 → EngineRests blocks heap step_of moment plan old new done → Stills step_of old new
 rests_still {S = S} blocks heap step_of moment plan old new done none still r =
     let w = r.works in
     let u = unpacked blocks heap done.defrag (w.all_packed ∙ still) w.mid old.walk (keyspace_of new) new.walk w.packed in

@@ -100,7 +100,8 @@ impl<B: BlockStore> Engine<B> {
     pub fn background(&mut self, plan: Plan, moment: u64) -> StepsDone
         ensures rests { self.old.is_spent ≡ false → EngineRests B.blocks B.heap B.step moment plan self.old self.new result }
         ensures tidy { self.old.is_spent ≡ false → plan.expire ≡ 0 → IsTidy B.blocks B.heap (keyspace_of self.old) self.old.walk → IsTidy B.blocks B.heap (keyspace_of self.new) self.new.walk }
-        ensures least { self.old.is_spent ≡ false → plan.expire ≡ 0 → IsTidy B.blocks B.heap (keyspace_of self.old) self.old.walk → 0 < plan.defrag → self.new.walk ≡ None → HasLeastSlabs B.blocks B.heap (keyspace_of self.new) }
+        ensures least { self.old.is_spent ≡ false → plan.expire ≡ 0 → IsTidy B.blocks B.heap (keyspace_of self.old) self.old.walk → 0 < plan.defrag → self.new.walk ≡ None
+            → HasLeastSlabs B.blocks B.heap (keyspace_of self.new) }
         ensures spent { self.old.is_spent ≡ true → (self.new ≡ self.old) × (result ≡ no_steps) }
     {
         if self.is_spent {

@@ -50,27 +50,37 @@ place_high bits h small =
 
 pub in_bucket_64 : (bits v h : ℕ) → bits < 64 → place v ≤ place h → place h < block_end (64 - bits) (place v) → h % 2 ^ bits ≡ v % 2 ^ bits
 in_bucket_64 bits v h small from to =
-    low_from_reversed bits h v (sym (place_high bits h small) ∙ omega (arith, le-div (place v / 2 ^ (64 - bits)) (place h) (2 ^ (64 - bits)) (pow_pos (64 - bits)) (omega (arith, block_start-le (64 - bits) (place v))), div_below (place h) (2 ^ (64 - bits)) (place v / 2 ^ (64 - bits) + 1) (pow_pos (64 - bits)) to) ∙ place_high bits v small)
+    low_from_reversed bits h v
+    (sym (place_high bits h small) ∙ omega (
+      arith,
+      le-div (place v / 2 ^ (64 - bits)) (place h) (2 ^ (64 - bits)) (pow_pos (64 - bits)) (omega (arith, block_start-le (64 - bits) (place v))),
+      div_below (place h)
+          (2 ^ (64 - bits)) (place v / 2 ^ (64 - bits) + 1) (pow_pos (64 - bits)) to,
+    ) ∙ place_high bits v small)
 
 pub from_first : (bits v h : ℕ) → bits < 64 → place v ≤ place h → place v / 2 ^ (64 - bits) ≤ reversed bits h
-from_first bits v h small from = omega (arith, place_high bits h small, le-div (place v / 2 ^ (64 - bits)) (place h) (2 ^ (64 - bits)) (pow_pos (64 - bits)) (omega (arith, block_start-le (64 - bits) (place v))))
+from_first bits v h small from = omega
+    (arith, place_high bits h small, le-div (place v / 2 ^ (64 - bits)) (place h) (2 ^ (64 - bits)) (pow_pos (64 - bits)) (omega (arith, block_start-le (64 - bits) (place v))))
 
 pub to_last : (small large v h : ℕ) → small ≤ large → large < 64 → place h < block_end (64 - small) (place v) → reversed large h < last_block small large v
 to_last small large v h order width to =
     let join : large - small + (64 - large) ≡ 64 - small = omega arith in
     let whole : block_end (64 - small) (place v) ≡ last_block small large v * 2 ^ (64 - large)
-    = ap (λ (x : ℕ). (place v / 2 ^ (64 - small) + 1) * 2 ^ x) (sym join) ∙ ap (λ (x : ℕ). (place v / 2 ^ (64 - small) + 1) * x) (pow-add 2 (large - small) (64 - large)) ∙ sym (mul_assoc (place v / 2 ^ (64 - small) + 1) (2 ^ (large - small)) (2 ^ (64 - large))) in
+    = ap (λ (x : ℕ). (place v / 2 ^ (64 - small) + 1) * 2 ^ x) (sym join) ∙ ap (λ (x : ℕ). (place v / 2 ^ (64 - small) + 1) * x) (pow-add 2 (large - small) (64 - large))
+    ∙ sym (mul_assoc (place v / 2 ^ (64 - small) + 1) (2 ^ (large - small)) (2 ^ (64 - large))) in
     omega (arith, place_high large h width, div_below (place h) (2 ^ (64 - large)) (last_block small large v) (pow_pos (64 - large)) (omega (arith, whole)))
 
 pub whole_end : (small large v : ℕ) → small ≤ large → large < 64 → block_end (64 - small) (place v) ≡ last_block small large v * 2 ^ (64 - large)
 whole_end small large v order width =
     let join : large - small + (64 - large) ≡ 64 - small = omega arith in
-    ap (λ (x : ℕ). (place v / 2 ^ (64 - small) + 1) * 2 ^ x) (sym join) ∙ ap (λ (x : ℕ). (place v / 2 ^ (64 - small) + 1) * x) (pow-add 2 (large - small) (64 - large)) ∙ sym (mul_assoc (place v / 2 ^ (64 - small) + 1) (2 ^ (large - small)) (2 ^ (64 - large)))
+    ap (λ (x : ℕ). (place v / 2 ^ (64 - small) + 1) * 2 ^ x) (sym join) ∙ ap (λ (x : ℕ). (place v / 2 ^ (64 - small) + 1) * x) (pow-add 2 (large - small) (64 - large))
+    ∙ sym (mul_assoc (place v / 2 ^ (64 - small) + 1) (2 ^ (large - small)) (2 ^ (64 - large)))
 
 pub whole_start : (small large v : ℕ) → small ≤ large → large < 64 → block_start (64 - small) (place v) ≡ place v / 2 ^ (64 - small) * 2 ^ (large - small) * 2 ^ (64 - large)
 whole_start small large v order width =
     let join : large - small + (64 - large) ≡ 64 - small = omega arith in
-    ap (λ (x : ℕ). place v / 2 ^ (64 - small) * 2 ^ x) (sym join) ∙ ap (λ (x : ℕ). place v / 2 ^ (64 - small) * x) (pow-add 2 (large - small) (64 - large)) ∙ sym (mul_assoc (place v / 2 ^ (64 - small)) (2 ^ (large - small)) (2 ^ (64 - large)))
+    ap (λ (x : ℕ). place v / 2 ^ (64 - small) * 2 ^ x) (sym join) ∙ ap (λ (x : ℕ). place v / 2 ^ (64 - small) * x) (pow-add 2 (large - small) (64 - large))
+    ∙ sym (mul_assoc (place v / 2 ^ (64 - small)) (2 ^ (large - small)) (2 ^ (64 - large)))
 
 pub first_below_last : (small large v : ℕ) → small ≤ large → large < 64 → first_block large v < last_block small large v
 first_below_last small large v order width = omega (arith, place_high large v width, to_last small large v v order width (lt-block_end (64 - small) (place v)))

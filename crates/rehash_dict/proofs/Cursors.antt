@@ -28,7 +28,8 @@ one_more (suc k) m t below low high =
       | inl under ↦
           (let less : t < k = elim (cases_lt t k) [ inl h ↦ h | inr h ↦ absurd (omega (arith, pow_le k t h)) ] in
           let fits : 2 ^ suc t ≤ 2 ^ k = pow_le (suc t) k less in
-          let made : reversed (suc k) (0 * 2 ^ k + (2 * 2 ^ t - 1 - (m - 2 ^ t))) ≡ reversed k (2 * 2 ^ t - 1 - (m - 2 ^ t)) * 2 + 0 = with_top k (2 * 2 ^ t - 1 - (m - 2 ^ t)) 0 (omega arith) (omega arith) in
+          let made : reversed (suc k) (0 * 2 ^ k + (2 * 2 ^ t - 1 - (m - 2 ^ t))) ≡ reversed k (2 * 2 ^ t - 1 - (m - 2 ^ t)) * 2 + 0 =
+          with_top k (2 * 2 ^ t - 1 - (m - 2 ^ t)) 0 (omega arith) (omega arith) in
           let was : reversed (suc k) (1 * 2 ^ k + (2 ^ k - 1 - m)) ≡ reversed k (2 ^ k - 1 - m) * 2 + 1 = with_top k (2 ^ k - 1 - m) 1 (omega arith) (omega arith) in
           let left : 0 * 2 ^ k + (2 * 2 ^ t - 1 - (m - 2 ^ t)) ≡ 2 * 2 ^ t - 1 - (m - 2 ^ t) = omega arith in
           let right : 1 * 2 ^ k + (2 ^ k - 1 - m) ≡ 2 ^ suc k - 1 - m = omega arith in
@@ -79,5 +80,6 @@ next_cursor bits v n m t few is zeros low high =
     let up : reversed bits (2 * 2 ^ t - 1 - (m - 2 ^ t)) ≡ place v / 2 ^ (64 - bits) + 1
     = one_more bits m t (omega arith) low (omega (arith, pow-suc 2 t)) ∙ ap (λ (x : ℕ). reversed bits x + 1) back ∙ ap (λ (x : ℕ). x + 1) (reversed-low bits v ∙ sym (place_high bits v few)) in
     let end : reversed bits (2 * 2 ^ t - 1 - (m - 2 ^ t)) * 2 ^ (64 - bits) ≡ block_end (64 - bits) (place v) = ap (λ (x : ℕ). x * 2 ^ (64 - bits)) up in
-    let room : reversed bits (2 * 2 ^ t - 1 - (m - 2 ^ t)) * 2 ^ (64 - bits) < 2 ^ 64 = subst (λ (w : ℕ). reversed bits (2 * 2 ^ t - 1 - (m - 2 ^ t)) * 2 ^ (64 - bits) < 2 ^ w) width (shl_lt bits (64 - bits) (reversed-below bits (2 * 2 ^ t - 1 - (m - 2 ^ t)))) in
+    let room : reversed bits (2 * 2 ^ t - 1 - (m - 2 ^ t)) * 2 ^ (64 - bits) < 2 ^ 64 =
+    subst (λ (w : ℕ). reversed bits (2 * 2 ^ t - 1 - (m - 2 ^ t)) * 2 ^ (64 - bits) < 2 ^ w) width (shl_lt bits (64 - bits) (reversed-below bits (2 * 2 ^ t - 1 - (m - 2 ^ t)))) in
     next_from bits v (2 * 2 ^ t - 1 - (m - 2 ^ t)) few (omega (arith, pow-suc 2 t, pow_pos t)) (sym (mod-eq_of_lt room) ∙ ap (λ (x : ℕ). x % 2 ^ 64) end)

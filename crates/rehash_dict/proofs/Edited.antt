@@ -1,5 +1,6 @@
 -- What the calls on a dictionary make of it, from what its parts do.
-use Rattle.std.proofs.Common.{◌≡◌, ◌≢◌, inl, inr, ℕ, zero, suc, ◌+◌, ◌%◌, ◌<◌, Bool, true, false, cond, eqb, List, [], ◌∷◌, ◌++◌, set, length, map, max, Option, Some, None, IsSome, is_some, refl, sym, ap, ◌∙◌, subst, arith}
+use Rattle.std.proofs.Common.{◌≡◌, ◌≢◌, inl, inr, ℕ, zero, suc, ◌+◌, ◌%◌, ◌<◌, Bool, true, false, cond, eqb, List, [], ◌∷◌, ◌++◌, set, length, map, max, Option, Some, None, IsSome}
+use Rattle.std.proofs.Common.{is_some, refl, sym, ap, ◌∙◌, subst, arith}
 use Rattle.std.specs.Prelude.{MatchBool, unwrap_or}
 use Rattle.std.proofs.lemmas.Bool.{cases_eq, cases_lt, cond-true, cond-false}
 use Rattle.std.proofs.lemmas.Bool.Decides.{nat_tests}
@@ -38,7 +39,8 @@ module _ {V : Type 0} where
   -- ---- a look at one element
 
   -- the comparison of a block's bytes with the key tells whether the item number is that of the key
-  pub key_answer : (blocks : Blocks) (t : Table V) (at hash : ℕ) (key bytes : List ℕ) (e : Element V) (b : Bool) → item t at ≡ Some e → blocks e.key ≡ Some bytes → (b ≡ true → bytes ≡ key) → (bytes ≡ key → b ≡ true) → MatchBool b (Stands blocks t at key) (IsOther blocks t hash key at)
+  pub key_answer : (blocks : Blocks) (t : Table V) (at hash : ℕ) (key bytes : List ℕ) (e : Element V) (b : Bool) → item t at ≡ Some e → blocks e.key ≡ Some bytes → (b ≡ true → bytes ≡ key)
+      → (bytes ≡ key → b ≡ true) → MatchBool b (Stands blocks t at key) (IsOther blocks t hash key at)
   key_answer blocks t at hash key bytes e true found live is back = record { element = e; found = found; bytes = live ∙ ap Some (is refl) }
   key_answer blocks t at hash key bytes e false found live is back = λ f h same bad.
       let one : f ≡ e = (let q : Some f ≡ Some e = sym h ∙ found in cc) in
@@ -48,7 +50,8 @@ module _ {V : Type 0} where
 
   -- ---- a key is named by another block
 
-  module _ (h later : Held V) (position seed top at : ℕ) (ref : BlockRef) (p : IsPlaced (table_of h position seed top)) (s : SwapsIn h later at (λ e. at_item later.items at ≡ Some (record e { key = ref }))) where
+  module _ (h later : Held V) (position seed top at : ℕ) (ref : BlockRef) (p : IsPlaced (table_of h position seed top))
+      (s : SwapsIn h later at (λ e. at_item later.items at ≡ Some (record e { key = ref }))) where
     -- an item number that has an element afterwards had one before
     was_there : (i : ℕ) → IsSome (at_item later.items i) → IsSome (at_item h.items i)
     was_there i there = elim (cases_eq i at) [
@@ -89,7 +92,8 @@ module _ {V : Type 0} where
             (λ i e there. elim (cases_eq i at) [
               | inl here ↦
                   (let one : e ≡ s.element = (let q : Some e ≡ Some s.element = sym there ∙ ap (at_item h.items) here ∙ s.found in cc) in
-                  key-same before after (table_of h position seed top) (table_of later position seed top) i e (record s.element { key = ref }) there (ap (at_item later.items) here ∙ s.swapped) (same ∙ ap (λ (x : Element V). before x.key) (sym one)))
+                  key-same before after (table_of h position seed top) (table_of later position seed top) i e (record s.element { key = ref }) there
+                  (ap (at_item later.items) here ∙ s.swapped) (same ∙ ap (λ (x : Element V). before x.key) (sym one)))
               | inr other ↦ key-same before after (table_of h position seed top) (table_of later position seed top) i e e there (s.others i other ∙ there) (keeps i e other there)
             ]),
       );
@@ -97,7 +101,8 @@ module _ {V : Type 0} where
 
   -- ---- an element leaves
 
-  module _ (h mid last : Held V) (position later seed top number at : ℕ) (key : BlockRef) (value : V) (p : IsPlaced (table_of h position seed top)) (b : Rebuilds mid last later) (e : held_tables last later ≡ ended (held_tables mid position)) where
+  module _ (h mid last : Held V) (position later seed top number at : ℕ) (key : BlockRef) (value : V) (p : IsPlaced (table_of h position seed top)) (b : Rebuilds mid last later)
+      (e : held_tables last later ≡ ended (held_tables mid position)) where
     -- the tables with the item number taken out of all buckets
     abbrev without_all : Tables ℕ
     without_all = record { older = map (without eqb at) h.older; newer = map (without eqb at) h.newer; position = position }
@@ -142,7 +147,8 @@ module _ {V : Type 0} where
     })
 
     -- an element that leaves the bucket in which it stands, in either table, is taken out of the dictionary
-    pub takes : (side : Side) → LeavesFrom side h mid number at key value → 0 < times at (bucket (side_rows side h) number) → Takes (table_of h position seed top) (table_of last later seed top) at key value
+    pub takes : (side : Side) → LeavesFrom side h mid number at key value → 0 < times at (bucket (side_rows side h) number)
+        → Takes (table_of h position seed top) (table_of last later seed top) at key value
     takes Older l inside = takes_older l inside
     takes Newer l inside = takes_newer l inside
 
@@ -263,7 +269,8 @@ module _ {V : Type 0} where
   side_size Newer h s = s.newer_size
 
   -- the answer of a look through one bucket
-  pub spot_found : (blocks : Blocks) (t : Table V) (side : Side) (hash at : ℕ) (key : List ℕ) (before : Option ℕ) (front rest : List ℕ) → 0 < length (table_rows side t) → bucket (table_rows side t) (hash % length (table_rows side t)) ≡ front ++ at ∷ rest → before ≡ last_of front → Stands blocks t at key → IsSpot blocks t side hash key before at
+  pub spot_found : (blocks : Blocks) (t : Table V) (side : Side) (hash at : ℕ) (key : List ℕ) (before : Option ℕ) (front rest : List ℕ) → 0 < length (table_rows side t)
+      → bucket (table_rows side t) (hash % length (table_rows side t)) ≡ front ++ at ∷ rest → before ≡ last_of front → Stands blocks t at key → IsSpot blocks t side hash key before at
   spot_found blocks t side hash at key before front rest some row last stands = record { table = some; behind = record { front = front; rest = rest; is = row; last = last }; stands = stands }
 
   -- a key that stands in neither bucket of its hash stands nowhere
@@ -284,7 +291,8 @@ module _ {V : Type 0} where
   -- ---- removal, by its key
 
   -- where the element of a key was taken out, the tables by key bytes are those with the key removed
-  pub removed_tables : (blocks : Blocks) (old new : Table V) (at : ℕ) (key : List ℕ) (ref : BlockRef) (value : V) → Keyed blocks old → Stands blocks old at key → Takes old new at ref value → key_tables blocks new ≡ removed same_key (key_tables blocks old) key
+  pub removed_tables : (blocks : Blocks) (old new : Table V) (at : ℕ) (key : List ℕ) (ref : BlockRef) (value : V) → Keyed blocks old → Stands blocks old at key → Takes old new at ref value
+      → key_tables blocks new ≡ removed same_key (key_tables blocks old) key
   removed_tables blocks old new at key ref value k s t =
       let one : s.element ≡ record { key = ref; hash = t.hash; value = value } = (let q : Some s.element ≡ Some (record { key = ref; hash = t.hash; value = value }) = sym s.found ∙ t.found in cc) in
       key_tables_removed blocks old new at s.element key k s.found s.bytes t.updates t.seed t.placed t.tables

@@ -7,7 +7,8 @@ use Rattle.rehash_dict.specs.Table.{Element, Table, item}
 use Rattle.rehash_dict.specs.Keyed.{Keyed, Lacks, Stands, key_tables}
 use Rattle.rehash_dict.proofs.Keys.{Keyed-frame}
 
-module _ {V : Type 0} (before after : Blocks) (at : BlockRef) (content : Option (List ℕ)) (t : Table V) (k : Keyed before t) (fresh : before at ≡ None) (placed : after ≡ with_block before at content) where
+module _ {V : Type 0} (before after : Blocks) (at : BlockRef) (content : Option (List ℕ)) (t : Table V) (k : Keyed before t) (fresh : before at ≡ None)
+    (placed : after ≡ with_block before at content) where
   key_kept : (i : ℕ) (e : Element V) → item t i ≡ Some e → after e.key ≡ before e.key
   key_kept i e h = (λ j. placed j e.key) ∙ with_block-other before at e.key content (apart_live before e.key at (k.live i e h) fresh)
 
@@ -25,7 +26,8 @@ placed_bytes before after at key placed = (λ j. placed j at) ∙ ap (λ b. if b
 
 module _ {V : Type 0} where
   -- A key that wasn't there isn't there in the store with its new block.
-  pub Lacks-placed : (before after : Blocks) (at : BlockRef) (key : List ℕ) (t : Table V) → Keyed before t → before at ≡ None → after ≡ with_block before at (Some key) → Lacks before t key → Lacks after t (bytes_at after at)
+  pub Lacks-placed : (before after : Blocks) (at : BlockRef) (key : List ℕ) (t : Table V) → Keyed before t → before at ≡ None → after ≡ with_block before at (Some key) → Lacks before t key
+      → Lacks after t (bytes_at after at)
   Lacks-placed before after at key t k fresh placed l =
       subst (Lacks after t) (sym (ap (λ o. unwrap_or o []) (placed_bytes before after at key placed))) (Lacks-fresh before after at (Some key) t k fresh placed key l)
 

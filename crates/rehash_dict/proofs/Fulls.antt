@@ -13,7 +13,8 @@ module _ {X : Type 0} where
   unfolding full_within
   full_past rows n at none = cond-true _ _ _ (eq-eqb (length (bucket rows at)) 0 (ap length none))
 
-  pub full_found : (rows : List (List X)) (n position at : ℕ) → position ≤ at → at < position + n → ((k : ℕ) → position ≤ k → k < at → bucket rows k ≡ []) → (bucket rows at ≡ [] → ⊥) → full_within rows n position ≡ Some at
+  pub full_found : (rows : List (List X)) (n position at : ℕ) → position ≤ at → at < position + n → ((k : ℕ) → position ≤ k → k < at → bucket rows k ≡ []) → (bucket rows at ≡ [] → ⊥)
+      → full_within rows n position ≡ Some at
   full_found rows zero position at from to before full = absurd (omega arith)
   full_found rows (suc n) position at from to before full = elim (cases_eq position at) [
     | inl here ↦ subst (λ p. full_within rows (suc n) p ≡ Some at) (sym here) (full_here rows n at full)

@@ -36,7 +36,8 @@ module _ {V : Type 0} where
   }
 
   -- the tables after `insert`, by its clause `tables`
-  pub Grown-insert : (blocks : Blocks) (old new : Table V) (key : List ℕ) → Keyed blocks old → Lacks blocks old key → key_tables blocks new ≡ inserted (hash_of old.seed) (key_tables blocks old) key → Grown (hash_of old.seed) (key_tables blocks old) (key_tables blocks new)
+  pub Grown-insert : (blocks : Blocks) (old new : Table V) (key : List ℕ) → Keyed blocks old → Lacks blocks old key
+      → key_tables blocks new ≡ inserted (hash_of old.seed) (key_tables blocks old) key → Grown (hash_of old.seed) (key_tables blocks old) (key_tables blocks new)
   Grown-insert blocks old new key k l is = Served-once (key_tables blocks old) (key_tables blocks new) (joins key (Lacks-absent blocks old key k l) is)
 
 -- the tables after `remove`, by its clause `tables`

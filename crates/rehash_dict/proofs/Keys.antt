@@ -59,17 +59,20 @@ module _ {V : Type 0} where
   stands_newer t p k i h = (let q = p.kept.stand.of_newer k i h in (q.0, q.1))
 
   -- the tables by key bytes, where the key bytes of all that stands are the same
-  pub key_tables-same : (before after : Blocks) (old new : Table V) → IsPlaced old → tables new ≡ tables old → ((at : ℕ) (e : Element V) → item old at ≡ Some e → key_of after (item new at) ≡ key_of before (item old at)) → key_tables after new ≡ key_tables before old
+  pub key_tables-same : (before after : Blocks) (old new : Table V) → IsPlaced old → tables new ≡ tables old
+      → ((at : ℕ) (e : Element V) → item old at ≡ Some e → key_of after (item new at) ≡ key_of before (item old at)) → key_tables after new ≡ key_tables before old
   key_tables-same before after old new p same keys =
       ap (named (λ at. key_of after (item new at))) same
       ∙ named-same (λ at. key_of after (item new at)) (λ at. key_of before (item old at)) (tables old)
       (λ k i h. (let q = stands_older old p k i h in keys i q.0 q.1)) (λ k i h. (let q = stands_newer old p k i h in keys i q.0 q.1))
 
-  pub key-same : (before after : Blocks) (t u : Table V) (at : ℕ) (e f : Element V) → item t at ≡ Some e → item u at ≡ Some f → after f.key ≡ before e.key → key_of after (item u at) ≡ key_of before (item t at)
+  pub key-same : (before after : Blocks) (t u : Table V) (at : ℕ) (e f : Element V) → item t at ≡ Some e → item u at ≡ Some f → after f.key ≡ before e.key
+      → key_of after (item u at) ≡ key_of before (item t at)
   key-same before after t u at e f h k same = ap (key_of after) k ∙ ap (λ o. unwrap_or o []) same ∙ sym (ap (key_of before) h)
 
   -- A store in which the key blocks keep their bytes: the dictionary means what it meant.
-  pub Keyed-frame : (before after : Blocks) (t : Table V) → Keyed before t → ((at : ℕ) (e : Element V) → item t at ≡ Some e → after e.key ≡ before e.key) → Keyed after t × (key_tables after t ≡ key_tables before t)
+  pub Keyed-frame : (before after : Blocks) (t : Table V) → Keyed before t → ((at : ℕ) (e : Element V) → item t at ≡ Some e → after e.key ≡ before e.key) → Keyed after t
+      × (key_tables after t ≡ key_tables before t)
   Keyed-frame before after t k keeps = (
     keyed_from before after t t k k.placed refl (λ at f h. (f, h, refl, keeps at f h)),
     key_tables-same before after t t k.placed refl (λ at e h. key-same before after t t at e e h h (keeps at e h)),
@@ -77,7 +80,9 @@ module _ {V : Type 0} where
 
   -- ---- an element joins
 
-  module _ (blocks : Blocks) (old new : Table V) (at : ℕ) (element : Element V) (k : Keyed blocks old) (vacant : item old at ≡ None) (u : Updates old.items new.items at (Some element)) (seed : new.seed ≡ old.seed) (placed : IsPlaced new) (live : IsSome (blocks element.key)) (hashed : element.hash ≡ hash_of old.seed (bytes_at blocks element.key)) (lacks : Lacks blocks old (bytes_at blocks element.key)) where
+  module _ (blocks : Blocks) (old new : Table V) (at : ℕ) (element : Element V) (k : Keyed blocks old) (vacant : item old at ≡ None) (u : Updates old.items new.items at (Some element))
+      (seed : new.seed ≡ old.seed) (placed : IsPlaced new) (live : IsSome (blocks element.key)) (hashed : element.hash ≡ hash_of old.seed (bytes_at blocks element.key))
+      (lacks : Lacks blocks old (bytes_at blocks element.key)) where
     where_from : (i : ℕ) (f : Element V) → item new i ≡ Some f → ((i ≡ at) × (f ≡ element)) ⊎ (item old i ≡ Some f)
     where_from i f h = elim (cases_eq i at) [
       | inl here ↦ inl (here, (let q : Some f ≡ Some element = sym h ∙ ap (item new) here ∙ u.changed in cc))
@@ -113,9 +118,11 @@ module _ {V : Type 0} where
     not_at : (i : ℕ) (e : Element V) → item old i ≡ Some e → i ≢ at
     not_at i e h same = (let q : Some e ≡ None = sym h ∙ ap (item old) same ∙ vacant in cc)
 
-    pub key_tables_added : ((names : ℕ → ℕ) → Agrees names new.items → tables new ≡ inserted names (tables old) at) → key_tables blocks new ≡ inserted (hash_of old.seed) (key_tables blocks old) (bytes_at blocks element.key)
+    pub key_tables_added : ((names : ℕ → ℕ) → Agrees names new.items → tables new ≡ inserted names (tables old) at)
+        → key_tables blocks new ≡ inserted (hash_of old.seed) (key_tables blocks old) (bytes_at blocks element.key)
     key_tables_added steps =
-        let agrees : Agrees (λ i. hash_of old.seed (key_of blocks (item new i))) new.items = λ i e h. ap (λ o. hash_of old.seed (key_of blocks o)) h ∙ ap (λ s. hash_of s (bytes_at blocks e.key)) (sym seed) ∙ sym (keyed_added.hashed i e h) in
+        let agrees : Agrees (λ i. hash_of old.seed (key_of blocks (item new i))) new.items = λ i e h. ap (λ o. hash_of old.seed (key_of blocks o)) h
+        ∙ ap (λ s. hash_of s (bytes_at blocks e.key)) (sym seed) ∙ sym (keyed_added.hashed i e h) in
         ap (named (λ (i : ℕ). key_of blocks (item new i))) (steps (λ i. hash_of old.seed (key_of blocks (item new i))) agrees)
         ∙ inserted-named (λ (i : ℕ). key_of blocks (item new i)) (λ i. hash_of old.seed (key_of blocks (item new i))) (hash_of old.seed) (λ x. refl) (tables old) at
         ∙ ap (λ t. inserted (hash_of old.seed) t (key_of blocks (item new at)))
@@ -126,7 +133,8 @@ module _ {V : Type 0} where
 
   -- ---- the elements stay
 
-  pub key_tables_rehashed : (blocks : Blocks) (old new : Table V) → Keyed blocks old → new.items ≡ old.items → ((names : ℕ → ℕ) → Agrees names old.items → tables new ≡ rehashed names (tables old) 1) → key_tables blocks new ≡ rehashed (hash_of old.seed) (key_tables blocks old) 1
+  pub key_tables_rehashed : (blocks : Blocks) (old new : Table V) → Keyed blocks old → new.items ≡ old.items
+      → ((names : ℕ → ℕ) → Agrees names old.items → tables new ≡ rehashed names (tables old) 1) → key_tables blocks new ≡ rehashed (hash_of old.seed) (key_tables blocks old) 1
   key_tables_rehashed blocks old new k same steps =
       ap (λ items. named (λ i. key_of blocks (at_item items i)) (tables new)) same
       ∙ ap (named (λ i. key_of blocks (item old i))) (steps (λ i. hash_of old.seed (key_of blocks (item old i))) (λ i e h. ap (λ o. hash_of old.seed (key_of blocks o)) h ∙ sym (k.hashed i e h)))
@@ -140,7 +148,8 @@ module _ {V : Type 0} where
 
   -- ---- an element leaves
 
-  module _ (blocks : Blocks) (old new : Table V) (at : ℕ) (e : Element V) (key : List ℕ) (k : Keyed blocks old) (found : item old at ≡ Some e) (bytes : blocks e.key ≡ Some key) (u : Updates old.items new.items at None) (seed : new.seed ≡ old.seed) (placed : IsPlaced new) where
+  module _ (blocks : Blocks) (old new : Table V) (at : ℕ) (e : Element V) (key : List ℕ) (k : Keyed blocks old) (found : item old at ≡ Some e) (bytes : blocks e.key ≡ Some key)
+      (u : Updates old.items new.items at None) (seed : new.seed ≡ old.seed) (placed : IsPlaced new) where
     still : (i : ℕ) (f : Element V) → item new i ≡ Some f → (i ≢ at) × (item old i ≡ Some f)
     still i f h = elim (cases_eq i at) [
       | inl here ↦ (let q : Some f ≡ None = sym h ∙ ap (item new) here ∙ u.changed in cc)

@@ -39,7 +39,8 @@ module _ {V : Type 0} where
   stands_entry slots a b k i s h = (let p = s.of_older k i h in entry_of slots i p.0 p.1)
 
   -- the element before is in the bucket too, and is another one
-  pub before_in : (slots : List (Option (Entry V))) (a b : List (List ℕ)) (k at p : ℕ) (front rest : List ℕ) → Stand (map element_of slots) a b → bucket a k ≡ front ++ at ∷ rest → last_of front ≡ Some p → (0 < times p (bucket a k)) × (p ≢ at)
+  pub before_in : (slots : List (Option (Entry V))) (a b : List (List ℕ)) (k at p : ℕ) (front rest : List ℕ) → Stand (map element_of slots) a b → bucket a k ≡ front ++ at ∷ rest
+      → last_of front ≡ Some p → (0 < times p (bucket a k)) × (p ≢ at)
   before_in slots a b k at p front rest s row last =
       let there : 0 < times p front = last_in front p last in
       let split : times at (front ++ at ∷ rest) ≡ times at front + times at (at ∷ rest) = times-append at front (at ∷ rest) in
@@ -49,7 +50,8 @@ module _ {V : Type 0} where
       )
 
   module _ (s0 s2 : Slab (Entry V)) (mine other after : List ℕ) (a b : List (List ℕ)) (k at : ℕ) (before : Option ℕ) (front rest : List ℕ) (key : BlockRef) (value : V)
-      (la : Leads s0.slots mine a) (lb : Leads s0.slots other b) (s : Stand (map element_of s0.slots) a b) (row : bucket a k ≡ front ++ at ∷ rest) (last : before ≡ last_of front) (u : Unlinks s0 mine k before at key value s2 after) (lt : k < length mine) where
+      (la : Leads s0.slots mine a) (lb : Leads s0.slots other b) (s : Stand (map element_of s0.slots) a b) (row : bucket a k ≡ front ++ at ∷ rest) (last : before ≡ last_of front)
+      (u : Unlinks s0 mine k before at key value s2 after) (lt : k < length mine) where
     abbrev entry : Entry V
     entry = record { slab = key.slab; slot = key.slot; next = u.next; hash = u.hash; value = value }
 
@@ -110,7 +112,8 @@ module _ {V : Type 0} where
         let slots : s2.slots ≡ set (set s0.slots at None) p (relinked u.next (entry_at (set s0.slots at None) p)) = u.slots ∙ ap (λ x. bridged (set s0.slots at None) x u.next) some in
         let heads : after ≡ mine = u.heads_after ∙ ap (λ x. head_after mine k x u.next) some in
         let now : entry_at s2.slots p ≡ Some (record pe.0 { next = u.next }) = ap (λ xs. entry_at xs p) slots ∙ get_or-set_same (set s0.slots at None) p _ None fits ∙ ap (relinked u.next) mid_p in
-        let still : (i : ℕ) → i ≢ p → i ≢ at → entry_at s2.slots i ≡ entry_at s0.slots i = λ i np na. ap (λ xs. entry_at xs i) slots ∙ get_or-set_other (set s0.slots at None) p i _ None np ∙ get_or-set_other s0.slots at i None None na in
+        let still : (i : ℕ) → i ≢ p → i ≢ at → entry_at s2.slots i ≡ entry_at s0.slots i = λ i np na. ap (λ xs. entry_at xs i) slots ∙ get_or-set_other (set s0.slots at None) p i _ None np
+        ∙ get_or-set_other s0.slots at i None None na in
         record {
           gone = ap (λ xs. entry_at xs at) slots ∙ get_or-set_other (set s0.slots at None) p at _ None ne_at ∙ get_or-set_same s0.slots at None None at_within;
           same = λ i ne. elim (cases_eq i p) [
@@ -119,7 +122,8 @@ module _ {V : Type 0} where
           ];
           leads = subst (λ h. Leads s2.slots h (set a k (front ++ rest))) (sym heads)
               (bridges_side s0.slots s2.slots mine a at p k front rest entry (record pe.0 { next = u.next }) la row is_last u.found now refl still
-              (at_most_once (map element_of s0.slots) a b k p s) few_at (λ j ne. one_bucket (map element_of s0.slots) a b k j at s here ne) (λ j ne. one_bucket (map element_of s0.slots) a b k j p s q.0 ne) lt);
+              (at_most_once (map element_of s0.slots) a b k p s) few_at (λ j ne. one_bucket (map element_of s0.slots) a b k j at s here ne)
+              (λ j ne. one_bucket (map element_of s0.slots) a b k j p s q.0 ne) lt);
           others = leads_kept s0.slots s2.slots other b (λ j i t. unchanged_link s0.slots s2.slots i
               (still i (apart p i (bucket b j) (one_table (map element_of s0.slots) a b k j p s q.0) t) (apart at i (bucket b j) (one_table (map element_of s0.slots) a b k j at s here) t))) lb;
         }
@@ -140,7 +144,8 @@ module _ {V : Type 0} where
     leads_other = all.others
 
     pub stand_left : Stand (map element_of s2.slots) (set a k (without eqb at (bucket a k))) b
-    stand_left = leaves (map element_of s0.slots) (map element_of s2.slots) a b at k s here updates_gone inside (ap (λ n. n + 1) (count-map_element s2.slots) ∙ u.len ∙ sym (count-map_element s0.slots))
+    stand_left = leaves (map element_of s0.slots) (map element_of s2.slots) a b at k s here updates_gone inside
+        (ap (λ n. n + 1) (count-map_element s2.slots) ∙ u.len ∙ sym (count-map_element s0.slots))
 
     pub found_item : at_item (map element_of s0.slots) at ≡ Some (record { key = key; hash = u.hash; value = value })
     found_item = item_at s0.slots at ∙ ap element_of u.found
@@ -156,40 +161,60 @@ module _ {V : Type 0} where
         lengths = both front rest
 
   module _ (s0 s2 : Slab (Entry V)) (older newer after : List ℕ) (waiting k at : ℕ) (before : Option ℕ) (key : BlockRef) (value : V) (l : IsLinked s0.slots older newer waiting) where
-    pub removed_older : (w : IsBehind (bucket (rows s0.slots older) k) before at) → Unlinks s0 older k before at key value s2 after → k < length older → Made s2.slots after newer (waiting - 1) (set (rows s0.slots older) k (without eqb at (bucket (rows s0.slots older) k))) (rows s0.slots newer)
+    pub removed_older : (w : IsBehind (bucket (rows s0.slots older) k) before at) → Unlinks s0 older k before at key value s2 after → k < length older
+        → Made s2.slots after newer (waiting - 1) (set (rows s0.slots older) k (without eqb at (bucket (rows s0.slots older) k))) (rows s0.slots newer)
     removed_older w u lt =
         made s2.slots after newer (waiting - 1) _ _
-        (leads_left s0 s2 older newer after (rows s0.slots older) (rows s0.slots newer) k at before w.front w.rest key value (leads_older s0.slots older newer waiting l) (leads_newer s0.slots older newer waiting l) l.stand w.is w.last u lt)
-        (leads_other s0 s2 older newer after (rows s0.slots older) (rows s0.slots newer) k at before w.front w.rest key value (leads_older s0.slots older newer waiting l) (leads_newer s0.slots older newer waiting l) l.stand w.is w.last u lt)
-        (stand_left s0 s2 older newer after (rows s0.slots older) (rows s0.slots newer) k at before w.front w.rest key value (leads_older s0.slots older newer waiting l) (leads_newer s0.slots older newer waiting l) l.stand w.is w.last u lt)
-        (omega (arith, l.waits, count_left s0 s2 older newer after (rows s0.slots older) (rows s0.slots newer) k at before w.front w.rest key value (leads_older s0.slots older newer waiting l) (leads_newer s0.slots older newer waiting l) l.stand w.is w.last u lt))
+        (leads_left s0 s2 older newer after (rows s0.slots older) (rows s0.slots newer) k at before w.front w.rest key value (leads_older s0.slots older newer waiting l)
+        (leads_newer s0.slots older newer waiting l) l.stand w.is w.last u lt)
+        (leads_other s0 s2 older newer after (rows s0.slots older) (rows s0.slots newer) k at before w.front w.rest key value (leads_older s0.slots older newer waiting l)
+        (leads_newer s0.slots older newer waiting l) l.stand w.is w.last u lt)
+        (stand_left s0 s2 older newer after (rows s0.slots older) (rows s0.slots newer) k at before w.front w.rest key value (leads_older s0.slots older newer waiting l)
+        (leads_newer s0.slots older newer waiting l) l.stand w.is w.last u lt)
+        (omega (
+          arith,
+          l.waits,
+          count_left s0 s2 older newer after (rows s0.slots older) (rows s0.slots newer) k at before w.front w.rest key value
+              (leads_older s0.slots older newer waiting l) (leads_newer s0.slots older newer waiting l) l.stand w.is w.last u lt,
+        ))
 
-    pub removed_newer : (w : IsBehind (bucket (rows s0.slots newer) k) before at) → Unlinks s0 newer k before at key value s2 after → k < length newer → Made s2.slots older after waiting (rows s0.slots older) (set (rows s0.slots newer) k (without eqb at (bucket (rows s0.slots newer) k)))
+    pub removed_newer : (w : IsBehind (bucket (rows s0.slots newer) k) before at) → Unlinks s0 newer k before at key value s2 after → k < length newer
+        → Made s2.slots older after waiting (rows s0.slots older) (set (rows s0.slots newer) k (without eqb at (bucket (rows s0.slots newer) k)))
     removed_newer w u lt =
         made s2.slots older after waiting _ _
-        (leads_other s0 s2 newer older after (rows s0.slots newer) (rows s0.slots older) k at before w.front w.rest key value (leads_newer s0.slots older newer waiting l) (leads_older s0.slots older newer waiting l) (flip _ _ _ l.stand) w.is w.last u lt)
-        (leads_left s0 s2 newer older after (rows s0.slots newer) (rows s0.slots older) k at before w.front w.rest key value (leads_newer s0.slots older newer waiting l) (leads_older s0.slots older newer waiting l) (flip _ _ _ l.stand) w.is w.last u lt)
-        (flip _ _ _ (stand_left s0 s2 newer older after (rows s0.slots newer) (rows s0.slots older) k at before w.front w.rest key value (leads_newer s0.slots older newer waiting l) (leads_older s0.slots older newer waiting l) (flip _ _ _ l.stand) w.is w.last u lt))
+        (leads_other s0 s2 newer older after (rows s0.slots newer) (rows s0.slots older) k at before w.front w.rest key value (leads_newer s0.slots older newer waiting l)
+        (leads_older s0.slots older newer waiting l) (flip _ _ _ l.stand) w.is w.last u lt)
+        (leads_left s0 s2 newer older after (rows s0.slots newer) (rows s0.slots older) k at before w.front w.rest key value (leads_newer s0.slots older newer waiting l)
+        (leads_older s0.slots older newer waiting l) (flip _ _ _ l.stand) w.is w.last u lt)
+        (flip _ _ _
+        (stand_left s0 s2 newer older after (rows s0.slots newer) (rows s0.slots older) k at before w.front w.rest key value (leads_newer s0.slots older newer waiting l)
+        (leads_older s0.slots older newer waiting l) (flip _ _ _ l.stand) w.is w.last u lt))
         l.waits
 
-    pub leaves_older : (w : IsBehind (bucket (rows s0.slots older) k) before at) → Unlinks s0 older k before at key value s2 after → k < length older → LeavesFrom Older (view_of s0.slots older newer (room s0)) (view_of s2.slots after newer (room s2)) k at key value
+    pub leaves_older : (w : IsBehind (bucket (rows s0.slots older) k) before at) → Unlinks s0 older k before at key value s2 after → k < length older
+        → LeavesFrom Older (view_of s0.slots older newer (room s0)) (view_of s2.slots after newer (room s2)) k at key value
     leaves_older w u lt =
         let m = removed_older w u lt in
         record {
           hash = u.hash;
-          found = found_item s0 s2 older newer after (rows s0.slots older) (rows s0.slots newer) k at before w.front w.rest key value (leads_older s0.slots older newer waiting l) (leads_newer s0.slots older newer waiting l) l.stand w.is w.last u lt;
-          updates = updates_gone s0 s2 older newer after (rows s0.slots older) (rows s0.slots newer) k at before w.front w.rest key value (leads_older s0.slots older newer waiting l) (leads_newer s0.slots older newer waiting l) l.stand w.is w.last u lt;
+          found = found_item s0 s2 older newer after (rows s0.slots older) (rows s0.slots newer) k at before w.front w.rest key value (leads_older s0.slots older newer waiting l)
+              (leads_newer s0.slots older newer waiting l) l.stand w.is w.last u lt;
+          updates = updates_gone s0 s2 older newer after (rows s0.slots older) (rows s0.slots newer) k at before w.front w.rest key value (leads_older s0.slots older newer waiting l)
+              (leads_newer s0.slots older newer waiting l) l.stand w.is w.last u lt;
           rows = (m.older_rows, m.newer_rows);
           stand = m.linked.stand;
         }
 
-    pub leaves_newer : (w : IsBehind (bucket (rows s0.slots newer) k) before at) → Unlinks s0 newer k before at key value s2 after → k < length newer → LeavesFrom Newer (view_of s0.slots older newer (room s0)) (view_of s2.slots older after (room s2)) k at key value
+    pub leaves_newer : (w : IsBehind (bucket (rows s0.slots newer) k) before at) → Unlinks s0 newer k before at key value s2 after → k < length newer
+        → LeavesFrom Newer (view_of s0.slots older newer (room s0)) (view_of s2.slots older after (room s2)) k at key value
     leaves_newer w u lt =
         let m = removed_newer w u lt in
         record {
           hash = u.hash;
-          found = found_item s0 s2 newer older after (rows s0.slots newer) (rows s0.slots older) k at before w.front w.rest key value (leads_newer s0.slots older newer waiting l) (leads_older s0.slots older newer waiting l) (flip _ _ _ l.stand) w.is w.last u lt;
-          updates = updates_gone s0 s2 newer older after (rows s0.slots newer) (rows s0.slots older) k at before w.front w.rest key value (leads_newer s0.slots older newer waiting l) (leads_older s0.slots older newer waiting l) (flip _ _ _ l.stand) w.is w.last u lt;
+          found = found_item s0 s2 newer older after (rows s0.slots newer) (rows s0.slots older) k at before w.front w.rest key value (leads_newer s0.slots older newer waiting l)
+              (leads_older s0.slots older newer waiting l) (flip _ _ _ l.stand) w.is w.last u lt;
+          updates = updates_gone s0 s2 newer older after (rows s0.slots newer) (rows s0.slots older) k at before w.front w.rest key value (leads_newer s0.slots older newer waiting l)
+              (leads_older s0.slots older newer waiting l) (flip _ _ _ l.stand) w.is w.last u lt;
           rows = (m.newer_rows, m.older_rows);
           stand = m.linked.stand;
         }

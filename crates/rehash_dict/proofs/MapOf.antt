@@ -1,5 +1,6 @@
 -- What a dictionary's map has at each key, and what becomes of the map and of the references.
-use Rattle.std.proofs.Common.{◌≡◌, ◌≢◌, ◌⊎◌, inl, inr, ℕ, zero, suc, ◌+◌, ◌<◌, ◌≤◌, Bool, true, false, cond, List, [], ◌∷◌, Option, Some, None, IsSome, is_some, Result, Ok, Err, IfOk, OnOk, count_by, unwrap_or, refl, sym, ap, ◌∙◌, arith}
+use Rattle.std.proofs.Common.{◌≡◌, ◌≢◌, ◌⊎◌, inl, inr, ℕ, zero, suc, ◌+◌, ◌<◌, ◌≤◌, Bool, true, false, cond, List, [], ◌∷◌, Option, Some, None, IsSome, is_some, Result, Ok, Err, IfOk}
+use Rattle.std.proofs.Common.{OnOk, count_by, unwrap_or, refl, sym, ap, ◌∙◌, arith}
 use Rattle.std.proofs.lemmas.Bool.{cond-true, cond-false, cases_Bool, cases_eq}
 use Rattle.std.specs.List.{flat_map}
 use Rattle.std.specs.declared.cmp.Ordering.{Ordering}
@@ -7,7 +8,8 @@ use Rattle.std.specs.declared.cmp.Ordering.TheVariants.{Less, Equal, Greater}
 use Rattle.std.specs.Ordering.{nat_cmp, eq_by_cmp, is_eq}
 use Rattle.std.specs.Cmp.{eq_by_cmp_equiv}
 use Rattle.std.specs.Cmp.Lexicographic.{slice_cmp, nat_list_cmp_total}
-use Rattle.std.specs.FinMap.{FinMap, empty, from_entries, find, get, insert, remove, get-from_entries, get-insert, get-remove, len, len-insert, len-empty, same_map, slice_cmp-IsAntisymmetric, nat_cmp-IsAntisymmetric}
+use Rattle.std.specs.FinMap.{FinMap, empty, from_entries, find, get, insert, remove, get-from_entries, get-insert, get-remove, len, len-insert, len-empty, same_map}
+use Rattle.std.specs.FinMap.{slice_cmp-IsAntisymmetric, nat_cmp-IsAntisymmetric}
 use Rattle.blocks.specs.declared.BlockRef.{BlockRef}
 use Rattle.blocks.specs.Blocks.{Blocks, bytes_at, ref_eq, times, live, Owned}
 use Rattle.blocks.proofs.Change.{one_if}
@@ -76,7 +78,8 @@ module _ {V : Type 0} where
 
   module _ {X : Type 0} (m : Blocks) (meaning : V → X) where
     -- a look through the pairs of a list of elements finds nothing for a key that none of them has
-    found_none : (items : List (Option (Element V))) (q : List ℕ) → ((at : ℕ) (e : Element V) → at_item items at ≡ Some e → q ≢ bytes_at m e.key) → find (slice_cmp nat_cmp) q (flat_map (pair_of m meaning) items) ≡ None
+    found_none : (items : List (Option (Element V))) (q : List ℕ) → ((at : ℕ) (e : Element V) → at_item items at ≡ Some e → q ≢ bytes_at m e.key)
+        → find (slice_cmp nat_cmp) q (flat_map (pair_of m meaning) items) ≡ None
     found_none [] q h = refl
     found_none (None ∷ rest) q h = found_none rest q (λ at e f. h (suc at) e f)
     found_none (Some e ∷ rest) q h = cond-false _ _ _ (tied-other q (bytes_at m e.key) (h 0 e refl)) ∙ found_none rest q (λ at f g. h (suc at) f g)
@@ -116,15 +119,18 @@ module _ {V : Type 0} where
 
     -- the map of a list of elements has as many keys as there are elements, where all keys are live and differ
     len-pairs : (items : List (Option (Element V))) → ((at : ℕ) (e : Element V) → at_item items at ≡ Some e → IsSome (m e.key))
-        → ((at other : ℕ) (e f : Element V) → at_item items at ≡ Some e → at_item items other ≡ Some f → m e.key ≡ m f.key → at ≡ other) → len (from_entries {R = slice_cmp nat_cmp} (flat_map (pair_of m meaning) items)) ≡ count_by is_some items
+        → ((at other : ℕ) (e f : Element V) → at_item items at ≡ Some e → at_item items other ≡ Some f → m e.key ≡ m f.key → at ≡ other)
+        → len (from_entries {R = slice_cmp nat_cmp} (flat_map (pair_of m meaning) items)) ≡ count_by is_some items
     len-pairs [] alive apart = len-empty (slice_cmp nat_cmp) X
     len-pairs (None ∷ rest) alive apart = len-pairs rest (λ at. alive (suc at)) (λ at other e f h k same. omega (arith, apart (suc at) (suc other) e f h k same))
     len-pairs (Some e ∷ rest) alive apart =
         let others = from_entries {R = slice_cmp nat_cmp} (flat_map (pair_of m meaning) rest) in
         let none : get others (bytes_at m e.key) ≡ None = get-from_entries nat_list_cmp_total (flat_map (pair_of m meaning) rest) (bytes_at m e.key)
-        ∙ found_none rest (bytes_at m e.key) (λ at f there same. omega (arith, apart 0 (suc at) e f refl there (live_bytes m e.key (alive 0 e refl) ∙ ap Some same ∙ sym (live_bytes m f.key (alive (suc at) f there))))) in
+        ∙ found_none rest (bytes_at m e.key)
+        (λ at f there same. omega (arith, apart 0 (suc at) e f refl there (live_bytes m e.key (alive 0 e refl) ∙ ap Some same ∙ sym (live_bytes m f.key (alive (suc at) f there))))) in
         let more : len others ≡ count_by is_some rest = len-pairs rest (λ at. alive (suc at)) (λ at other f g h k same. omega (arith, apart (suc at) (suc other) f g h k same)) in
-        len-insert nat_list_cmp_total others (bytes_at m e.key) (meaning e.value) ∙ ap (λ o. cond (is_some o) (len others) (len others + 1)) none ∙ (omega (arith, more, count_cons is_some (Some e) rest))
+        len-insert nat_list_cmp_total others (bytes_at m e.key) (meaning e.value) ∙ ap (λ o. cond (is_some o) (len others) (len others + 1)) none
+        ∙ (omega (arith, more, count_cons is_some (Some e) rest))
 
     -- The map has as many keys as there are elements.
     pub len-map_of : (t : Table V) → Keyed m t → len (map_of m meaning t) ≡ table_len t
@@ -172,7 +178,11 @@ module _ {V : Type 0} where
         | inl same ↦ inl (0, e, refl, tied-true (bytes_at m e.key) q same)
         | inr other ↦ elim (look rest) [
           | inl p ↦ inl (suc p.0, p.1, p.2, p.3)
-          | inr out ↦ inr (out_more (Some e) rest (λ f h is. (let one : e ≡ f = some_same (Some e) e f refl h in let bad : tied (bytes_at m e.key) q ≡ true = tied-same (bytes_at m e.key) q (ap (λ (x : Element V). bytes_at m x.key) one ∙ is) in cc)) out)
+          | inr out ↦ inr
+              (out_more (Some e) rest
+              (λ f h is.
+              (let one : e ≡ f = some_same (Some e) e f refl h in let bad : tied (bytes_at m e.key) q ≡ true =
+              tied-same (bytes_at m e.key) q (ap (λ (x : Element V). bytes_at m x.key) one ∙ is) in cc)) out)
         ]
       ]
 
@@ -200,13 +210,15 @@ module _ {V : Type 0} where
         ])
 
     -- A store in which the key blocks keep their bytes, and values their meaning.
-    pub map_of-frame : (before after : Blocks) (meaning later : V → X) (t : Table V) → Keyed before t → Keyed after t → ((at : ℕ) (e : Element V) → item t at ≡ Some e → (after e.key ≡ before e.key) × (later e.value ≡ meaning e.value)) → map_of after later t ≡ map_of before meaning t
+    pub map_of-frame : (before after : Blocks) (meaning later : V → X) (t : Table V) → Keyed before t → Keyed after t
+        → ((at : ℕ) (e : Element V) → item t at ≡ Some e → (after e.key ≡ before e.key) × (later e.value ≡ meaning e.value)) → map_of after later t ≡ map_of before meaning t
     map_of-frame before after meaning later t k l keeps =
         map_of-same before after meaning later t t k l (λ at e there. (at, e, there, (keeps at e there).0, (keeps at e there).1)) (λ at e there. (at, e, there, (keeps at e there).0))
 
     module _ (m : Blocks) (meaning : V → X) (old new : Table V) (at : ℕ) (e : Element V) (q : List ℕ) (k : Keyed m old) (l : Keyed m new) where
       -- An element of a key joins, or stands in place of one of the same key: the map has its value there, and else what it had.
-      pub map_of-put : Updates old.items new.items at (Some e) → m e.key ≡ Some q → ((f : Element V) → item old at ≡ Some f → m f.key ≡ Some q) → map_of m meaning new ≡ insert (map_of m meaning old) q (meaning e.value)
+      pub map_of-put : Updates old.items new.items at (Some e) → m e.key ≡ Some q → ((f : Element V) → item old at ≡ Some f → m f.key ≡ Some q)
+          → map_of m meaning new ≡ insert (map_of m meaning old) q (meaning e.value)
       map_of-put u bytes was =
           maps_alike _ _ (λ p. by_key p ∙ sym (get-insert nat_list_cmp_total (map_of m meaning old) q (meaning e.value) p))
         where
@@ -217,7 +229,8 @@ module _ {V : Type 0} where
 
           by_other : (p : List ℕ) → p ≢ q → get (map_of m meaning new) p ≡ get (map_of m meaning old) p
           by_other p apart = elim (cases_key m new p l) [
-            | inl s ↦ map_of-stands m meaning new s.at s.element p l s.found s.bytes ∙ sym (map_of-stands m meaning old s.at s.element p k (sym (u.others s.at (other_place p apart s)) ∙ s.found) s.bytes)
+            | inl s ↦ map_of-stands m meaning new s.at s.element p l s.found s.bytes
+                ∙ sym (map_of-stands m meaning old s.at s.element p k (sym (u.others s.at (other_place p apart s)) ∙ s.found) s.bytes)
             | inr lacks ↦
                 (let none : Lacks m old p = record {
                   each = λ i f there same. elim (cases_eq i at) [
@@ -300,7 +313,8 @@ module _ {V : Type 0} where
       map_of-was at was value s = map_of-stands m meaning old at _ (key_of m (item old at)) k s.found (live_bytes m s.key (k.live at _ s.found) ∙ ap (λ o. Some (key_of m o)) (sym s.found))
 
     -- `swap_ref`
-    pub map_of-renames : (before after : Blocks) (meaning : V → X) (old new : Table V) (at : ℕ) (ref : BlockRef) → Keyed before old → Keyed after new → (n : Renames old new at ref) → after ref ≡ before n.element.key
+    pub map_of-renames : (before after : Blocks) (meaning : V → X) (old new : Table V) (at : ℕ) (ref : BlockRef) → Keyed before old → Keyed after new → (n : Renames old new at ref)
+        → after ref ≡ before n.element.key
         → ((other : ℕ) (e : Element V) → other ≢ at → item old other ≡ Some e → after e.key ≡ before e.key) → map_of after meaning new ≡ map_of before meaning old
     map_of-renames before after meaning old new at ref k l n same keeps =
         map_of-same before after meaning meaning old new k l
@@ -318,7 +332,8 @@ module _ {V : Type 0} where
         ])
 
   -- `insert`, where it may want memory
-  pub content-adds : {E : Type 0} (m : Blocks) (old new : Table V) (e : Element V) (result : Result ℕ E) → Keyed m old → IsSome (m e.key) → e.hash ≡ hash_of old.seed (bytes_at m e.key) → Lacks m old (bytes_at m e.key)
+  pub content-adds : {E : Type 0} (m : Blocks) (old new : Table V) (e : Element V) (result : Result ℕ E) → Keyed m old → IsSome (m e.key) → e.hash ≡ hash_of old.seed (bytes_at m e.key)
+      → Lacks m old (bytes_at m e.key)
       → IfOk result (λ at. Adds old new at e) → OnOk result (content m new ≡ insert (content m old) (bytes_at m e.key) e.value)
   content-adds m old new e (Ok at) k live hashed lacks a = map_of-adds m (λ v. v) old new k at e (a.keyed m k live hashed lacks).0 live a
   content-adds m old new e (Err x) k live hashed lacks a = tt
@@ -344,7 +359,8 @@ module _ {V : Type 0} where
   -- ---- references
 
   -- the references where one item number changes
-  pub refs_changed : (own : V → List BlockRef) (old new : Table V) (at : ℕ) (o : Option (Element V)) → Updates old.items new.items at o → (r : BlockRef) → times r (refs_of own new) + times r (own_of own (item old at)) ≡ times r (refs_of own old) + times r (own_of own o)
+  pub refs_changed : (own : V → List BlockRef) (old new : Table V) (at : ℕ) (o : Option (Element V)) → Updates old.items new.items at o → (r : BlockRef)
+      → times r (refs_of own new) + times r (own_of own (item old at)) ≡ times r (refs_of own old) + times r (own_of own o)
   refs_changed own old new at o u r = times_changed (own_of own) None refl r old.items new.items at u.others ∙ ap (λ x. times r (refs_of own old) + times r (own_of own x)) u.changed
 
   -- the key block of each element of a list
@@ -361,7 +377,8 @@ module _ {V : Type 0} where
   ]
 
   -- where no two elements have one key block, no reference stands twice among the key blocks
-  named_once : (items : List (Option (Element V))) (r : BlockRef) → ((at other : ℕ) (e f : Element V) → at_item items at ≡ Some e → at_item items other ≡ Some f → e.key ≡ f.key → at ≡ other) → times r (key_list items) ≤ 1
+  named_once : (items : List (Option (Element V))) (r : BlockRef)
+      → ((at other : ℕ) (e f : Element V) → at_item items at ≡ Some e → at_item items other ≡ Some f → e.key ≡ f.key → at ≡ other) → times r (key_list items) ≤ 1
   named_once [] r one = omega arith
   named_once (None ∷ rest) r one = named_once rest r (λ at other e f h k same. omega (arith, one (suc at) (suc other) e f h k same))
   named_once (Some e ∷ rest) r one =

@@ -32,19 +32,38 @@ module _ (rows : List (List ℕ)) (bits i hash often : ℕ) (w : Weighs rows bit
   pub blocks_past : (count n : ℕ) → n + count ≤ 2 ^ bits → reversed bits hash < n → times i (blocks_from rows bits count n) ≡ 0
   unfolding blocks_from
   blocks_past zero n within h = refl
-  blocks_past (suc count) n within h = omega (arith, times-append i (turn rows bits (reversed bits n)) (blocks_from rows bits count (suc n)), in_no_other n (omega arith) (λ q. omega arith), blocks_past count (suc n) (omega arith) (omega arith))
+  blocks_past (suc count) n within h = omega (
+    arith,
+    times-append i (turn rows bits (reversed bits n)) (blocks_from rows bits count (suc n)),
+    in_no_other n (omega arith) (λ q. omega arith),
+    blocks_past count (suc n)
+        (omega arith) (omega arith),
+  )
 
   pub blocks_over : (count n : ℕ) → n + count ≤ 2 ^ bits → n + count ≤ reversed bits hash → times i (blocks_from rows bits count n) ≡ 0
   unfolding blocks_from
   blocks_over zero n within over = refl
-  blocks_over (suc count) n within over = omega (arith, times-append i (turn rows bits (reversed bits n)) (blocks_from rows bits count (suc n)), in_no_other n (omega arith) (λ q. omega arith), blocks_over count (suc n) (omega arith) (omega arith))
+  blocks_over (suc count) n within over = omega (
+    arith,
+    times-append i (turn rows bits (reversed bits n)) (blocks_from rows bits count (suc n)),
+    in_no_other n (omega arith) (λ q. omega arith),
+    blocks_over count (suc n)
+        (omega arith) (omega arith),
+  )
 
   pub blocks_one : (count n : ℕ) → n + count ≤ 2 ^ bits → n ≤ reversed bits hash → reversed bits hash < n + count → times i (blocks_from rows bits count n) ≡ often
   unfolding blocks_from
   blocks_one zero n within from to = absurd (omega arith)
   blocks_one (suc count) n within from to = elim (cases_eq (reversed bits hash) n) [
-    | inl here ↦ omega (arith, times-append i (turn rows bits (reversed bits n)) (blocks_from rows bits count (suc n)), in_own n (omega arith) here, blocks_past count (suc n) (omega arith) (omega arith))
-    | inr other ↦ omega (arith, times-append i (turn rows bits (reversed bits n)) (blocks_from rows bits count (suc n)), in_no_other n (omega arith) other, blocks_one count (suc n) (omega arith) (omega arith) (omega arith))
+    | inl here ↦ omega
+        (arith, times-append i (turn rows bits (reversed bits n)) (blocks_from rows bits count (suc n)), in_own n (omega arith) here, blocks_past count (suc n) (omega arith) (omega arith))
+    | inr other ↦ omega (
+      arith,
+      times-append i (turn rows bits (reversed bits n)) (blocks_from rows bits count (suc n)),
+      in_no_other n (omega arith) other,
+      blocks_one count (suc n) (omega arith)
+          (omega arith) (omega arith),
+    )
   ]
 
   pub blocks_le : (count n : ℕ) → n + count ≤ 2 ^ bits → times i (blocks_from rows bits count n) ≤ often
@@ -73,12 +92,14 @@ pub record Given (found : List ℕ) (i hash v small often : ℕ) : Type 0 where
 module _ (small v hash : ℕ) (narrow : small < 64) where
   apart_over : block_end (64 - small) (place v) ≤ place hash → hash % 2 ^ small ≡ v % 2 ^ small → ⊥
   apart_over over same =
-      let above : place v / 2 ^ (64 - small) + 1 ≤ reversed small hash = omega (arith, place_high small hash narrow, le-div (place v / 2 ^ (64 - small) + 1) (place hash) (2 ^ (64 - small)) (pow_pos (64 - small)) over) in
+      let above : place v / 2 ^ (64 - small) + 1 ≤ reversed small hash =
+      omega (arith, place_high small hash narrow, le-div (place v / 2 ^ (64 - small) + 1) (place hash) (2 ^ (64 - small)) (pow_pos (64 - small)) over) in
       omega (arith, reversed_from_low small hash v same, place_high small v narrow)
 
   apart_under : place hash < block_start (64 - small) (place v) → hash % 2 ^ small ≡ v % 2 ^ small → ⊥
   apart_under under same =
-      let below : reversed small hash < place v / 2 ^ (64 - small) = omega (arith, place_high small hash narrow, div_below (place hash) (2 ^ (64 - small)) (place v / 2 ^ (64 - small)) (pow_pos (64 - small)) under) in
+      let below : reversed small hash < place v / 2 ^ (64 - small) =
+      omega (arith, place_high small hash narrow, div_below (place hash) (2 ^ (64 - small)) (place v / 2 ^ (64 - small)) (pow_pos (64 - small)) under) in
       omega (arith, reversed_from_low small hash v same, place_high small v narrow)
 
   -- of one bucket
@@ -91,23 +112,51 @@ module _ (small v hash : ℕ) (narrow : small < 64) where
   }
 
   -- of a bucket and the larger table's
-  pub given_turns : (smaller larger : List (List ℕ)) (large i a b : ℕ) → small ≤ large → large < 64 → Weighs smaller small i hash a → Weighs larger large i hash b → Given (by_turns smaller larger small large v) i hash v small (a + b)
+  pub given_turns : (smaller larger : List (List ℕ)) (large i a b : ℕ) → small ≤ large → large < 64 → Weighs smaller small i hash a → Weighs larger large i hash b
+      → Given (by_turns smaller larger small large v) i hash v small (a + b)
   given_turns smaller larger large i a b order width ws wl =
       let t = given_turn smaller i a ws in
-      let split : times i (by_turns smaller larger small large v) ≡ times i (turn smaller small v) + times i (blocks_from larger large (last_block small large v - first_block large v) (first_block large v)) = times-append i (turn smaller small v) (blocks_from larger large (last_block small large v - first_block large v) (first_block large v)) in
+      let split : times i (by_turns smaller larger small large v) ≡ times i (turn smaller small v) + times i
+      (blocks_from larger large (last_block small large v - first_block large v) (first_block large v)) =
+      times-append i (turn smaller small v) (blocks_from larger large (last_block small large v - first_block large v) (first_block large v)) in
       let more : first_block large v < last_block small large v = first_below_last small large v order width in
       record {
         most = omega (arith, t.most, blocks_le larger large i hash b wl (last_block small large v - first_block large v) (first_block large v) (within_table small large v order width));
         whole = λ from to. omega (
           arith,
           t.whole from to,
-          blocks_one larger large i hash b wl (last_block small large v - first_block large v) (first_block large v) (within_table small large v order width) (from_first large v hash width from) (omega (arith, to_last small large v hash order width to)),
+          blocks_one larger large i hash b wl (last_block small large v - first_block large v) (first_block large v) (within_table small large v order width)
+              (from_first large v hash width from) (omega (arith, to_last small large v hash order width to)),
         );
         over = λ over.
-            let beyond : last_block small large v ≤ reversed large hash = omega (arith, place_high large hash width, le-div (last_block small large v) (place hash) (2 ^ (64 - large)) (pow_pos (64 - large)) (omega (arith, whole_end small large v order width))) in
-            omega (arith, t.over over, blocks_over larger large i hash b wl (last_block small large v - first_block large v) (first_block large v) (within_table small large v order width) (omega arith));
+            let beyond : last_block small large v ≤ reversed large hash =
+            omega (
+              arith,
+              place_high large hash width,
+              le-div (last_block small large v) (place hash) (2 ^ (64 - large)) (pow_pos (64 - large))
+                  (omega (arith, whole_end small large v order width)),
+            ) in
+            omega (
+              arith,
+              t.over over,
+              blocks_over larger large i hash b wl (last_block small large v - first_block large v) (first_block large v) (within_table small large v order width)
+                  (omega arith),
+            );
         under = λ under.
-            let before : reversed large hash < place v / 2 ^ (64 - small) * 2 ^ (large - small) = omega (arith, place_high large hash width, div_below (place hash) (2 ^ (64 - large)) (place v / 2 ^ (64 - small) * 2 ^ (large - small)) (pow_pos (64 - large)) (omega (arith, whole_start small large v order width))) in
-            let first : place v / 2 ^ (64 - small) * 2 ^ (large - small) ≤ first_block large v = le-div (place v / 2 ^ (64 - small) * 2 ^ (large - small)) (place v) (2 ^ (64 - large)) (pow_pos (64 - large)) (omega (arith, whole_start small large v order width, block_start-le (64 - small) (place v))) in
-            omega (arith, t.under under, blocks_past larger large i hash b wl (last_block small large v - first_block large v) (first_block large v) (within_table small large v order width) (omega arith));
+            let before : reversed large hash < place v / 2 ^ (64 - small) * 2 ^ (large - small) =
+            omega (
+              arith,
+              place_high large hash width,
+              div_below (place hash) (2 ^ (64 - large)) (place v / 2 ^ (64 - small) * 2 ^ (large - small)) (pow_pos (64 - large))
+                  (omega (arith, whole_start small large v order width)),
+            ) in
+            let first : place v / 2 ^ (64 - small) * 2 ^ (large - small) ≤ first_block large v =
+            le-div (place v / 2 ^ (64 - small) * 2 ^ (large - small)) (place v) (2 ^ (64 - large)) (pow_pos (64 - large))
+            (omega (arith, whole_start small large v order width, block_start-le (64 - small) (place v))) in
+            omega (
+              arith,
+              t.under under,
+              blocks_past larger large i hash b wl (last_block small large v - first_block large v) (first_block large v) (within_table small large v order width)
+                  (omega arith),
+            );
       }

@@ -1,5 +1,6 @@
 -- An element at the head of a bucket of the older table moves to the newer one.
-use Rattle.std.proofs.Common.{if◌then◌else◌, nat_lt, ◌≡◌, ℕ, zero, suc, ◌+◌, ◌-◌, ◌%◌, ◌<◌, Bool, cond, eqb, List, [], ◌∷◌, get_or, set, length, map, Option, Some, None, is_some, count_by, refl, sym, ap, ◌∙◌, subst, arith}
+use Rattle.std.proofs.Common.{if◌then◌else◌, nat_lt, ◌≡◌, ℕ, zero, suc, ◌+◌, ◌-◌, ◌%◌, ◌<◌, Bool, cond, eqb, List, [], ◌∷◌, get_or, set, length, map, Option, Some, None, is_some, count_by}
+use Rattle.std.proofs.Common.{refl, sym, ap, ◌∙◌, subst, arith}
 use Rattle.std.proofs.lemmas.List.{get_or-set_same, get_or-set_other, length-set}
 use Rattle.std.proofs.lemmas.List.Sums.{sum_by-set}
 use Rattle.std.proofs.Math.Seq.{map-set_same}
@@ -26,11 +27,13 @@ pub record Headed (row : List ℕ) (at : ℕ) : Type 0 where
   pub is : row ≡ at ∷ rest
 
 -- a number less in a list of items
-pub vacated : {V : Type 0} (items : List (Option (Element V))) (at : ℕ) (e : Element V) → at_item items at ≡ Some e → Updates items (set items at None) at None × (count_by is_some (set items at None) + 1 ≡ count_by is_some items)
+pub vacated : {V : Type 0} (items : List (Option (Element V))) (at : ℕ) (e : Element V) → at_item items at ≡ Some e → Updates items (set items at None) at None
+    × (count_by is_some (set items at None) + 1 ≡ count_by is_some items)
 vacated {V} items at e found =
     let lt : at < length items = inside items at found in (
       record { changed = get_or-set_same items at None None lt; others = λ i ne. get_or-set_other items at i None None ne },
-      (let was : one_if (is_some (get_or items at None)) ≡ 1 = ap (λ (o : Option (Element V)). one_if (is_some o)) found in omega (arith, sum_by-set (λ (o : Option (Element V)). one_if (is_some o)) items at None None lt)),
+      (let was : one_if (is_some (get_or items at None)) ≡ 1 = ap (λ (o : Option (Element V)). one_if (is_some o)) found in
+          omega (arith, sum_by-set (λ (o : Option (Element V)). one_if (is_some o)) items at None None lt)),
     )
   where
     inside : (xs : List (Option (Element V))) (i : ℕ) → at_item xs i ≡ Some e → i < length xs
@@ -47,7 +50,8 @@ module _ {V : Type 0} where
   no_chain slots link [] c h = refl
   no_chain slots link (i ∷ rest) c h = (let none : entry_at slots i ≡ None = h i c.0 in cc (c.2, none))
 
-  module _ (s0 s2 : Slab (Entry V)) (older newer after : List ℕ) (waiting at number : ℕ) (e : Entry V) (l : IsLinked s0.slots older newer waiting) (found : get s0 at ≡ Some e) (head : get_or older number 0 ≡ suc at) (lt : number < length older) (some : 0 < length newer) (k : Links s0 newer at s2 after) where
+  module _ (s0 s2 : Slab (Entry V)) (older newer after : List ℕ) (waiting at number : ℕ) (e : Entry V) (l : IsLinked s0.slots older newer waiting) (found : get s0 at ≡ Some e)
+      (head : get_or older number 0 ≡ suc at) (lt : number < length older) (some : 0 < length newer) (k : Links s0 newer at s2 after) where
     abbrev pub older_rows : List (List ℕ)
     older_rows = rows s0.slots older
 
@@ -80,7 +84,8 @@ module _ {V : Type 0} where
     spot : ℕ
     spot = e.hash % length newer
 
-    pub rows_moved : Made s2.slots (set older number e.next) after (waiting - 1) (set older_rows number top.rest) (set newer_rows (e.hash % length newer) (at ∷ bucket newer_rows (e.hash % length newer)))
+    pub rows_moved : Made s2.slots (set older number e.next) after (waiting - 1) (set older_rows number top.rest)
+        (set newer_rows (e.hash % length newer) (at ∷ bucket newer_rows (e.hash % length newer)))
     rows_moved =
         let items : List (Option (Element V)) = map element_of s0.slots in
         let gone = vacated items at (element e) (item_at s0.slots at ∙ ap element_of found) in
@@ -88,7 +93,11 @@ module _ {V : Type 0} where
         = subst (λ r. Stand (set items at None) (set older_rows number r) newer_rows) is_rest
         (leaves items (set items at None) older_rows newer_rows at number l.stand here gone.0 inside gone.1) in
         let back : Updates (set items at None) (map element_of s2.slots) at (Some (element e))
-        = record { changed = item_at s2.slots at ∙ ap element_of linked.one.now; others = λ i ne. item_at s2.slots i ∙ ap element_of (linked.one.others i ne) ∙ sym (item_at s0.slots i) ∙ sym (gone.0.others i ne) } in
+        = record {
+          changed = item_at s2.slots at ∙ ap element_of linked.one.now;
+          others = λ i ne. item_at s2.slots i ∙ ap element_of (linked.one.others i ne) ∙ sym (item_at s0.slots i)
+              ∙ sym (gone.0.others i ne);
+        } in
         let at_spot : e.hash % length newer_rows ≡ e.hash % length newer = ap (λ n. e.hash % n) (length-rows s0.slots newer) in
         let fits : e.hash % length newer < length newer_rows = omega (arith, length-rows s0.slots newer) in
         let joined : Stand (map element_of s2.slots) (set newer_rows (e.hash % length newer) (at ∷ bucket newer_rows (e.hash % length newer))) (set older_rows number top.rest)
@@ -96,9 +105,11 @@ module _ {V : Type 0} where
         (ap (count_by is_some) same_items ∙ sym gone.1) in
         let lt_newer : e.hash % length newer < length newer = omega arith in
         made s2.slots (set older number e.next) after (waiting - 1) _ _
-        (pops_side s0.slots s2.slots older older_rows at number top.rest e (leads_older s0.slots older newer waiting l) (λ i ne. unchanged_link s0.slots s2.slots i (linked.one.others i ne)) found top.is alone (λ j ne. one_bucket items older_rows newer_rows number j at l.stand here ne) lt)
+        (pops_side s0.slots s2.slots older older_rows at number top.rest e (leads_older s0.slots older newer waiting l)
+        (λ i ne. unchanged_link s0.slots s2.slots i (linked.one.others i ne)) found top.is alone (λ j ne. one_bucket items older_rows newer_rows number j at l.stand here ne) lt)
         (subst (λ h. Leads s2.slots h (set newer_rows (e.hash % length newer) (at ∷ bucket newer_rows (e.hash % length newer)))) (sym linked.heads_are)
-        (joins_side s0.slots s2.slots newer newer_rows at (e.hash % length newer) _ (leads_newer s0.slots older newer waiting l) linked.one (λ j. one_table items older_rows newer_rows number j at l.stand here) refl lt_newer))
+        (joins_side s0.slots s2.slots newer newer_rows at (e.hash % length newer) _ (leads_newer s0.slots older newer waiting l) linked.one
+        (λ j. one_table items older_rows newer_rows number j at l.stand here) refl lt_newer))
         (flip _ _ _ joined)
         (omega (arith, l.waits, count-set older_rows number top.rest inside, ap length top.is))
 

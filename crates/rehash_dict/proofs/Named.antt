@@ -1,11 +1,13 @@
 -- What the steps make of tables doesn't depend on how the elements are named, only on their hashes.
-use Rattle.std.proofs.Common.{◌≡◌, ℕ, zero, suc, ◌+◌, ◌*◌, ◌%◌, ◌<◌, Bool, true, false, not, ◌&&◌, cond, eqb, List, [], ◌∷◌, set, length, map, Option, Some, None, refl, sym, ap, ◌∙◌, arith, max, nat_lt}
+use Rattle.std.proofs.Common.{◌≡◌, ℕ, zero, suc, ◌+◌, ◌*◌, ◌%◌, ◌<◌, Bool, true, false, not, ◌&&◌, cond, eqb, List, [], ◌∷◌, set, length, map, Option, Some, None, refl, sym, ap, ◌∙◌}
+use Rattle.std.proofs.Common.{arith, max, nat_lt}
 use Rattle.std.specs.Prelude.{nat_le, ◌==◌}
 use Rattle.std.proofs.lemmas.List.{length-map, map-set}
 use Rattle.std.proofs.lemmas.List.Sums.{sum_by-cons}
 use Rattle.std.proofs.Math.ListN.{get_or-map}
 use Rattle.rev_cursor.specs.Span.{times}
-use Rattle.rehash_dict.specs.Tables.{Tables, bucket, count, no_elements, is_rehashing, ended, full_within, begun, wants_shrink, shrunk, with_room, goes_to, put, put_all, moved, stepped_to, stepped, rehashed, joined, inserted, without, removed, named, least_power}
+use Rattle.rehash_dict.specs.Tables.{Tables, bucket, count, no_elements, is_rehashing, ended, full_within, begun, wants_shrink, shrunk, with_room, goes_to, put, put_all, moved, stepped_to}
+use Rattle.rehash_dict.specs.Tables.{stepped, rehashed, joined, inserted, without, removed, named, least_power}
 use Rattle.rehash_dict.proofs.Counts.{times-here}
 
 cond-ap : {A B : Type 0} (g : A → B) (b : Bool) (x y : A) → g (cond b x y) ≡ cond b (g x) (g y)
@@ -108,7 +110,9 @@ module _ {X Y : Type 0} (f : X → Y) where
     pub joined-named : (t : Tables X) (x : X) → named f (joined hash t x) ≡ joined hash' (named f t) (f x)
     joined-named t x =
         cond-ap (named f) (is_rehashing t) _ _
-        ∙ (λ i. cond (sym (going t) i) (record { older = map (map f) t.older; newer = put-named t.newer x i; position = t.position }) (record { older = put-named t.older x i; newer = map (map f) t.newer; position = t.position }))
+        ∙
+        (λ i. cond (sym (going t) i) (record { older = map (map f) t.older; newer = put-named t.newer x i; position = t.position })
+        (record { older = put-named t.older x i; newer = map (map f) t.newer; position = t.position }))
 
     pub inserted-named : (t : Tables X) (x : X) → named f (inserted hash t x) ≡ inserted hash' (named f t) (f x)
     unfolding inserted
@@ -135,18 +139,23 @@ pub named-same : {Y : Type 0} (f g : ℕ → Y) (t : Tables ℕ) → ((k i : ℕ
 named-same f g t a b = λ i. record { older = rows-same f g t.older a i; newer = rows-same f g t.newer b i; position = t.position }
 
 -- removal, where the names tell the element from the others
-without-named : {Y : Type 0} (f : ℕ → Y) (same : Y → Y → Bool) (at : ℕ) (row : List ℕ) → ((i : ℕ) → 0 < times i row → same (f i) (f at) ≡ eqb i at) → map f (without eqb at row) ≡ without same (f at) (map f row)
+without-named : {Y : Type 0} (f : ℕ → Y) (same : Y → Y → Bool) (at : ℕ) (row : List ℕ) → ((i : ℕ) → 0 < times i row → same (f i) (f at) ≡ eqb i at)
+    → map f (without eqb at row) ≡ without same (f at) (map f row)
 without-named f same at [] h = refl
 without-named f same at (x ∷ xs) h =
     cond-ap (map f) (not (eqb x at)) (x ∷ without eqb at xs) (without eqb at xs)
-    ∙ (λ i. cond (not (sym (h x (omega (arith, times-here x xs))) i)) (f x ∷ without-named f same at xs (λ j t. h j (omega (arith, t))) i) (without-named f same at xs (λ j t. h j (omega (arith, t))) i))
+    ∙
+    (λ i. cond (not (sym (h x (omega (arith, times-here x xs))) i)) (f x ∷ without-named f same at xs (λ j t. h j (omega (arith, t))) i)
+    (without-named f same at xs (λ j t. h j (omega (arith, t))) i))
 
-without_rows-named : {Y : Type 0} (f : ℕ → Y) (same : Y → Y → Bool) (at : ℕ) (rows : List (List ℕ)) → ((k i : ℕ) → 0 < times i (bucket rows k) → same (f i) (f at) ≡ eqb i at) → map (map f) (map (without eqb at) rows) ≡ map (without same (f at)) (map (map f) rows)
+without_rows-named : {Y : Type 0} (f : ℕ → Y) (same : Y → Y → Bool) (at : ℕ) (rows : List (List ℕ)) → ((k i : ℕ) → 0 < times i (bucket rows k) → same (f i) (f at) ≡ eqb i at)
+    → map (map f) (map (without eqb at) rows) ≡ map (without same (f at)) (map (map f) rows)
 without_rows-named f same at [] h = refl
 without_rows-named f same at (r ∷ rest) h =
     λ i. without-named f same at r (h 0) i ∷ without_rows-named f same at rest (λ k. h (suc k)) i
 
-pub removed-named : {Y : Type 0} (f : ℕ → Y) (same : Y → Y → Bool) (t : Tables ℕ) (at : ℕ) → ((k i : ℕ) → 0 < times i (bucket t.older k) → same (f i) (f at) ≡ eqb i at) → ((k i : ℕ) → 0 < times i (bucket t.newer k) → same (f i) (f at) ≡ eqb i at) → named f (removed eqb t at) ≡ removed same (named f t) (f at)
+pub removed-named : {Y : Type 0} (f : ℕ → Y) (same : Y → Y → Bool) (t : Tables ℕ) (at : ℕ) → ((k i : ℕ) → 0 < times i (bucket t.older k) → same (f i) (f at) ≡ eqb i at)
+    → ((k i : ℕ) → 0 < times i (bucket t.newer k) → same (f i) (f at) ≡ eqb i at) → named f (removed eqb t at) ≡ removed same (named f t) (f at)
 unfolding removed
 removed-named f same t at a b =
     ended-named f (record { older = map (without eqb at) t.older; newer = map (without eqb at) t.newer; position = t.position })

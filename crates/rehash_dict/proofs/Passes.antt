@@ -83,7 +83,8 @@ module _ {V : Type 0} where
   unfolding stepped
   step_none names h position none = ap (stepped_to names (held_tables h position)) (sym none)
 
-  pub step_some : (names : ℕ → ℕ) (h mid : Held V) (position at : ℕ) (last : Tables ℕ) → full_within h.older 10 position ≡ Some at → MovesRow h mid at → Agrees names h.items → last ≡ ended (held_tables mid (at + 1)) → last ≡ stepped names (held_tables h position)
+  pub step_some : (names : ℕ → ℕ) (h mid : Held V) (position at : ℕ) (last : Tables ℕ) → full_within h.older 10 position ≡ Some at → MovesRow h mid at → Agrees names h.items
+      → last ≡ ended (held_tables mid (at + 1)) → last ≡ stepped names (held_tables h position)
   unfolding stepped
   step_some names h mid position at last found m agrees is =
       let older : mid.older ≡ set h.older at [] = m.older in

@@ -1,5 +1,6 @@
 -- The buckets as chains through the entries: how they are read, and what an edit of the entries makes of them.
-use Rattle.std.proofs.Common.{◌≡◌, ◌≢◌, inl, inr, ℕ, zero, suc, ◌+◌, ◌≤◌, ◌<◌, Bool, cond, List, [], ◌∷◌, get_or, set, length, map, Option, Some, None, is_some, count_by, refl, sym, ap, ◌∙◌, subst, arith}
+use Rattle.std.proofs.Common.{◌≡◌, ◌≢◌, inl, inr, ℕ, zero, suc, ◌+◌, ◌≤◌, ◌<◌, Bool, cond, List, [], ◌∷◌, get_or, set, length, map, Option, Some, None, is_some, count_by, refl, sym, ap}
+use Rattle.std.proofs.Common.{◌∙◌, subst, arith}
 use Rattle.std.proofs.lemmas.Bool.{cases_eq}
 use Rattle.std.proofs.lemmas.List.{get_or-set_same, get_or-set_other, length-set, length-map}
 use Rattle.std.proofs.lemmas.List.Sums.{sum_by-cons}
@@ -53,7 +54,13 @@ module _ {V : Type 0} where
 
   pub count-map_element : (slots : List (Option (Entry V))) → count_by is_some (map element_of slots) ≡ count_by is_some slots
   count-map_element [] = refl
-  count-map_element (o ∷ rest) = omega (arith, sum_by-cons (λ (x : Option (Element V)). one_if (is_some x)) (element_of o) (map element_of rest), sum_by-cons (λ (x : Option (Entry V)). one_if (is_some x)) o rest, count-map_element rest, same_some o)
+  count-map_element (o ∷ rest) = omega (
+    arith,
+    sum_by-cons (λ (x : Option (Element V)). one_if (is_some x)) (element_of o) (map element_of rest),
+    sum_by-cons (λ (x : Option (Entry V)). one_if (is_some x)) o rest,
+    count-map_element rest,
+    same_some o,
+  )
     where
       same_some : (x : Option (Entry V)) → one_if (is_some (element_of x)) ≡ one_if (is_some x)
       same_some None = refl
@@ -65,7 +72,8 @@ module _ {V : Type 0} where
     pub older_rows : rows slots older ≡ a
     pub newer_rows : rows slots newer ≡ b
 
-  pub made : (slots : List (Option (Entry V))) (older newer : List ℕ) (waiting : ℕ) (a b : List (List ℕ)) → Leads slots older a → Leads slots newer b → Stand (map element_of slots) a b → waiting ≡ count a → Made slots older newer waiting a b
+  pub made : (slots : List (Option (Entry V))) (older newer : List ℕ) (waiting : ℕ) (a b : List (List ℕ)) → Leads slots older a → Leads slots newer b → Stand (map element_of slots) a b
+      → waiting ≡ count a → Made slots older newer waiting a b
   made slots older newer waiting a b la lb s w =
       let total : count a + count b ≡ count_by is_some slots = s.counted ∙ count-map_element slots in
       let ra : rows slots older ≡ a = rows_are slots older a la (omega arith) in
@@ -108,14 +116,16 @@ module _ {V : Type 0} where
       more : (j : ℕ) (xs : List ℕ) → 0 < times j xs → 0 < times j (i ∷ xs)
       more j xs h = omega arith
 
-  pub leads_kept : (old new : List (Option (Entry V))) (heads : List ℕ) (table : List (List ℕ)) → ((k i : ℕ) → 0 < times i (bucket table k) → SameLink old new i) → Leads old heads table → Leads new heads table
+  pub leads_kept : (old new : List (Option (Entry V))) (heads : List ℕ) (table : List (List ℕ)) → ((k i : ℕ) → 0 < times i (bucket table k) → SameLink old new i) → Leads old heads table
+      → Leads new heads table
   leads_kept old new heads table same l = record { many = l.many; each = λ k h. chain_kept old new (get_or heads k 0) (bucket table k) (λ i t. same k i t) (l.each k h) }
 
   pub unchanged_link : (old new : List (Option (Entry V))) (i : ℕ) → entry_at new i ≡ entry_at old i → SameLink old new i
   unchanged_link old new i same e h = (e, same ∙ h, refl)
 
   -- one bucket has another head and row, and the others keep theirs
-  pub leads_set : (old new : List (Option (Entry V))) (heads : List ℕ) (table : List (List ℕ)) (k link : ℕ) (row : List ℕ) → k < length heads → Leads old heads table → IsChain new link row → ((j i : ℕ) → j ≢ k → 0 < times i (bucket table j) → SameLink old new i) → Leads new (set heads k link) (set table k row)
+  pub leads_set : (old new : List (Option (Entry V))) (heads : List ℕ) (table : List (List ℕ)) (k link : ℕ) (row : List ℕ) → k < length heads → Leads old heads table → IsChain new link row
+      → ((j i : ℕ) → j ≢ k → 0 < times i (bucket table j) → SameLink old new i) → Leads new (set heads k link) (set table k row)
   leads_set old new heads table k link row lt l c same = record {
     many = length-set table k row ∙ l.many ∙ sym (length-set heads k link);
     each = λ j h. elim (cases_eq j k) [

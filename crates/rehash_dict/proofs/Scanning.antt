@@ -25,7 +25,8 @@ module _ (rows : List (List ℕ)) (small large fuel v : ℕ) where
   unfolding walk
   walk_last h = cond-true _ _ _ (eq-eqb _ 0 h)
 
-  pub walk_on : (bit_and (next_of v large) (bit_xor (2 ^ small - 1) (2 ^ large - 1)) ≡ 0 → ⊥) → walk rows small large (suc fuel) v ≡ (turn rows large v ++ (walk rows small large fuel (next_of v large)).0, (walk rows small large fuel (next_of v large)).1)
+  pub walk_on : (bit_and (next_of v large) (bit_xor (2 ^ small - 1) (2 ^ large - 1)) ≡ 0 → ⊥)
+      → walk rows small large (suc fuel) v ≡ (turn rows large v ++ (walk rows small large fuel (next_of v large)).0, (walk rows small large fuel (next_of v large)).1)
   unfolding walk
   walk_on h = cond-false _ _ _ (ne_eqb _ 0 h)
 
@@ -34,14 +35,17 @@ module _ (rows : List (List ℕ)) (small large fuel v : ℕ) where
   walk_none = refl
 
 -- what the code makes of a turn: the bucket of a cursor, the next cursor, and the test of the bits between the masks
-module _ {V : Type 0} (items : List (Option (Element V))) (older newer : List (List ℕ)) (s : Stand items older newer) (some : 0 < length older) (two : 0 < length newer) (rs rl : List (List ℕ)) (is_s : rs ≡ smaller_of older newer) (is_l : rl ≡ larger_of older newer) (small large v next : ℕ) (size_s : small ≡ length rs) (size_l : large ≡ length rl) (leads : next ≡ next_of v (bits_of (length rl))) where
+module _ {V : Type 0} (items : List (Option (Element V))) (older newer : List (List ℕ)) (s : Stand items older newer) (some : 0 < length older) (two : 0 < length newer)
+    (rs rl : List (List ℕ)) (is_s : rs ≡ smaller_of older newer) (is_l : rl ≡ larger_of older newer) (small large v next : ℕ) (size_s : small ≡ length rs) (size_l : large ≡ length rl)
+    (leads : next ≡ next_of v (bits_of (length rl))) where
   abbrev pub rest : ℕ → ℕ → List ℕ × ℕ
   rest fuel at = walk (larger_of older newer) (bits_of (length (smaller_of older newer))) (bits_of (length (larger_of older newer))) fuel at
 
   leads_on : next ≡ next_of v (bits_of (length (larger_of older newer)))
   leads_on = leads ∙ ap (λ r. next_of v (bits_of (length r))) is_l
 
-  test : bit_and next (bit_xor (small - 1) (large - 1)) ≡ bit_and (next_of v (bits_of (length (larger_of older newer)))) (bit_xor (2 ^ bits_of (length (smaller_of older newer)) - 1) (2 ^ bits_of (length (larger_of older newer)) - 1))
+  test : bit_and next (bit_xor (small - 1) (large - 1)) ≡ bit_and (next_of v (bits_of (length (larger_of older newer))))
+      (bit_xor (2 ^ bits_of (length (smaller_of older newer)) - 1) (2 ^ bits_of (length (larger_of older newer)) - 1))
   test =
       let o = ordered items older newer s some two in
       let low : small ≡ 2 ^ bits_of (length (smaller_of older newer)) = size_s ∙ ap length is_s ∙ (width_of (length (smaller_of older newer)) o.small_size o.some).power in
@@ -53,7 +57,8 @@ module _ {V : Type 0} (items : List (Option (Element V))) (older newer : List (L
       let one : fuel ≡ suc (fuel - 1) = omega arith in
       ap (λ f. rest f v) one ∙ walk_last _ _ _ (fuel - 1) v (sym test ∙ h) ∙ (λ i. (turn (sym is_l i) (bits_of (length (sym is_l i))) v, sym leads_on i))
 
-  pub turn_more : (fuel less : ℕ) → 0 < fuel → less ≡ fuel - 1 → (bit_and next (bit_xor (small - 1) (large - 1)) ≡ 0 → ⊥) → rest fuel v ≡ (turn rl (bits_of (length rl)) v ++ (rest less next).0, (rest less next).1)
+  pub turn_more : (fuel less : ℕ) → 0 < fuel → less ≡ fuel - 1 → (bit_and next (bit_xor (small - 1) (large - 1)) ≡ 0 → ⊥)
+      → rest fuel v ≡ (turn rl (bits_of (length rl)) v ++ (rest less next).0, (rest less next).1)
   turn_more fuel less pos is h =
       let one : fuel ≡ suc less = omega arith in
       ap (λ f. rest f v) one ∙ walk_on _ _ _ less v (λ e. h (test ∙ e)) ∙ (λ i. (turn (sym is_l i) (bits_of (length (sym is_l i))) v ++ (rest less (sym leads_on i)).0, (rest less (sym leads_on i)).1))
@@ -63,7 +68,8 @@ pub scanned_one : (older newer : List (List ℕ)) (v : ℕ) → 0 < length older
 unfolding scanned
 scanned_one older newer v some one = cond-false _ _ _ (ne_eqb (length older) 0 (λ h. omega arith)) ∙ cond-false _ _ _ (not_lt (length newer) one)
 
-pub scanned_two : (older newer : List (List ℕ)) (v : ℕ) → 0 < length older → 0 < length newer → scanned older newer v ≡ (turn (smaller_of older newer) (bits_of (length (smaller_of older newer))) v ++ (walked_over older newer v).0, (walked_over older newer v).1)
+pub scanned_two : (older newer : List (List ℕ)) (v : ℕ) → 0 < length older → 0 < length newer
+    → scanned older newer v ≡ (turn (smaller_of older newer) (bits_of (length (smaller_of older newer))) v ++ (walked_over older newer v).0, (walked_over older newer v).1)
 unfolding scanned
 scanned_two older newer v some two = cond-false _ _ _ (ne_eqb (length older) 0 (λ h. omega arith)) ∙ cond-true _ _ _ (is_lt (length newer) two)
 
@@ -88,17 +94,21 @@ module _ {V : Type 0} (h : Held V) (position seed top : ℕ) (t : Table V) (v : 
   once at = subst (λ l. times at l ≤ 1) (sym whole_move) ((move_spans t (λ i. place_in (item t i)) v (record { placed = p; places = λ i. refl })).once at)
 
   -- what stands behind an item of a turn
-  after_number : (at n : ℕ) → n < turns_of h.older h.newer v → 0 < times at (turn_at h.older h.newer v n) → after_in at (scanned t.older t.newer v).0 ≡ after_in at (turn_at h.older h.newer v n) ++ turns_from h.older h.newer v (turns_of h.older h.newer v - (n + 1)) (n + 1)
+  after_number : (at n : ℕ) → n < turns_of h.older h.newer v → 0 < times at (turn_at h.older h.newer v n)
+      → after_in at (scanned t.older t.newer v).0 ≡ after_in at (turn_at h.older h.newer v n) ++ turns_from h.older h.newer v (turns_of h.older h.newer v - (n + 1)) (n + 1)
   after_number at n lt here =
       let size : 0 + turns_of h.older h.newer v - (n + 1) ≡ turns_of h.older h.newer v - (n + 1) = omega arith in
       ap (after_in at) (sym whole_move)
       ∙ after_turns h.older h.newer v at n (turns_of h.older h.newer v) 0 (omega arith) (omega arith) here (once at)
       ∙ ap (λ c. after_in at (turn_at h.older h.newer v n) ++ turns_from h.older h.newer v c (n + 1)) size
 
-  pub after_found : (at n x : ℕ) (row : List ℕ) → n < turns_of h.older h.newer v → 0 < times at (turn_at h.older h.newer v n) → row ≡ turn_at h.older h.newer v n → Some x ≡ first_of (after_in at row) → Some x ≡ first_of (after_in at (scanned t.older t.newer v).0)
+  pub after_found : (at n x : ℕ) (row : List ℕ) → n < turns_of h.older h.newer v → 0 < times at (turn_at h.older h.newer v n) → row ≡ turn_at h.older h.newer v n
+      → Some x ≡ first_of (after_in at row) → Some x ≡ first_of (after_in at (scanned t.older t.newer v).0)
   after_found at n x row lt here is next = first_some _ _ x (next ∙ ap (λ r. first_of (after_in at r)) is) ∙ sym (ap first_of (after_number at n lt here))
 
-  pub after_last : (at n : ℕ) (row : List ℕ) (o : Option ℕ) → n < turns_of h.older h.newer v → 0 < times at (turn_at h.older h.newer v n) → row ≡ turn_at h.older h.newer v n → None ≡ first_of (after_in at row) → o ≡ first_of (turns_from h.older h.newer v (turns_of h.older h.newer v - (n + 1)) (n + 1)) → o ≡ first_of (after_in at (scanned t.older t.newer v).0)
+  pub after_last : (at n : ℕ) (row : List ℕ) (o : Option ℕ) → n < turns_of h.older h.newer v → 0 < times at (turn_at h.older h.newer v n) → row ≡ turn_at h.older h.newer v n
+      → None ≡ first_of (after_in at row) → o ≡ first_of (turns_from h.older h.newer v (turns_of h.older h.newer v - (n + 1)) (n + 1))
+      → o ≡ first_of (after_in at (scanned t.older t.newer v).0)
   after_last at n row o lt here is none next = next ∙ sym (ap first_of (after_number at n lt here) ∙ first_none _ _ (none ∙ ap (λ r. first_of (after_in at r)) is))
 
   pub first_all : (o : Option ℕ) → o ≡ first_of (turns_from h.older h.newer v (turns_of h.older h.newer v - 0) 0) → o ≡ first_of (scanned t.older t.newer v).0

@@ -1,5 +1,6 @@
 -- The move over the tables as the SCAN commands make it, and by turns.
-use Rattle.std.proofs.Common.{◌≡◌, ◌⊎◌, inl, inr, ℕ, zero, suc, ◌+◌, ◌-◌, ◌*◌, ◌%◌, ◌^◌, ◌≤◌, ◌<◌, Bool, true, false, ◌&&◌, List, [], ◌++◌, length, Option, Some, None, refl, sym, ap, ◌∙◌, subst, arith, nat_lt, append-nil, eqb}
+use Rattle.std.proofs.Common.{◌≡◌, ◌⊎◌, inl, inr, ℕ, zero, suc, ◌+◌, ◌-◌, ◌*◌, ◌%◌, ◌^◌, ◌≤◌, ◌<◌, Bool, true, false, ◌&&◌, List, [], ◌++◌, length, Option, Some, None, refl, sym, ap, ◌∙◌}
+use Rattle.std.proofs.Common.{subst, arith, nat_lt, append-nil, eqb}
 use Rattle.std.specs.Prelude.{nat_le, ◌==◌}
 use Rattle.std.proofs.lemmas.Bool.{cases_eq, cases_lt, cond-true, cond-false, eq-eqb, ne_eqb, and_from, and_left, and_right}
 use Rattle.std.proofs.lemmas.Bool.Decides.{nat_tests}
@@ -127,7 +128,8 @@ smaller_one older newer h = (let test : nat_lt 0 (length newer) ≡ false = no_l
 
 module _ {V : Type 0} where
   -- an element stands in a table only in the bucket of its hash, as often as that bucket names it
-  pub weighs : (items : List (Option (Element V))) (a b : List (List ℕ)) (bits i : ℕ) (e : Element V) → Stand items a b → at_item items i ≡ Some e → length a ≡ 2 ^ bits → Weighs a bits i e.hash (times i (bucket a (e.hash % length a)))
+  pub weighs : (items : List (Option (Element V))) (a b : List (List ℕ)) (bits i : ℕ) (e : Element V) → Stand items a b → at_item items i ≡ Some e → length a ≡ 2 ^ bits
+      → Weighs a bits i e.hash (times i (bucket a (e.hash % length a)))
   weighs items a b bits i e s found size = record {
     here = λ v same. ap (λ k. times i (bucket a k)) (sym same ∙ ap (λ n. e.hash % n) (sym size));
     away = λ v other. none v other (times i (turn a bits v)) refl;
@@ -191,8 +193,10 @@ module _ (older newer : List (List ℕ)) (v : ℕ) where
       let not_first : eqb (suc k) 0 ≡ false = ne_eqb (suc k) 0 (λ h. omega arith) in
       let back : suc k - 1 ≡ k = omega arith in
       let on : suc (first_block large v + k) ≡ first_block large v + suc k = omega arith in
-      let head : turn_at older newer v (suc k) ≡ turn (larger_of older newer) large (reversed large (first_block large v + k)) = cond-false _ _ _ not_first ∙ ap (λ n. turn (larger_of older newer) large (reversed large (first_block large v + n))) back in
-      let tail : turns_from older newer v count (suc (suc k)) ≡ blocks_from (larger_of older newer) large count (suc (first_block large v + k)) = turns_are count (suc k) ∙ ap (blocks_from (larger_of older newer) large count) (sym on) in
+      let head : turn_at older newer v (suc k) ≡ turn (larger_of older newer) large (reversed large (first_block large v + k)) = cond-false _ _ _ not_first
+      ∙ ap (λ n. turn (larger_of older newer) large (reversed large (first_block large v + n))) back in
+      let tail : turns_from older newer v count (suc (suc k)) ≡ blocks_from (larger_of older newer) large count (suc (first_block large v + k)) = turns_are count (suc k)
+      ∙ ap (blocks_from (larger_of older newer) large count) (sym on) in
       λ i. head i ++ tail i
 
   -- all turns give the cursor's bucket of the smaller table, and then consecutive ones of the larger table
@@ -216,43 +220,63 @@ not_lt : (x y : ℕ) → y ≤ x → nat_lt x y ≡ false
 not_lt x y h = grind (arith, nat_tests)
 
 -- where both tables have buckets, a scan at a cursor is a move by turns
-pub move_two : {V : Type 0} (items : List (Option (Element V))) (older newer : List (List ℕ)) (v : ℕ) → Stand items older newer → 0 < length older → 0 < length newer → IsMove older newer v (bits_of (length (smaller_of older newer)))
+pub move_two : {V : Type 0} (items : List (Option (Element V))) (older newer : List (List ℕ)) (v : ℕ) → Stand items older newer → 0 < length older → 0 < length newer
+    → IsMove older newer v (bits_of (length (smaller_of older newer)))
 unfolding scanned
 move_two items older newer v s a b =
     let o = ordered items older newer s a b in
     let ws = width_of (length (smaller_of older newer)) o.small_size o.some in
     let wl = width_of (length (larger_of older newer)) o.large_size (omega (arith, o.some, o.order)) in
-    let below : bits_of (length (smaller_of older newer)) ≤ bits_of (length (larger_of older newer)) = le_bits (bits_of (length (smaller_of older newer))) (bits_of (length (larger_of older newer))) (omega (arith, ws.power, wl.power, o.order)) in
-    let more : first_block (bits_of (length (larger_of older newer))) v < last_block (bits_of (length (smaller_of older newer))) (bits_of (length (larger_of older newer))) v = first_below_last _ _ v below wl.few in
+    let below : bits_of (length (smaller_of older newer)) ≤ bits_of (length (larger_of older newer)) =
+    le_bits (bits_of (length (smaller_of older newer))) (bits_of (length (larger_of older newer))) (omega (arith, ws.power, wl.power, o.order)) in
+    let more : first_block (bits_of (length (larger_of older newer))) v < last_block (bits_of (length (smaller_of older newer))) (bits_of (length (larger_of older newer))) v =
+    first_below_last _ _ v below wl.few in
     let within : last_block (bits_of (length (smaller_of older newer))) (bits_of (length (larger_of older newer))) v ≤ 2 ^ bits_of (length (larger_of older newer)) = last-le _ _ v below wl.few in
     let count : ℕ = last_block (bits_of (length (smaller_of older newer))) (bits_of (length (larger_of older newer))) v - first_block (bits_of (length (larger_of older newer))) v - 1 in
-    let all : last_block (bits_of (length (smaller_of older newer))) (bits_of (length (larger_of older newer))) v - first_block (bits_of (length (larger_of older newer))) v ≡ suc count = omega arith in
+    let all : last_block (bits_of (length (smaller_of older newer))) (bits_of (length (larger_of older newer))) v - first_block (bits_of (length (larger_of older newer))) v ≡ suc count =
+    omega arith in
     let fuel : length (larger_of older newer) ≡ suc (count + (length (larger_of older newer) - suc count)) = omega (arith, wl.power) in
     let walks : walk (larger_of older newer) (bits_of (length (smaller_of older newer))) (bits_of (length (larger_of older newer))) (length (larger_of older newer)) v
-    ≡ (blocks_from (larger_of older newer) (bits_of (length (larger_of older newer))) (suc count) (first_block (bits_of (length (larger_of older newer))) v), next_of v (bits_of (length (smaller_of older newer))))
+    ≡ (
+      blocks_from (larger_of older newer) (bits_of (length (larger_of older newer))) (suc count) (first_block (bits_of (length (larger_of older newer))) v),
+      next_of v
+          (bits_of (length (smaller_of older newer))),
+    )
     = ap (λ f. walk (larger_of older newer) (bits_of (length (smaller_of older newer))) (bits_of (length (larger_of older newer))) f v) fuel
-    ∙ walked (larger_of older newer) (bits_of (length (smaller_of older newer))) (bits_of (length (larger_of older newer))) count (length (larger_of older newer) - suc count) v below wl.few (omega arith) in
+    ∙ walked (larger_of older newer) (bits_of (length (smaller_of older newer))) (bits_of (length (larger_of older newer))) count (length (larger_of older newer) - suc count) v below
+    wl.few (omega arith) in
     let some_older : (length older == 0) ≡ false = ne_eqb (length older) 0 (λ h. omega arith) in
     let going : nat_lt 0 (length newer) ≡ true = is_lt 0 (length newer) b in
     let is : scanned older newer v ≡ moved_over (smaller_of older newer) (larger_of older newer) v = cond-false _ _ _ some_older ∙ cond-true _ _ _ going in
     let found : (scanned older newer v).0 ≡ by_turns (smaller_of older newer) (larger_of older newer) (bits_of (length (smaller_of older newer))) (bits_of (length (larger_of older newer))) v
     = ap (λ p. p.0) is ∙ ap (λ p. turn (smaller_of older newer) (bits_of (length (smaller_of older newer))) v ++ p.0) walks
-    ∙ ap (λ n. turn (smaller_of older newer) (bits_of (length (smaller_of older newer))) v ++ blocks_from (larger_of older newer) (bits_of (length (larger_of older newer))) n (first_block (bits_of (length (larger_of older newer))) v)) (sym all) in
-    let turns : turns_of older newer v ≡ suc (last_block (bits_of (length (smaller_of older newer))) (bits_of (length (larger_of older newer))) v - first_block (bits_of (length (larger_of older newer))) v) = cond-false _ _ _ some_older ∙ cond-true _ _ _ going ∙ (omega arith) in
+    ∙ ap
+    (λ n. turn (smaller_of older newer) (bits_of (length (smaller_of older newer))) v
+    ++ blocks_from (larger_of older newer) (bits_of (length (larger_of older newer))) n (first_block (bits_of (length (larger_of older newer))) v)) (sym all) in
+    let turns : turns_of older newer v ≡ suc
+    (last_block (bits_of (length (smaller_of older newer))) (bits_of (length (larger_of older newer))) v - first_block (bits_of (length (larger_of older newer))) v) =
+    cond-false _ _ _ some_older ∙ cond-true _ _ _ going ∙ (omega arith) in
     record {
       narrow = ws.few;
-      items = found ∙ sym (turns_two older newer v (last_block (bits_of (length (smaller_of older newer))) (bits_of (length (larger_of older newer))) v - first_block (bits_of (length (larger_of older newer))) v)) ∙ ap (λ n. turns_from older newer v n 0) (sym turns);
+      items = found ∙ sym
+          (turns_two older newer v
+          (last_block (bits_of (length (smaller_of older newer))) (bits_of (length (larger_of older newer))) v - first_block (bits_of (length (larger_of older newer))) v))
+          ∙ ap (λ n. turns_from older newer v n 0) (sym turns);
       next = ap (λ p. p.1) is ∙ ap (λ p. p.1) walks;
       given = λ i hash often w either. subst (λ l. Given l i hash v (bits_of (length (smaller_of older newer))) often) (sym found)
-          (subst (λ n. Given (by_turns (smaller_of older newer) (larger_of older newer) (bits_of (length (smaller_of older newer))) (bits_of (length (larger_of older newer))) v) i hash v (bits_of (length (smaller_of older newer))) n) w.sum
-          (given_turns (bits_of (length (smaller_of older newer))) v hash ws.few (smaller_of older newer) (larger_of older newer) (bits_of (length (larger_of older newer))) i w.a w.b below wl.few w.small w.large));
+          (subst
+          (λ n. Given (by_turns (smaller_of older newer) (larger_of older newer) (bits_of (length (smaller_of older newer))) (bits_of (length (larger_of older newer))) v) i hash v
+          (bits_of (length (smaller_of older newer))) n) w.sum
+          (given_turns (bits_of (length (smaller_of older newer))) v hash ws.few (smaller_of older newer) (larger_of older newer) (bits_of (length (larger_of older newer))) i w.a w.b below
+          wl.few w.small w.large));
     }
   where
     le_bits : (i j : ℕ) → 2 ^ i ≤ 2 ^ j → i ≤ j
     le_bits i j h = elim (cases_lt j i) [ inl over ↦ absurd (omega (arith, pow_below j i over)) | inr fine ↦ fine ]
 
 -- where only the older table has buckets, a scan at a cursor is a move by turns
-pub move_one : {V : Type 0} (items : List (Option (Element V))) (older newer : List (List ℕ)) (v : ℕ) → Stand items older newer → 0 < length older → length newer ≤ 0 → IsMove older newer v (bits_of (length (smaller_of older newer)))
+pub move_one : {V : Type 0} (items : List (Option (Element V))) (older newer : List (List ℕ)) (v : ℕ) → Stand items older newer → 0 < length older → length newer ≤ 0
+    → IsMove older newer v (bits_of (length (smaller_of older newer)))
 unfolding scanned turns_from
 move_one items older newer v s a b =
     let one : smaller_of older newer ≡ older = smaller_one older newer b in
@@ -262,7 +286,8 @@ move_one items older newer v s a b =
     let still : nat_lt 0 (length newer) ≡ false = not_lt 0 (length newer) b in
     let is : scanned older newer v ≡ (turn older (bits_of (length older)) v, next_of v (bits_of (length older))) = cond-false _ _ _ some_older ∙ cond-false _ _ _ still in
     let turns : turns_of older newer v ≡ suc zero = cond-false _ _ _ some_older ∙ cond-false _ _ _ still in
-    let first : turn older (bits_of (length older)) v ≡ turns_from older newer v (suc zero) 0 = ap (λ (r : List (List ℕ)). turn r (bits_of (length r)) v) (sym one) ∙ sym (append-nil (turn (smaller_of older newer) (bits_of (length (smaller_of older newer))) v)) in
+    let first : turn older (bits_of (length older)) v ≡ turns_from older newer v (suc zero) 0 = ap (λ (r : List (List ℕ)). turn r (bits_of (length r)) v) (sym one)
+    ∙ sym (append-nil (turn (smaller_of older newer) (bits_of (length (smaller_of older newer))) v)) in
     record {
       narrow = omega (arith, w.few);
       items = ap (λ p. p.0) is ∙ first ∙ ap (λ n. turns_from older newer v n 0) (sym turns);
@@ -283,7 +308,8 @@ no_move older newer v none = (let test : (length older == 0) ≡ true = eq-eqb (
 
 module _ {V : Type 0} where
   -- how often an item stands in the tables: once, or never where it isn't there
-  both_some : (items : List (Option (Element V))) (older newer : List (List ℕ)) (i : ℕ) (e : Element V) → Stand items older newer → at_item items i ≡ Some e → 0 < length older → WeighBoth older newer i e.hash 1 × (Weighs older (bits_of (length older)) i e.hash 1 ⊎ (0 < length newer))
+  both_some : (items : List (Option (Element V))) (older newer : List (List ℕ)) (i : ℕ) (e : Element V) → Stand items older newer → at_item items i ≡ Some e → 0 < length older
+      → WeighBoth older newer i e.hash 1 × (Weighs older (bits_of (length older)) i e.hash 1 ⊎ (0 < length newer))
   both_some items older newer i e s found some =
       let wo = width_of (length older) s.older_size some in
       let a = weighs items older newer (bits_of (length older)) i e s found wo.power in
@@ -301,14 +327,16 @@ module _ {V : Type 0} where
       ]
 
   -- a vacant item number stands in neither table
-  both_none : (items : List (Option (Element V))) (older newer : List (List ℕ)) (i : ℕ) → Stand items older newer → at_item items i ≡ None → WeighBoth older newer i 0 0 × (Weighs older (bits_of (length older)) i 0 0 ⊎ (0 < length newer))
+  both_none : (items : List (Option (Element V))) (older newer : List (List ℕ)) (i : ℕ) → Stand items older newer → at_item items i ≡ None → WeighBoth older newer i 0 0
+      × (Weighs older (bits_of (length older)) i 0 0 ⊎ (0 < length newer))
   both_none items older newer i s none = (
     weigh_both older newer i 0 0 0 (weighs_none items older newer (bits_of (length older)) i s none) (weighs_none items newer older (bits_of (length newer)) i (flip items older newer s) none),
     inl (weighs_none items older newer (bits_of (length older)) i s none),
   )
 
   -- where the older table has buckets, a scan at a cursor is a move by turns
-  pub is_move : (items : List (Option (Element V))) (older newer : List (List ℕ)) (v : ℕ) → Stand items older newer → 0 < length older → IsMove older newer v (bits_of (length (smaller_of older newer)))
+  pub is_move : (items : List (Option (Element V))) (older newer : List (List ℕ)) (v : ℕ) → Stand items older newer → 0 < length older
+      → IsMove older newer v (bits_of (length (smaller_of older newer)))
   is_move items older newer v s some = elim (cases_lt 0 (length newer)) [
     | inl two ↦ move_two items older newer v s some two
     | inr one ↦ move_one items older newer v s some one
@@ -338,7 +366,8 @@ module _ {V : Type 0} where
   move_spans t place_of v c = elim (cases_lt 0 (length t.older)) [
     | inl some ↦
         (let m = is_move t.items t.older t.newer v c.placed.kept.stand some in
-        let ends : end_of (scanned t.older t.newer v).1 ≡ block_end (64 - bits_of (length (smaller_of t.older t.newer))) (place v) = ap end_of m.next ∙ end_of-next_of (bits_of (length (smaller_of t.older t.newer))) v m.narrow in
+        let ends : end_of (scanned t.older t.newer v).1 ≡ block_end (64 - bits_of (length (smaller_of t.older t.newer))) (place v) = ap end_of m.next
+        ∙ end_of-next_of (bits_of (length (smaller_of t.older t.newer))) v m.narrow in
         record {
           on = omega (arith, ends, lt-block_end (64 - bits_of (length (smaller_of t.older t.newer))) (place v));
           once = λ i. most i (item t i) refl m;

@@ -7,7 +7,8 @@ use Rattle.rehash_dict.specs.Tables.{bucket, count, without, no_elements}
 use Rattle.rehash_dict.specs.Table.{Element, at_item, Updates}
 use Rattle.rehash_dict.specs.Placed.{IsSize, Names, Stand}
 use Rattle.rehash_dict.specs.Placed.IsSize.{no_table}
-use Rattle.rehash_dict.proofs.Counts.{times-here, times-past, times-without_same, times-without_other, length-without, bucket-set_same, bucket-set_other, count-set, bucket-none, bucket-no_elements, count-no_elements}
+use Rattle.rehash_dict.proofs.Counts.{times-here, times-past, times-without_same, times-without_other, length-without, bucket-set_same, bucket-set_other, count-set, bucket-none}
+use Rattle.rehash_dict.proofs.Counts.{bucket-no_elements, count-no_elements}
 
 module _ {V : Type 0} where
   -- elements that stand in an older and a newer table stand in these the other way round too
@@ -68,7 +69,8 @@ module _ {V : Type 0} where
           absurd (omega (arith, s.once at p.0 p.1, ap (λ i. times at (bucket a i)) p.2, ap (λ i. times at (bucket b i)) (ap (λ e. e.hash % length b) one ∙ q.2)))
 
   -- an element joins at the head of its bucket
-  module _ (items later : List (Option (Element V))) (a b : List (List ℕ)) (at k : ℕ) (e : Element V) (s : Stand items a b) (vacant : at_item items at ≡ None) (u : Updates items later at (Some e)) (here : e.hash % length a ≡ k) (lt : k < length a) where
+  module _ (items later : List (Option (Element V))) (a b : List (List ℕ)) (at k : ℕ) (e : Element V) (s : Stand items a b) (vacant : at_item items at ≡ None)
+      (u : Updates items later at (Some e)) (here : e.hash % length a ≡ k) (lt : k < length a) where
     -- the table with the new item number at the head of its bucket
     abbrev grown : List (List ℕ)
     grown = set a k (at ∷ bucket a k)
@@ -119,7 +121,8 @@ module _ {V : Type 0} where
           omega (arith, vacant_out items a at k s.of_older vacant))
       | inr other ↦
           (let was : at_item items i ≡ Some f = sym (u.others i other) ∙ h in
-          let size : times i (bucket grown (f.hash % length grown)) ≡ times i (bucket a (f.hash % length a)) = older_times i (f.hash % length grown) other ∙ ap (λ n. times i (bucket a (f.hash % n))) (length-set a k (at ∷ bucket a k)) in
+          let size : times i (bucket grown (f.hash % length grown)) ≡ times i (bucket a (f.hash % length a)) = older_times i (f.hash % length grown) other
+          ∙ ap (λ n. times i (bucket a (f.hash % n))) (length-set a k (at ∷ bucket a k)) in
           omega (arith, s.once i f was))
     ]
 
@@ -135,7 +138,8 @@ module _ {V : Type 0} where
     }
 
   -- an element leaves its bucket
-  module _ (items later : List (Option (Element V))) (a b : List (List ℕ)) (at k : ℕ) (s : Stand items a b) (inside : 0 < times at (bucket a k)) (u : Updates items later at None) (lt : k < length a) where
+  module _ (items later : List (Option (Element V))) (a b : List (List ℕ)) (at k : ℕ) (s : Stand items a b) (inside : 0 < times at (bucket a k)) (u : Updates items later at None)
+      (lt : k < length a) where
     -- the table with the item number taken out of its bucket
     abbrev left : List (List ℕ)
     left = set a k (without eqb at (bucket a k))
@@ -175,7 +179,13 @@ module _ {V : Type 0} where
       of_newer = other_names;
       once = λ i f h. elim (cases_eq i at) [
         | inl mine ↦ (let q : Some f ≡ None = sym h ∙ ap (at_item later) mine ∙ u.changed in cc)
-        | inr other ↦ omega (arith, s.once i f (sym (u.others i other) ∙ h), rest_times i (f.hash % length left) other, ap (λ n. times i (bucket a (f.hash % n))) (length-set a k (without eqb at (bucket a k))))
+        | inr other ↦ omega (
+          arith,
+          s.once i f (sym (u.others i other) ∙ h),
+          rest_times i (f.hash % length left) other,
+          ap (λ n. times i (bucket a (f.hash % n)))
+              (length-set a k (without eqb at (bucket a k))),
+        )
       ];
       counted = omega (arith, count-set a k (without eqb at (bucket a k)) lt, length-without at (bucket a k), at_most_once items a b k at s, s.counted);
       older_size = subst IsSize (sym (length-set a k (without eqb at (bucket a k)))) s.older_size;
@@ -183,7 +193,10 @@ module _ {V : Type 0} where
     }
 
   -- keys and values change, and hashes stay
-  pub restands : (items later : List (Option (Element V))) (a b : List (List ℕ)) → Stand items a b → ((i : ℕ) (e : Element V) → at_item items i ≡ Some e → (f : Element V) × (at_item later i ≡ Some f) × (f.hash ≡ e.hash)) → ((i : ℕ) (f : Element V) → at_item later i ≡ Some f → (e : Element V) × (at_item items i ≡ Some e) × (f.hash ≡ e.hash)) → count_by is_some later ≡ count_by is_some items → Stand later a b
+  pub restands : (items later : List (Option (Element V))) (a b : List (List ℕ)) → Stand items a b
+      → ((i : ℕ) (e : Element V) → at_item items i ≡ Some e → (f : Element V) × (at_item later i ≡ Some f) × (f.hash ≡ e.hash))
+      → ((i : ℕ) (f : Element V) → at_item later i ≡ Some f → (e : Element V) × (at_item items i ≡ Some e) × (f.hash ≡ e.hash)) → count_by is_some later ≡ count_by is_some items
+      → Stand later a b
   restands items later a b s on back same = record {
     of_older = λ k i h. (let p = s.of_older k i h in let q = on i p.0 p.1 in (q.0, q.1, ap (λ n. n % length a) q.2 ∙ p.2));
     of_newer = λ k i h. (let p = s.of_newer k i h in let q = on i p.0 p.1 in (q.0, q.1, ap (λ n. n % length b) q.2 ∙ p.2));

@@ -1,5 +1,6 @@
 -- The turns of a move, as numbers that fit.
-use Rattle.std.proofs.Common.{◌≡◌, inl, inr, ℕ, zero, suc, ◌+◌, ◌-◌, ◌*◌, ◌/◌, ◌%◌, ◌^◌, ◌≤◌, ◌<◌, Bool, true, false, List, [], ◌∷◌, ◌++◌, length, take, append-nil, append_assoc, Option, Some, IsSome, is_some, ◌&&◌, refl, sym, ap, ◌∙◌, subst, arith, nat_lt}
+use Rattle.std.proofs.Common.{◌≡◌, inl, inr, ℕ, zero, suc, ◌+◌, ◌-◌, ◌*◌, ◌/◌, ◌%◌, ◌^◌, ◌≤◌, ◌<◌, Bool, true, false, List, [], ◌∷◌, ◌++◌, length, take, append-nil, append_assoc, Option}
+use Rattle.std.proofs.Common.{Some, IsSome, is_some, ◌&&◌, refl, sym, ap, ◌∙◌, subst, arith, nat_lt}
 use Rattle.std.proofs.lemmas.Bool.{cases_eq, cases_lt, cond-true, cond-false, eq-eqb, ne_eqb}
 use Rattle.std.proofs.lemmas.Bool.Decides.{nat_tests}
 use Rattle.std.proofs.lemmas.Nat.{pow_below}
@@ -57,7 +58,8 @@ module _ (older newer : List (List ℕ)) (v : ℕ) where
   turns_one a b = cond-false _ _ _ (ne_eqb (length older) 0 (λ h. omega arith)) ∙ cond-false _ _ _ (not_lt (length newer) b)
 
   -- with two tables there is one turn for the smaller, and one for each block of the larger in the interval
-  pub turns_both : 0 < length older → 0 < length newer → turns_of older newer v ≡ 1 + (last_block (bits_of (length (smaller_of older newer))) (bits_of (length (larger_of older newer))) v - first_block (bits_of (length (larger_of older newer))) v)
+  pub turns_both : 0 < length older → 0 < length newer → turns_of older newer v ≡ 1 +
+      (last_block (bits_of (length (smaller_of older newer))) (bits_of (length (larger_of older newer))) v - first_block (bits_of (length (larger_of older newer))) v)
   turns_both a b = cond-false _ _ _ (ne_eqb (length older) 0 (λ h. omega arith)) ∙ cond-true _ _ _ (is_lt (length newer) b)
 
   -- where there is a turn, the older table has buckets
@@ -69,7 +71,8 @@ module _ (older newer : List (List ℕ)) (v : ℕ) where
   later_turn n h pos = elim (cases_lt 0 (length newer)) [ inl some ↦ some | inr none ↦ absurd (omega (arith, turns_one (some_turn n h) none)) ]
 
   -- each later turn gives the bucket of the larger table whose reversed number is the block of that turn
-  pub turn_later : (n : ℕ) → 0 < n → turn_at older newer v n ≡ turn (larger_of older newer) (bits_of (length (larger_of older newer))) (reversed (bits_of (length (larger_of older newer))) (first_block (bits_of (length (larger_of older newer))) v + (n - 1)))
+  pub turn_later : (n : ℕ) → 0 < n → turn_at older newer v n ≡ turn (larger_of older newer) (bits_of (length (larger_of older newer)))
+      (reversed (bits_of (length (larger_of older newer))) (first_block (bits_of (length (larger_of older newer))) v + (n - 1)))
   turn_later n pos = cond-false _ _ _ (ne_eqb n 0 (λ h. omega arith))
 
 module _ {V : Type 0} (items : List (Option (Element V))) (older newer : List (List ℕ)) (v : ℕ) (s : Stand items older newer) where
@@ -117,7 +120,8 @@ module _ {V : Type 0} (items : List (Option (Element V))) (older newer : List (L
     pub turns : turns_of older newer v ≡ 1 + ((start / 2 ^ (64 - small) + 1) * 2 ^ (large - small) - start / 2 ^ (64 - large))
 
   -- the bits of both tables and the place of the cursor give the number of turns, in numbers that fit
-  pub measured : (rs rl : List (List ℕ)) (small large start : ℕ) → 0 < length older → 0 < length newer → rs ≡ smaller_of older newer → rl ≡ larger_of older newer → small ≡ bits_of (length rs) → large ≡ bits_of (length rl) → start ≡ place v → IsMeasured small large start
+  pub measured : (rs rl : List (List ℕ)) (small large start : ℕ) → 0 < length older → 0 < length newer → rs ≡ smaller_of older newer → rl ≡ larger_of older newer
+      → small ≡ bits_of (length rs) → large ≡ bits_of (length rl) → start ≡ place v → IsMeasured small large start
   measured rs rl small large start a b is_s is_l small_is large_is start_is =
       let o = ordered items older newer s a b in
       let ws = width_of (length (smaller_of older newer)) o.small_size o.some in
@@ -199,11 +203,14 @@ unfolding turns_from
 some_in older newer v at n zero first from to here = absurd (omega arith)
 some_in older newer v at n (suc count) first from to here = elim (cases_eq first n) [
   | inl same ↦ omega (arith, times-append at (turn_at older newer v first) (turns_from older newer v count (suc first)), ap (λ m. times at (turn_at older newer v m)) same)
-  | inr later' ↦ omega (arith, times-append at (turn_at older newer v first) (turns_from older newer v count (suc first)), some_in older newer v at n count (suc first) (omega arith) (omega arith) here)
+  | inr later' ↦ omega
+      (arith, times-append at (turn_at older newer v first) (turns_from older newer v count (suc first)), some_in older newer v at n count (suc first) (omega arith) (omega arith) here)
 ]
 
 -- the turns behind the one that gives a number
-pub after_turns : (older newer : List (List ℕ)) (v at n count first : ℕ) → first ≤ n → n < first + count → 0 < times at (turn_at older newer v n) → times at (turns_from older newer v count first) ≤ 1 → after_in at (turns_from older newer v count first) ≡ after_in at (turn_at older newer v n) ++ turns_from older newer v (first + count - (n + 1)) (n + 1)
+pub after_turns : (older newer : List (List ℕ)) (v at n count first : ℕ) → first ≤ n → n < first + count → 0 < times at (turn_at older newer v n)
+    → times at (turns_from older newer v count first) ≤ 1 → after_in at (turns_from older newer v count first) ≡ after_in at (turn_at older newer v n)
+    ++ turns_from older newer v (first + count - (n + 1)) (n + 1)
 unfolding turns_from
 after_turns older newer v at n zero first from to here few = absurd (omega arith)
 after_turns older newer v at n (suc count) first from to here few = elim (cases_eq first n) [
@@ -214,7 +221,8 @@ after_turns older newer v at n (suc count) first from to here few = elim (cases_
       ∙ after_in-some at (turn_at older newer v n) (turns_from older newer v count (suc first)) here
       ∙ (λ i. after_in at (turn_at older newer v n) ++ turns_from older newer v (sym one i) (next i)))
   | inr later' ↦
-      (let split : times at (turn_at older newer v first ++ turns_from older newer v count (suc first)) ≡ times at (turn_at older newer v first) + times at (turns_from older newer v count (suc first)) = times-append at (turn_at older newer v first) (turns_from older newer v count (suc first)) in
+      (let split : times at (turn_at older newer v first ++ turns_from older newer v count (suc first)) ≡ times at (turn_at older newer v first) + times at
+      (turns_from older newer v count (suc first)) = times-append at (turn_at older newer v first) (turns_from older newer v count (suc first)) in
       let later_some : 0 < times at (turns_from older newer v count (suc first)) = some_in older newer v at n count (suc first) (omega arith) (omega arith) here in
       let size : first + suc count - (n + 1) ≡ suc first + count - (n + 1) = omega arith in
       after_in-none at (turn_at older newer v first) (turns_from older newer v count (suc first)) (omega arith)
@@ -229,7 +237,8 @@ module _ {V : Type 0} (items : List (Option (Element V))) (older newer : List (L
     pub positive : 0 < number
     pub within : number < turns_of older newer v
     pub there : 0 < times at (turn_at older newer v number)
-    pub told : (e : Element V) → at_item items at ≡ Some e → number ≡ 1 + (place e.hash / 2 ^ (64 - bits_of (length (larger_of older newer))) - first_block (bits_of (length (larger_of older newer))) v)
+    pub told : (e : Element V) → at_item items at ≡ Some e → number ≡ 1 +
+        (place e.hash / 2 ^ (64 - bits_of (length (larger_of older newer))) - first_block (bits_of (length (larger_of older newer))) v)
     pub from : (e : Element V) → at_item items at ≡ Some e → first_block (bits_of (length (larger_of older newer))) v ≤ place e.hash / 2 ^ (64 - bits_of (length (larger_of older newer)))
     pub is_there : IsSome (at_item items at)
 
@@ -245,26 +254,40 @@ module _ {V : Type 0} (items : List (Option (Element V))) (older newer : List (L
   pub told_turn : (at : ℕ) → 0 < times at (turns_from older newer v (turns_of older newer v) 0) → (0 < times at (turn_at older newer v 0) → ⊥) → IsTold at
   told_turn at there other =
       let t = in_turn older newer v at (turns_of older newer v) 0 there in
-      let pos : 0 < t.number = elim (cases_lt 0 t.number) [ inl p ↦ p | inr z ↦ (let first : t.number ≡ 0 = omega arith in absurd (other (subst (λ n. 0 < times at (turn_at older newer v n)) first t.there))) ] in
+      let pos : 0 < t.number = elim (cases_lt 0 t.number)
+      [ inl p ↦ p | inr z ↦ (let first : t.number ≡ 0 = omega arith in absurd (other (subst (λ n. 0 < times at (turn_at older newer v n)) first t.there))) ] in
       let within : t.number < turns_of older newer v = omega (arith, t.to) in
       let l = later items older newer v s t.number within pos in
-      let block : first_block (bits_of (length (larger_of older newer))) v + (t.number - 1) < 2 ^ bits_of (length (larger_of older newer)) = subst (λ b. first_block b v + (t.number - 1) < 2 ^ b) (sym l.is) l.block in
+      let block : first_block (bits_of (length (larger_of older newer))) v + (t.number - 1) < 2 ^ bits_of (length (larger_of older newer)) =
+      subst (λ b. first_block b v + (t.number - 1) < 2 ^ b) (sym l.is) l.block in
       let few : bits_of (length (larger_of older newer)) < 64 = omega (arith, l.is, l.few) in
       let power : length (larger_of older newer) ≡ 2 ^ bits_of (length (larger_of older newer)) = l.power ∙ ap (λ b. 2 ^ b) (sym l.is) in
-      let row : 0 < times at (turn (larger_of older newer) (bits_of (length (larger_of older newer))) (reversed (bits_of (length (larger_of older newer))) (first_block (bits_of (length (larger_of older newer))) v + (t.number - 1)))) = subst (λ r. 0 < times at r) (turn_later older newer v t.number pos) t.there in
-      let p = names_larger (reversed (bits_of (length (larger_of older newer))) (first_block (bits_of (length (larger_of older newer))) v + (t.number - 1)) % 2 ^ bits_of (length (larger_of older newer))) at row in
-      let low : p.0.hash % 2 ^ bits_of (length (larger_of older newer)) ≡ reversed (bits_of (length (larger_of older newer))) (first_block (bits_of (length (larger_of older newer))) v + (t.number - 1)) % 2 ^ bits_of (length (larger_of older newer)) = ap (λ n. p.0.hash % n) (sym power) ∙ p.2 in
+      let row : 0 < times at
+      (turn (larger_of older newer) (bits_of (length (larger_of older newer)))
+      (reversed (bits_of (length (larger_of older newer))) (first_block (bits_of (length (larger_of older newer))) v + (t.number - 1)))) =
+      subst (λ r. 0 < times at r) (turn_later older newer v t.number pos) t.there in
+      let p = names_larger
+      (reversed (bits_of (length (larger_of older newer))) (first_block (bits_of (length (larger_of older newer))) v + (t.number - 1)) % 2 ^ bits_of (length (larger_of older newer)))
+      at row in
+      let low : p.0.hash % 2 ^ bits_of (length (larger_of older newer)) ≡ reversed (bits_of (length (larger_of older newer)))
+      (first_block (bits_of (length (larger_of older newer))) v + (t.number - 1)) % 2 ^ bits_of (length (larger_of older newer)) = ap (λ n. p.0.hash % n) (sym power) ∙ p.2 in
       let mine : reversed (bits_of (length (larger_of older newer))) p.0.hash ≡ first_block (bits_of (length (larger_of older newer))) v + (t.number - 1)
-      = reversed_from_low (bits_of (length (larger_of older newer))) p.0.hash (reversed (bits_of (length (larger_of older newer))) (first_block (bits_of (length (larger_of older newer))) v + (t.number - 1))) low
+      = reversed_from_low (bits_of (length (larger_of older newer))) p.0.hash
+      (reversed (bits_of (length (larger_of older newer))) (first_block (bits_of (length (larger_of older newer))) v + (t.number - 1))) low
       ∙ reversed-twice (bits_of (length (larger_of older newer))) (first_block (bits_of (length (larger_of older newer))) v + (t.number - 1)) ∙ mod-eq_of_lt block in
-      let high : place p.0.hash / 2 ^ (64 - bits_of (length (larger_of older newer))) ≡ first_block (bits_of (length (larger_of older newer))) v + (t.number - 1) = place_high (bits_of (length (larger_of older newer))) p.0.hash few ∙ mine in
+      let high : place p.0.hash / 2 ^ (64 - bits_of (length (larger_of older newer))) ≡ first_block (bits_of (length (larger_of older newer))) v + (t.number - 1) =
+      place_high (bits_of (length (larger_of older newer))) p.0.hash few ∙ mine in
       record {
         number = t.number;
         positive = pos;
         within = within;
         there = t.there;
-        told = λ e found. (let one : e ≡ p.0 = (let q : Some e ≡ Some p.0 = sym found ∙ p.1 in cc) in omega (arith, ap (λ (x : Element V). place x.hash / 2 ^ (64 - bits_of (length (larger_of older newer)))) one));
-        from = λ e found. (let one : e ≡ p.0 = (let q : Some e ≡ Some p.0 = sym found ∙ p.1 in cc) in omega (arith, ap (λ (x : Element V). place x.hash / 2 ^ (64 - bits_of (length (larger_of older newer)))) one));
+        told = λ e found.
+            (let one : e ≡ p.0 = (let q : Some e ≡ Some p.0 = sym found ∙ p.1 in cc) in
+            omega (arith, ap (λ (x : Element V). place x.hash / 2 ^ (64 - bits_of (length (larger_of older newer)))) one));
+        from = λ e found.
+            (let one : e ≡ p.0 = (let q : Some e ≡ Some p.0 = sym found ∙ p.1 in cc) in
+            omega (arith, ap (λ (x : Element V). place x.hash / 2 ^ (64 - bits_of (length (larger_of older newer)))) one));
         is_there = ap is_some p.1;
       }
 

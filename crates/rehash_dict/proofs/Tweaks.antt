@@ -19,7 +19,8 @@ one_if b = cond b 1 0
 
 module _ {V : Type 0} where
   -- an entry keeps its hash and its link
-  module _ (slots : List (Option (Entry V))) (older newer : List ℕ) (waiting at : ℕ) (e f : Entry V) (l : IsLinked slots older newer waiting) (found : entry_at slots at ≡ Some e) (hash : f.hash ≡ e.hash) (next : f.next ≡ e.next) where
+  module _ (slots : List (Option (Entry V))) (older newer : List ℕ) (waiting at : ℕ) (e f : Entry V) (l : IsLinked slots older newer waiting) (found : entry_at slots at ≡ Some e)
+      (hash : f.hash ≡ e.hash) (next : f.next ≡ e.next) where
     abbrev later : List (Option (Entry V))
     later = set slots at (Some f)
 
@@ -51,13 +52,17 @@ module _ {V : Type 0} where
 
     forth : (i : ℕ) (x : Element V) → at_item (map element_of slots) i ≡ Some x → (y : Element V) × (at_item (map element_of later) i ≡ Some y) × (y.hash ≡ x.hash)
     forth i x h = elim (cases_eq i at) [
-      | inl mine ↦ (let one : x ≡ element e = (let q : Some x ≡ Some (element e) = sym h ∙ ap (at_item (map element_of slots)) mine ∙ item_was in cc) in (element f, ap (at_item (map element_of later)) mine ∙ item_now, hash ∙ ap (λ y. y.hash) (sym one)))
+      | inl mine ↦
+          (let one : x ≡ element e = (let q : Some x ≡ Some (element e) = sym h ∙ ap (at_item (map element_of slots)) mine ∙ item_was in cc) in
+          (element f, ap (at_item (map element_of later)) mine ∙ item_now, hash ∙ ap (λ y. y.hash) (sym one)))
       | inr ne ↦ (x, item_other i ne ∙ h, refl)
     ]
 
     back : (i : ℕ) (y : Element V) → at_item (map element_of later) i ≡ Some y → (x : Element V) × (at_item (map element_of slots) i ≡ Some x) × (y.hash ≡ x.hash)
     back i y h = elim (cases_eq i at) [
-      | inl mine ↦ (let one : y ≡ element f = (let q : Some y ≡ Some (element f) = sym h ∙ ap (at_item (map element_of later)) mine ∙ item_now in cc) in (element e, ap (at_item (map element_of slots)) mine ∙ item_was, ap (λ z. z.hash) one ∙ hash))
+      | inl mine ↦
+          (let one : y ≡ element f = (let q : Some y ≡ Some (element f) = sym h ∙ ap (at_item (map element_of later)) mine ∙ item_now in cc) in
+          (element e, ap (at_item (map element_of slots)) mine ∙ item_was, ap (λ z. z.hash) one ∙ hash))
       | inr ne ↦ (y, sym (item_other i ne) ∙ h, refl)
     ]
 
@@ -69,7 +74,8 @@ module _ {V : Type 0} where
         (restands (map element_of slots) (map element_of later) (rows slots older) (rows slots newer) l.stand forth back (count-map_element later ∙ same_count ∙ sym (count-map_element slots)))
         l.waits
 
-    pub swaps_in : (capacity : ℕ) (was : Held V) (swaps : Element V → Type 0) → view_of slots older newer capacity ≡ was → swaps (element e) → SwapsIn was (view_of (set slots at (Some f)) older newer capacity) at swaps
+    pub swaps_in : (capacity : ℕ) (was : Held V) (swaps : Element V → Type 0) → view_of slots older newer capacity ≡ was → swaps (element e)
+        → SwapsIn was (view_of (set slots at (Some f)) older newer capacity) at swaps
     swaps_in capacity was swaps same done = record {
       element = element e;
       found = ap (λ h. at_item h.items at) (sym same) ∙ item_was;
@@ -89,20 +95,23 @@ module _ {V : Type 0} where
     each = λ k lt. subst (IsChain slots (get_or (replicate n 0) k 0)) (sym (bucket-no_elements n k)) (get_or-replicate n k 0 0 (omega (arith, length-replicate {A = ℕ} n 0)));
   })
 
-  pub opened_newer : (slots : List (Option (Entry V))) (older newer heads : List ℕ) (waiting n : ℕ) → IsLinked slots older newer waiting → rows slots newer ≡ [] → IsSize n → heads ≡ replicate n 0 → Made slots older heads waiting (rows slots older) (no_elements {X = ℕ} n)
+  pub opened_newer : (slots : List (Option (Entry V))) (older newer heads : List ℕ) (waiting n : ℕ) → IsLinked slots older newer waiting → rows slots newer ≡ [] → IsSize n
+      → heads ≡ replicate n 0 → Made slots older heads waiting (rows slots older) (no_elements {X = ℕ} n)
   opened_newer slots older newer heads waiting n l none size is =
       made slots older heads waiting (rows slots older) (no_elements {X = ℕ} n)
       (leads_older slots older newer waiting l) (leads_empty slots n heads is)
       (opens (map element_of slots) (rows slots older) n (subst (Stand (map element_of slots) (rows slots older)) none l.stand) size) l.waits
 
-  pub opened_older : (slots : List (Option (Entry V))) (older newer heads : List ℕ) (waiting n : ℕ) → IsLinked slots older newer waiting → rows slots older ≡ [] → IsSize n → heads ≡ replicate n 0 → Made slots heads newer waiting (no_elements {X = ℕ} n) (rows slots newer)
+  pub opened_older : (slots : List (Option (Entry V))) (older newer heads : List ℕ) (waiting n : ℕ) → IsLinked slots older newer waiting → rows slots older ≡ [] → IsSize n
+      → heads ≡ replicate n 0 → Made slots heads newer waiting (no_elements {X = ℕ} n) (rows slots newer)
   opened_older slots older newer heads waiting n l none size is =
       made slots heads newer waiting (no_elements {X = ℕ} n) (rows slots newer)
       (leads_empty slots n heads is) (leads_newer slots older newer waiting l)
       (flip _ _ _ (opens (map element_of slots) (rows slots newer) n (flip _ _ _ (subst (λ t. Stand (map element_of slots) t (rows slots newer)) none l.stand)) size))
       (l.waits ∙ ap count none ∙ sym (count-no_elements ℕ n))
 
-  pub given_up : (slots : List (Option (Entry V))) (older newer heads : List ℕ) (waiting len : ℕ) → IsLinked slots older newer waiting → count (rows slots older) ≡ 0 → heads ≡ [] → len ≡ count_by is_some slots → Made slots newer heads len (rows slots newer) []
+  pub given_up : (slots : List (Option (Entry V))) (older newer heads : List ℕ) (waiting len : ℕ) → IsLinked slots older newer waiting → count (rows slots older) ≡ 0 → heads ≡ []
+      → len ≡ count_by is_some slots → Made slots newer heads len (rows slots newer) []
   given_up slots older newer heads waiting len l none is all =
       made slots newer heads len (rows slots newer) []
       (leads_newer slots older newer waiting l)

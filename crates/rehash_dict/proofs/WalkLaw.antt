@@ -69,12 +69,16 @@ more_fits small large v order width h =
 more_test : (small large v : ℕ) → small ≤ large → large < 64 → first_block large v + 1 < last_block small large v → bit_and (next_of v large) (bit_xor (2 ^ small - 1) (2 ^ large - 1)) ≡ 0 → ⊥
 more_test small large v order width h test =
     let d : ℕ = large - small in
-    let rest : (first_block large v + 1) % 2 ^ (large - small) ≡ 0 = ap (λ (x : ℕ). x % 2 ^ (large - small)) (sym (stepped_block large v width (more_fits small large v order width h))) ∙ at_test small large (next_of v large) order width test in
+    let rest : (first_block large v + 1) % 2 ^ (large - small) ≡ 0 = ap (λ (x : ℕ). x % 2 ^ (large - small)) (sym (stepped_block large v width (more_fits small large v order width h)))
+    ∙ at_test small large (next_of v large) order width test in
     let whole : (first_block large v + 1) / 2 ^ (large - small) * 2 ^ (large - small) ≡ first_block large v + 1 = omega (arith, shr_split (first_block large v + 1) (large - small), rest) in
-    let below : (first_block large v + 1) / 2 ^ (large - small) < place v / 2 ^ (64 - small) + 1 = div_below (first_block large v + 1) (2 ^ (large - small)) (place v / 2 ^ (64 - small) + 1) (pow_pos (large - small)) h in
+    let below : (first_block large v + 1) / 2 ^ (large - small) < place v / 2 ^ (64 - small) + 1 =
+    div_below (first_block large v + 1) (2 ^ (large - small)) (place v / 2 ^ (64 - small) + 1) (pow_pos (large - small)) h in
     let few : (first_block large v + 1) / 2 ^ (large - small) ≤ place v / 2 ^ (64 - small) = omega arith in
     let under : (first_block large v + 1) / 2 ^ (large - small) * 2 ^ (large - small) ≤ place v / 2 ^ (64 - small) * 2 ^ (large - small) = mul-le-mul_right (2 ^ (large - small)) few in
-    let from : place v / 2 ^ (64 - small) * 2 ^ (large - small) ≤ first_block large v = le-div (place v / 2 ^ (64 - small) * 2 ^ (large - small)) (place v) (2 ^ (64 - large)) (pow_pos (64 - large)) (omega (arith, whole_start small large v order width, block_start-le (64 - small) (place v))) in
+    let from : place v / 2 ^ (64 - small) * 2 ^ (large - small) ≤ first_block large v =
+    le-div (place v / 2 ^ (64 - small) * 2 ^ (large - small)) (place v) (2 ^ (64 - large)) (pow_pos (64 - large))
+    (omega (arith, whole_start small large v order width, block_start-le (64 - small) (place v))) in
     omega (arith, whole, under, from)
 
 more_same : (small large v : ℕ) → small ≤ large → large < 64 → first_block large v + 1 < last_block small large v → place (next_of v large) / 2 ^ (64 - small) ≡ place v / 2 ^ (64 - small)
@@ -88,7 +92,8 @@ more_same small large v order width h =
     mul_lt a b k h pos = omega (arith, mul-le-mul_right k h, suc-mul a k)
 
 -- the section's loop gives the buckets of the blocks, and the smaller table's next cursor
-pub walked : {X : Type 0} (rows : List (List X)) (small large count extra v : ℕ) → small ≤ large → large < 64 → first_block large v + suc count ≡ last_block small large v → walk rows small large (suc (count + extra)) v ≡ (blocks_from rows large (suc count) (first_block large v), next_of v small)
+pub walked : {X : Type 0} (rows : List (List X)) (small large count extra v : ℕ) → small ≤ large → large < 64 → first_block large v + suc count ≡ last_block small large v
+    → walk rows small large (suc (count + extra)) v ≡ (blocks_from rows large (suc count) (first_block large v), next_of v small)
 unfolding walk blocks_from
 walked {X} rows small large zero extra v order width e =
     let stop : (bit_and (next_of v large) (bit_xor (2 ^ small - 1) (2 ^ large - 1)) == 0) ≡ true = yes_zero _ (last_test small large v order width (omega (arith, e))) in
@@ -99,10 +104,12 @@ walked {X} rows small large zero extra v order width e =
 walked {X} rows small large (suc count) extra v order width e =
     let more : first_block large v + 1 < last_block small large v = omega arith in
     let going : (bit_and (next_of v large) (bit_xor (2 ^ small - 1) (2 ^ large - 1)) == 0) ≡ false = no_zero _ (more_test small large v order width more) in
-    let first : first_block large (next_of v large) ≡ suc (first_block large v) = place_high large (next_of v large) width ∙ stepped_block large v width (more_fits small large v order width more) ∙ omega arith in
+    let first : first_block large (next_of v large) ≡ suc (first_block large v) = place_high large (next_of v large) width
+    ∙ stepped_block large v width (more_fits small large v order width more) ∙ omega arith in
     let same : place (next_of v large) / 2 ^ (64 - small) ≡ place v / 2 ^ (64 - small) = more_same small large v order width more in
     let last : last_block small large (next_of v large) ≡ last_block small large v = ap (λ (x : ℕ). (x + 1) * 2 ^ (large - small)) same in
-    let end : next_of (next_of v large) small ≡ next_of v small = next_is small (next_of v large) (omega arith) ∙ ap (λ (x : ℕ). reversed 64 ((x + 1) * 2 ^ (64 - small) % 2 ^ 64)) same ∙ sym (next_is small v (omega arith)) in
+    let end : next_of (next_of v large) small ≡ next_of v small = next_is small (next_of v large) (omega arith) ∙ ap (λ (x : ℕ). reversed 64 ((x + 1) * 2 ^ (64 - small) % 2 ^ 64)) same
+    ∙ sym (next_is small v (omega arith)) in
     let fuel : suc count + extra ≡ suc (count + extra) = omega arith in
     let rest : walk rows small large (suc count + extra) (next_of v large) ≡ (blocks_from rows large (suc count) (suc (first_block large v)), next_of v small)
     = ap (λ (x : ℕ). walk rows small large x (next_of v large)) fuel

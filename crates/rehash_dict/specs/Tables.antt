@@ -1,6 +1,7 @@
 -- The tables of a dictionary, as Redis's dict has them: no table, one list of buckets, or two and the position of the
 -- rehash from the older into the newer. Elements are named by anything that has a hash.
-use Rattle.std.specs.Prelude.{zero, suc, ◌≡◌, ◌+◌, ◌*◌, ◌%◌, ◌==◌, ◌&&◌, nat_lt, nat_le, not, max, ℕ, Bool, false, List, [], ◌∷◌, length, map, filter, sum_by, replicate, slice_index_or, slice_set, Option, Some, None, if◌then◌else◌}
+use Rattle.std.specs.Prelude.{zero, suc, ◌≡◌, ◌+◌, ◌*◌, ◌%◌, ◌==◌, ◌&&◌, nat_lt, nat_le, not, max, ℕ, Bool, false, List, [], ◌∷◌, length, map, filter, sum_by, replicate, slice_index_or}
+use Rattle.std.specs.Prelude.{slice_set, Option, Some, None, if◌then◌else◌}
 
 -- `newer` has no bucket where no rehash is going on, and neither has a bucket where there is no table. The buckets
 -- of the older table below the position have been moved.

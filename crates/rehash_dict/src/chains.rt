@@ -1,6 +1,7 @@
 //! Two tables of chains over one slab of entries.
 
-ghost use Rattle.std.specs.Prelude.{◌≡◌, ◌≢◌, ◌+◌, ◌<◌, ◌≤◌, ◌%◌, ◌^◌, ℕ, length, [], ◌∷◌, ◌++◌, Some, None, IsSome, IfSome, IfNone, OnOk, is_some, count_by, slice_index, slice_set, replicate, IsTrue, ◌↔◌, vec_len, MatchBool};
+ghost use Rattle.std.specs.Prelude.{◌≡◌, ◌≢◌, ◌+◌, ◌<◌, ◌≤◌, ◌%◌, ◌^◌, ℕ, length, [], ◌∷◌, ◌++◌, Some, None, IsSome, IfSome, IfNone, OnOk, is_some, count_by, slice_index, slice_set};
+ghost use Rattle.std.specs.Prelude.{replicate, IsTrue, ◌↔◌, vec_len, MatchBool};
 ghost use Rattle.std.specs.Option.{option_copied};
 ghost use Rattle.slab.specs.Slab.{get, slab_len, HasRoomFor};
 ghost use Rattle.rehash_dict.specs.declared.chains.Entry.{Entry};

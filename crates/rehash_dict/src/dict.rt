@@ -1,10 +1,12 @@
 //! The dictionary: look-ups, edits, growing, rehashing and shrinking.
 
-ghost use Rattle.std.specs.Prelude.{◌≡◌, ◌≢◌, ℕ, ◌+◌, ◌*◌, ◌%◌, ◌^◌, ◌<◌, ◌≤◌, ◌↔◌, max, List, [], length, Option, Some, None, IfOk, IfErr, OnErr, OnOk, IfSome, IfNone, IsSome, IsTrue, true, false, is_some, count_by, replicate, MatchBool};
+ghost use Rattle.std.specs.Prelude.{◌≡◌, ◌≢◌, ℕ, ◌+◌, ◌*◌, ◌%◌, ◌^◌, ◌<◌, ◌≤◌, ◌↔◌, max, List, [], length, Option, Some, None, IfOk, IfErr, OnErr, OnOk, IfSome, IfNone, IsSome, IsTrue};
+ghost use Rattle.std.specs.Prelude.{true, false, is_some, count_by, replicate, MatchBool};
 ghost use Rattle.rev_cursor.specs.Span.{times};
 ghost use Rattle.blocks.specs.declared.BlockRef.{BlockRef};
 ghost use Rattle.blocks.specs.Blocks.{Blocks, bytes_at};
-ghost use Rattle.rehash_dict.specs.Tables.{Tables, bucket, count, full_within, is_rehashing, stepped, inserted, removed, shrunk, wants_shrink, with_room, no_elements, least_power, rehashed, IsSettled};
+ghost use Rattle.rehash_dict.specs.Tables.{Tables, bucket, count, full_within, is_rehashing, stepped, inserted, removed, shrunk, wants_shrink, with_room, no_elements, least_power};
+ghost use Rattle.rehash_dict.specs.Tables.{rehashed, IsSettled};
 ghost use Rattle.rehash_dict.specs.Table.{Element, Table, item, tables, table_len, Agrees, Updates};
 ghost use Rattle.rehash_dict.specs.Placed.{IsPlaced, IsSize};
 ghost use Rattle.rehash_dict.specs.Keyed.{hash_of, key_of, same_key, Stands, Lacks, Keyed, key_tables};
@@ -225,7 +227,8 @@ impl<V> Dict<V> {
         ensures added { IfOk result (λ at. Adds self.old self.new at (record { key = key; hash = hash; value = value })) }
         ensures value_returned { IfErr result (λ failed. failed.0 ≡ value) }
         ensures err { OnErr result (self.new ≡ self.old) }
-        ensures grown { (blocks : Blocks) → Keyed blocks self.old → IsSome (blocks key) → hash ≡ hash_of self.old.seed (bytes_at blocks key) → Lacks blocks self.old (bytes_at blocks key) → Grown (hash_of self.old.seed) (key_tables blocks self.old) (key_tables blocks self.new) }
+        ensures grown { (blocks : Blocks) → Keyed blocks self.old → IsSome (blocks key) → hash ≡ hash_of self.old.seed (bytes_at blocks key) → Lacks blocks self.old (bytes_at blocks key)
+            → Grown (hash_of self.old.seed) (key_tables blocks self.old) (key_tables blocks self.new) }
     {
         if let Err(error) = make_room(&mut self.chains, self.alloc, self.position) {
             return Err((value, error));

@@ -31,7 +31,8 @@ pub record Longer (bytes : List ℕ) (read end words : ℕ) (spans : List Span) 
   pub each : AllByRecursion IsWord (words_at bytes spans)
   pub whole : bytes ≡ header 42 (decimal words) ++ (flat_map bulk (words_at bytes spans) ++ drop end bytes)
 
-pub longer : (bytes : List ℕ) (read words len : ℕ) (spans : List Span) → StandsAtBody bytes read words len spans → IsWholeBody (drop read bytes) len → Longer bytes read (read + len + 2) words (spans ++ record { start = read; len = len } ∷ [])
+pub longer : (bytes : List ℕ) (read words len : ℕ) (spans : List Span) → StandsAtBody bytes read words len spans → IsWholeBody (drop read bytes) len
+    → Longer bytes read (read + len + 2) words (spans ++ record { start = read; len = len } ∷ [])
 longer bytes read words len spans s w =
     let one : Span = record { start = read; len = len } in
     let rest = drop read bytes in
@@ -51,7 +52,8 @@ longer bytes read words len spans s w =
     let head = header 42 (decimal words) in
     let length_head = header 36 (decimal (length word)) in
     let as_word : s.rest ≡ bulk word ++ drop end bytes =
-    s.headed ∙ ap (λ m. header 36 (decimal m) ++ rest) (sym n) ∙ ap (λ l. length_head ++ l) (w.whole ∙ append_assoc word line_end (drop (len + 2) rest)) ∙ ap (λ l. length_head ++ (word ++ 13 ∷ 10 ∷ l)) after ∙ sym (as_bulk word (drop end bytes)) in
+    s.headed ∙ ap (λ m. header 36 (decimal m) ++ rest) (sym n) ∙ ap (λ l. length_head ++ l) (w.whole ∙ append_assoc word line_end (drop (len + 2) rest))
+    ∙ ap (λ l. length_head ++ (word ++ 13 ∷ 10 ∷ l)) after ∙ sym (as_bulk word (drop end bytes)) in
     let fits : read + len ≤ length bytes = omega (arith, length-drop read bytes) in
     record {
       within = omega (arith, length-drop read bytes);
@@ -85,7 +87,8 @@ all_words bytes read end words spans h is =
       whole = h.whole ∙ ap (λ k. header 42 (decimal k) ++ (flat_map bulk ws ++ drop end bytes)) count ∙ sym (append_assoc (header 42 (decimal (length ws))) (flat_map bulk ws) (drop end bytes));
     }
 
-pub more_words : (bytes : List ℕ) (read end words : ℕ) (spans : List Span) → Longer bytes read end words spans → (length spans ≡ words → ⊥) → GoesOn bytes read (record { read = end; due = due.Length words 0 }) spans
+pub more_words : (bytes : List ℕ) (read end words : ℕ) (spans : List Span) → Longer bytes read end words spans → (length spans ≡ words → ⊥)
+    → GoesOn bytes read (record { read = end; due = due.Length words 0 }) spans
 more_words bytes read end words spans h not =
     let many : length (words_at bytes spans) ≡ length spans = length-map spans (word_at bytes) in
     let at_most : length spans ≤ words = h.at_most in
@@ -101,7 +104,8 @@ more_words bytes read end words spans h not =
       within = h.within;
     }
 
-pub body_done : (bytes : List ℕ) (read words len many : ℕ) (spans new : List Span) (r : Step) → StandsAtBody bytes read words len spans → IsWholeBody (take (length bytes - read) (drop read bytes)) len →
+pub body_done : (bytes : List ℕ) (read words len many : ℕ) (spans new : List Span) (r : Step) → StandsAtBody bytes read words len spans
+    → IsWholeBody (take (length bytes - read) (drop read bytes)) len →
     new ≡ spans ++ record { start = read; len = len } ∷ [] → many ≡ length new → r ≡ step_after (read + len + 2) words many → ReadsStep bytes read new r
 body_done bytes read words len many spans new r s w is count e =
     let W : List ℕ → Type 0 = λ l. IsWholeBody l len in
@@ -114,7 +118,8 @@ body_done bytes read words len many spans new r s w is count e =
     (λ not. more_words bytes read end words new h (λ same. not (count ∙ same))))
 
 -- a header that is passed over
-pub passed_header : (bytes : List ℕ) (scanned n : ℕ) (spans : List Span) → StandsAtCount bytes 0 scanned spans → IsHeader 42 bytes n → IsNoCount (take (n + 1 - 1) (drop 1 bytes)) → IsPassedAt bytes (n + 3) spans
+pub passed_header : (bytes : List ℕ) (scanned n : ℕ) (spans : List Span) → StandsAtCount bytes 0 scanned spans → IsHeader 42 bytes n → IsNoCount (take (n + 1 - 1) (drop 1 bytes))
+    → IsPassedAt bytes (n + 3) spans
 passed_header bytes scanned n spans s h count =
     let cut : take (n + 1 - 1) (drop 1 bytes) ≡ text_of bytes n = ap (λ k. take k (drop 1 bytes)) (omega arith) in
     record {

@@ -93,7 +93,8 @@ fault_is rule rule' from from' e f = sym (ap (λ r. Wrong r from) e ∙ ap (Wron
 -- a fault of the bulk string at the front is what its reading tells
 pub bulk_first : (bytes : List ℕ) (rule : Rule) (from : List ℕ) → BulkFault bytes rule from → read_bulk bytes ≡ Wrong rule from
 unfolding read_bulk
-bulk_first bytes rule from (other_mark b more r f e ne) = ap read_bulk e ∙ on_other b 36 (read_marked (b ∷ more)) (Wrong rules.ExpectedDollar (b ∷ more)) ne ∙ fault_is rule rules.ExpectedDollar from (b ∷ more) r (f ∙ e)
+bulk_first bytes rule from (other_mark b more r f e ne) = ap read_bulk e ∙ on_other b 36 (read_marked (b ∷ more)) (Wrong rules.ExpectedDollar (b ∷ more)) ne
+    ∙ fault_is rule rules.ExpectedDollar from (b ∷ more) r (f ∙ e)
 bulk_first bytes rule from (length_line h) =
     let begins = line_begins 36 rule bytes from h in
     marked bytes begins.0 begins.1 ∙ ap (λ x. read_on x (λ text more. read_word bytes (read_number longest text) more)) (line_first 36 rule bytes from h)
@@ -149,7 +150,8 @@ body_is bytes len rest le e =
       | b ∷ more ↦ λ f.
           let n : length (take len rest) ≡ len = length_taken len rest b more f in
           let whole : rest ≡ take len rest ++ b ∷ more = sym (take-append-drop len rest) ∙ ap (λ l. take len rest ++ l) f in
-          let m : bytes ≡ header 36 (decimal (length (take len rest))) ++ (take len rest ++ b ∷ more) = e ∙ ap (λ k. header 36 (decimal k) ++ rest) (sym n) ∙ ap (λ l. header 36 (decimal (length (take len rest))) ++ l) whole in
+          let m : bytes ≡ header 36 (decimal (length (take len rest))) ++ (take len rest ++ b ∷ more) = e ∙ ap (λ k. header 36 (decimal k) ++ rest) (sym n)
+          ∙ ap (λ l. header 36 (decimal (length (take len rest))) ++ l) whole in
           return_is bytes (take len rest) (b ∷ more) (record { whole = m; small = omega arith })
     ] refl
 
@@ -198,7 +200,8 @@ bulks_open (suc n) (w ∷ words) rest less h e =
     ∙ ap (λ x. read_on x (λ ws end. Took (w ∷ ws) end)) (bulks_open n words rest (omega arith) h.1 e)
 
 -- where fewer words are whole than are due and the rest is wrong, the reading tells that fault
-pub bulks_wrong : (n : ℕ) (words : Words) (rest : List ℕ) (rule : Rule) (from : List ℕ) → length words < n → AllByRecursion IsWord words → read_bulk rest ≡ Wrong rule from → read_bulks n (flat_map bulk words ++ rest) ≡ Wrong rule from
+pub bulks_wrong : (n : ℕ) (words : Words) (rest : List ℕ) (rule : Rule) (from : List ℕ) → length words < n → AllByRecursion IsWord words → read_bulk rest ≡ Wrong rule from
+    → read_bulks n (flat_map bulk words ++ rest) ≡ Wrong rule from
 unfolding read_bulks
 bulks_wrong zero words rest rule from less h e = absurd (omega arith)
 bulks_wrong (suc n) [] rest rule from less h e = ap (λ x. read_on x (λ word more. read_on (read_bulks n more) (λ ws end. Took (word ∷ ws) end))) e
@@ -241,7 +244,8 @@ more_are n bytes w rest small e (Wrong rule from) h =
     }
 
 -- what holds of the reading of a bulk string and of that of so many others behind it holds of one more
-then_more : (n : ℕ) (bytes : List ℕ) → ((rest : List ℕ) → BulksIs n rest (read_bulks n rest)) → (x : Read (List ℕ)) → BulkIs bytes x → BulksIs (suc n) bytes (read_on x (λ word rest. read_on (read_bulks n rest) (λ words end. Took (word ∷ words) end)))
+then_more : (n : ℕ) (bytes : List ℕ) → ((rest : List ℕ) → BulksIs n rest (read_bulks n rest)) → (x : Read (List ℕ)) → BulkIs bytes x
+    → BulksIs (suc n) bytes (read_on x (λ word rest. read_on (read_bulks n rest) (λ words end. Took (word ∷ words) end)))
 then_more n bytes again (Took w rest) h = more_are n bytes w rest h.0 h.1 (read_bulks n rest) (again rest)
 then_more n bytes again Open h = tt
 then_more n bytes again (Wrong rule from) h = record { words = []; rest = bytes; whole = refl; each = tt; due = omega arith; fault = h }

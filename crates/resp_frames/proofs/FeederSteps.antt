@@ -1,5 +1,6 @@
 -- What a feeder gives out.
-use Rattle.std.proofs.Common.{◌≡◌, ℕ, ◌+◌, ◌-◌, ◌<◌, ◌≤◌, List, [], ◌∷◌, true, false, Bool, Option, None, Result, Ok, Err, length, drop, take, length-drop, arith, sym, ap, subst, ◌∙◌, refl, inl, inr, ◌⊎◌}
+use Rattle.std.proofs.Common.{◌≡◌, ℕ, ◌+◌, ◌-◌, ◌<◌, ◌≤◌, List, [], ◌∷◌, true, false, Bool, Option, None, Result, Ok, Err, length, drop, take, length-drop, arith, sym, ap, subst, ◌∙◌}
+use Rattle.std.proofs.Common.{refl, inl, inr, ◌⊎◌}
 use Rattle.std.proofs.lemmas.List.{drop-drop, take_rest}
 use Rattle.resp_frames.specs.Reading.{read_item, Open}
 use Rattle.resp_frames.specs.Ends.{IsCut}
@@ -23,7 +24,8 @@ pub record Further (bytes : List ℕ) (at : ℕ) (spans : List Span) : Type 0 wh
   pub none : spans ≡ []
 
 -- a header more is passed over
-pub passed_further : (bytes : List ℕ) (at end : ℕ) (spans : List Span) → GivesRequests bytes (drop at bytes) [] → at ≤ length bytes → IsPassedAt (take (length bytes - at) (drop at bytes)) end spans → Further bytes (at + end) spans
+pub passed_further : (bytes : List ℕ) (at end : ℕ) (spans : List Span) → GivesRequests bytes (drop at bytes) [] → at ≤ length bytes
+    → IsPassedAt (take (length bytes - at) (drop at bytes)) end spans → Further bytes (at + end) spans
 passed_further bytes at end spans g low h =
     let P : List ℕ → Type 0 = λ l. IsPassedAt l end spans in
     let k = subst P (take_rest bytes at) h in
@@ -36,7 +38,8 @@ passed_further bytes at end spans g low h =
     }
 
 -- what the code read of the part that it lent
-whole_found : (bytes lent : List ℕ) (at passed : ℕ) (spans : List Span) (n : Next) → lent ≡ bytes → NextFound (take (length lent - at) (drop at lent)) spans passed n → NextFound (drop at bytes) spans passed n
+whole_found : (bytes lent : List ℕ) (at passed : ℕ) (spans : List Span) (n : Next) → lent ≡ bytes → NextFound (take (length lent - at) (drop at lent)) spans passed n
+    → NextFound (drop at bytes) spans passed n
 whole_found bytes lent at passed spans n same h =
     let P : List ℕ → Type 0 = λ l. NextFound l spans passed n in
     subst P (take_rest lent at ∙ ap (drop at) same) h
@@ -69,7 +72,8 @@ module _ (old : Feeding) (gone at passed : ℕ) (bytes lent : List ℕ) (spans :
       let P : List ℕ → List ℕ → List ℕ → Type 0 = λ a b l. GivesRequests a b (words_at l spans ∷ []) in
       record {
         words = words_at (drop (at + passed) bytes) spans;
-        gives = subst (λ a. P a (drop (at + passed + end) bytes) (drop (at + passed) bytes)) kept (subst (λ b. P (drop at bytes) b (drop (at + passed) bytes)) left (subst (λ l. P (drop at bytes) (drop end (drop passed (drop at bytes))) l) rest g));
+        gives = subst (λ a. P a (drop (at + passed + end) bytes) (drop (at + passed) bytes)) kept
+            (subst (λ b. P (drop at bytes) b (drop (at + passed) bytes)) left (subst (λ l. P (drop at bytes) (drop end (drop passed (drop at bytes))) l) rest g));
         current = refl;
         fed = fed_as_before end (let v : passed ≤ length (drop at bytes) = m.within in omega (arith, length-drop passed (drop at bytes)));
       }
@@ -80,7 +84,8 @@ module _ (old : Feeding) (gone at passed : ℕ) (bytes lent : List ℕ) (spans :
   fed_none : passed ≤ length (drop at bytes) → gone + (at + passed) + length (drop (at + passed) bytes) ≡ old.gone + length old.kept
   fed_none w = let k : length (drop at bytes) ≡ length old.kept = ap length kept in omega (arith, length-drop (at + passed) bytes, length-drop at bytes)
 
-  pub none_out : (base : ℕ) (spans' : List Span) (ready : Bool) → ready ≡ false → (p : Progress) → NextFound (take (length lent - at) (drop at lent)) spans passed (next.Open p) → GivesNone old (feeding gone bytes base (at + passed) spans' ready)
+  pub none_out : (base : ℕ) (spans' : List Span) (ready : Bool) → ready ≡ false → (p : Progress) → NextFound (take (length lent - at) (drop at lent)) spans passed (next.Open p)
+      → GivesNone old (feeding gone bytes base (at + passed) spans' ready)
   none_out base spans' ready not p h =
       let m = whole_found bytes lent at passed spans (next.Open p) same h in
       let rest = drop (at + passed) bytes in
@@ -92,7 +97,9 @@ module _ (old : Feeding) (gone at passed : ℕ) (bytes lent : List ℕ) (spans :
         fed = fed_none m.within;
       }
 
-  pub fault_out : (base : ℕ) (spans' : List Span) (ready : Bool) → ready ≡ false → (rule : Rule) (place : ℕ) → NextFound (take (length lent - at) (drop at lent)) spans passed (next.Broken rule place) → GivesFault old (feeding gone bytes base (at + passed) spans' ready) rule (gone + (at + passed + place))
+  pub fault_out : (base : ℕ) (spans' : List Span) (ready : Bool) → ready ≡ false → (rule : Rule) (place : ℕ)
+      → NextFound (take (length lent - at) (drop at lent)) spans passed (next.Broken rule place)
+      → GivesFault old (feeding gone bytes base (at + passed) spans' ready) rule (gone + (at + passed + place))
   fault_out base spans' ready not rule place h =
       let m = whole_found bytes lent at passed spans (next.Broken rule place) same h in
       let rest = rest_is bytes at passed in
@@ -125,7 +132,8 @@ as_before lent old new (Ok false) h = record { gives = h.gives; rest = h.rest; c
 as_before lent old new (Err (faults.Protocol rule at)) h = record { gives = h.gives; from = h.from; fault = h.fault; place = h.place; current = h.current; fed = h.fed }
 as_before lent old new (Err faults.Memory) h = h
 
-pub next_as_before : (gone : ℕ) (kept : List ℕ) (lent : Option Words) (old new : Feeding) (r : Result Bool FrameFault) → gone ≡ old.gone → kept ≡ old.kept → NextIs (record { gone = gone; kept = kept; current = lent }) r new → NextIs old r new
+pub next_as_before : (gone : ℕ) (kept : List ℕ) (lent : Option Words) (old new : Feeding) (r : Result Bool FrameFault) → gone ≡ old.gone → kept ≡ old.kept
+    → NextIs (record { gone = gone; kept = kept; current = lent }) r new → NextIs old r new
 next_as_before gone kept lent old new r same_gone same_kept h =
     let P : ℕ → Type 0 = λ g. NextIs (record { gone = g; kept = kept; current = lent }) r new in
     let Q : List ℕ → Type 0 = λ k. NextIs (record { gone = old.gone; kept = k; current = lent }) r new in

@@ -30,7 +30,8 @@ line_scanned_stays bytes piece n h =
     let w : n ≤ length bytes = h.within in
     record { within = omega (arith, length-append bytes piece); few = h.few; plain = subst (IsWithout 10) (sym (take-append-le n bytes piece h.within)) h.plain }
 
-begun_further : (bytes piece : List ℕ) (n : ℕ) (spans : List Span) (rest : List ℕ) → AreWithin bytes spans → Begun bytes n (words_at bytes spans) rest → Begun (bytes ++ piece) n (words_at (bytes ++ piece) spans) (rest ++ piece)
+begun_further : (bytes piece : List ℕ) (n : ℕ) (spans : List Span) (rest : List ℕ) → AreWithin bytes spans → Begun bytes n (words_at bytes spans) rest
+    → Begun (bytes ++ piece) n (words_at (bytes ++ piece) spans) (rest ++ piece)
 begun_further bytes piece n spans rest h b = subst (λ ws. Begun (bytes ++ piece) n ws (rest ++ piece)) (sym (words_stay bytes piece spans h)) (begun_stays bytes n (words_at bytes spans) rest piece b)
 
 pub stands_stays : (bytes piece : List ℕ) (read : ℕ) (spans : List Span) (d : Due) → Stands bytes read spans d → Stands (bytes ++ piece) read spans d
@@ -87,6 +88,7 @@ pub appended : (b : Bool) (old piece new : List ℕ) → new ≡ (if b then old 
 appended true old piece new e = e
 appended false old piece new e = e ∙ sym (append-nil old)
 
-pub appended_fits : (b : Bool) (gone at most : ℕ) (old piece new : List ℕ) → new ≡ (if b then old ++ piece else old) → at ≤ length old → gone + at + length (drop at old) + length piece ≤ most → gone + length new ≤ most
+pub appended_fits : (b : Bool) (gone at most : ℕ) (old piece new : List ℕ) → new ≡ (if b then old ++ piece else old) → at ≤ length old
+    → gone + at + length (drop at old) + length piece ≤ most → gone + length new ≤ most
 appended_fits true gone at most old piece new e w h = omega (arith, ap length e, length-append old piece, length-drop at old)
 appended_fits false gone at most old piece new e w h = omega (arith, ap length e, length-drop at old)

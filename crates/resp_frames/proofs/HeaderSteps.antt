@@ -42,7 +42,16 @@ endless bytes n c is =
 pub no_line_end : (bytes : List ℕ) (n : ℕ) → Cuts bytes n → n ≢ longest_header → n + 1 < length bytes → get_or bytes (n + 1) 0 ≢ 10 → ReadsText bytes (headers.Broken rules.ExpectedCrLf (n + 2))
 no_line_end bytes n c not long other = inr (
   refl,
-  record { text = take n bytes; b = get_or bytes (n + 1) 0; within = omega arith; whole = cut_twice bytes n c not long; long = omega (arith, length-take n bytes); good = text_is bytes n c not; other = other },
+  record {
+    text = take n bytes;
+    b = get_or bytes (n + 1) 0;
+    within = omega arith;
+    whole = cut_twice bytes n c not long;
+    long = omega (arith, length-take n bytes);
+    good =
+        text_is bytes n c not;
+    other = other;
+  },
 )
 
 starts : (bytes : List ℕ) (mark : ℕ) → 0 < length bytes → get_or bytes 0 0 ≡ mark → bytes ≡ mark ∷ drop 1 bytes
@@ -63,7 +72,12 @@ with_mark mark bytes (headers.Open n) h =
     let P : List ℕ → Type 0 = λ l. read_header (mark ∷ l) ≡ Open in
     record {
       begun = inr refl;
-      scanned = record { within = h.within; few = let s : length (take n bytes) < longest_header = h.text.short in let w : n ≤ length bytes = h.within in omega (arith, length-take n bytes); plain = h.text.plain };
+      scanned = record {
+        within = h.within;
+        few = let s : length (take n bytes) < longest_header = h.text.short in let w : n ≤ length bytes = h.within in omega (arith, length-take n bytes);
+        plain =
+            h.text.plain;
+      };
       more = elim h.whole [ inl e ↦ subst P (sym e) (header_begun mark (take n bytes) h.text) | inr e ↦ subst P (sym e) (header_returned mark (take n bytes) h.text) ];
     }
 with_mark mark bytes (headers.Text n) h =

@@ -77,7 +77,8 @@ endless_first text more h p n =
     inline_read (text ++ more) (inline_more text more (omega arith) h) (omega (arith, length-append text more))
     ∙ ap (after_line (text ++ more)) (text_long 10 (longest_line + 1) text more p n)
 
-quoted_first : (front back more : List ℕ) (q : ℕ) → IsLine (front ++ q ∷ back) → IsUnquoted front → is_quote q ≡ true → read_item (front ++ (q ∷ back ++ 10 ∷ more)) ≡ Wrong rules.QuotedInline (q ∷ back ++ 10 ∷ more)
+quoted_first : (front back more : List ℕ) (q : ℕ) → IsLine (front ++ q ∷ back) → IsUnquoted front → is_quote q ≡ true
+    → read_item (front ++ (q ∷ back ++ 10 ∷ more)) ≡ Wrong rules.QuotedInline (q ∷ back ++ 10 ∷ more)
 quoted_first front back more q h u e =
     ap read_item (sym (append_assoc front (q ∷ back) (10 ∷ more))) ∙ after_feed (front ++ q ∷ back) more h ∙ ap (λ l. read_quote (front ++ q ∷ back) l more) (quoted_again front back q u e)
 

@@ -6,7 +6,8 @@ use Rattle.std.proofs.lemmas.List.{append_assoc}
 use Rattle.plain_world.specs.Words.{Words}
 use Rattle.plain_world.specs.Spelling.{line_end}
 use Rattle.resp_frames.specs.Frames.{header, bulk, IsText, Item, Asked, Passed, Line, item_bytes, IsItem, most_words}
-use Rattle.resp_frames.specs.Faults.{LineFault, too_long, no_line_feed, NumberFault, bad_number, BulkFault, other_mark, length_line, length_number, no_return, no_feed, Begun, RequestFault, count_line, count_number, in_word, in_line}
+use Rattle.resp_frames.specs.Faults.{LineFault, too_long, no_line_feed, NumberFault, bad_number, BulkFault, other_mark, length_line, length_number, no_return, no_feed, Begun, RequestFault}
+use Rattle.resp_frames.specs.Faults.{count_line, count_number, in_word, in_line}
 use Rattle.resp_frames.specs.Ends.{IsCut}
 use Rattle.resp_frames.specs.Reading.{Read, Took, Open, Wrong, read_on, read_header, read_count, read_bulk, read_bulks, read_words, read_array, read_line, read_item}
 use Rattle.resp_frames.proofs.Choices.{on_equal, by_equal}
@@ -192,7 +193,8 @@ line_stays mark bytes rule from back (no_line_feed t more b r f e h ne) =
     no_line_feed t (more ++ back) b r (ap (λ l. l ++ back) f) (ap (λ l. l ++ back) e ∙ ap (λ l. mark ∷ l) (append_assoc t (13 ∷ from) back)) h ne
 
 -- a fault of a header's number stays, whatever comes behind it
-number_stays : (mark : ℕ) (wrong : Rule) (IsGood : List ℕ → Type 0) (bytes : List ℕ) (rule : Rule) (from back : List ℕ) → NumberFault mark wrong IsGood bytes rule from → NumberFault mark wrong IsGood (bytes ++ back) rule (from ++ back)
+number_stays : (mark : ℕ) (wrong : Rule) (IsGood : List ℕ → Type 0) (bytes : List ℕ) (rule : Rule) (from back : List ℕ) → NumberFault mark wrong IsGood bytes rule from
+    → NumberFault mark wrong IsGood (bytes ++ back) rule (from ++ back)
 number_stays mark wrong IsGood bytes rule from back (bad_number t more r f e h bad) =
     bad_number t (more ++ back) r (ap (λ l. l ++ back) f) (ap (λ l. l ++ back) e ∙ append_assoc (header mark t) more back) h bad
 

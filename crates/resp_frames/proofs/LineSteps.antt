@@ -81,7 +81,9 @@ broken_line bytes scanned rule at spans s h =
           let whole : bytes ≡ take (longest_line + 1) bytes ++ drop (longest_line + 1) bytes = sym (take-append-drop (longest_line + 1) bytes) in
           record {
             within = omega (arith, p.1);
-            fault = in_line (endless (take (longest_line + 1) bytes) (drop (longest_line + 1) bytes) p.0 (ap (λ k. drop k bytes) p.1) whole (inline_take bytes (longest_line + 1) i) p.2.plain (omega (arith, length-take (longest_line + 1) bytes)));
+            fault = in_line
+                (endless (take (longest_line + 1) bytes) (drop (longest_line + 1) bytes) p.0 (ap (λ k. drop k bytes) p.1) whole (inline_take bytes (longest_line + 1) i) p.2.plain
+                (omega (arith, length-take (longest_line + 1) bytes)));
           }
       | inr p ↦ record {
         within = quoted_within bytes at p.1;
@@ -111,7 +113,8 @@ bytes_words_at bytes n spans h w =
 words_many : (bytes : List ℕ) (spans : List Span) → length (words_at bytes spans) ≡ length spans
 words_many bytes spans = length-map spans (word_at bytes)
 
-pub request_line : (bytes : List ℕ) (scanned n : ℕ) (old spans : List Span) → StandsAtLine bytes 0 scanned old → IsWholeLine bytes n → AreWords (strip_last 13 (take n bytes)) spans → 0 < length spans → IsRequestAt bytes (n + 1) spans
+pub request_line : (bytes : List ℕ) (scanned n : ℕ) (old spans : List Span) → StandsAtLine bytes 0 scanned old → IsWholeLine bytes n → AreWords (strip_last 13 (take n bytes)) spans
+    → 0 < length spans → IsRequestAt bytes (n + 1) spans
 request_line bytes scanned n old spans s h w some =
     let text = take n bytes in
     let are = bytes_words_at bytes n spans h.line w in
@@ -133,7 +136,8 @@ no_spans : (spans : List Span) → length spans ≡ 0 → spans ≡ []
 no_spans [] e = refl
 no_spans (s ∷ spans) e = absurd (omega arith)
 
-pub passed_line : (bytes : List ℕ) (scanned n : ℕ) (old spans : List Span) → StandsAtLine bytes 0 scanned old → IsWholeLine bytes n → AreWords (strip_last 13 (take n bytes)) spans → length spans ≡ 0 → IsPassedAt bytes (n + 1) spans
+pub passed_line : (bytes : List ℕ) (scanned n : ℕ) (old spans : List Span) → StandsAtLine bytes 0 scanned old → IsWholeLine bytes n → AreWords (strip_last 13 (take n bytes)) spans
+    → length spans ≡ 0 → IsPassedAt bytes (n + 1) spans
 passed_line bytes scanned n old spans s h w none =
     let text = take n bytes in
     let empty = no_spans spans none in

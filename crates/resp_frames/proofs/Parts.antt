@@ -1,5 +1,6 @@
 -- A line is split into words.
-use Rattle.std.proofs.Common.{◌≡◌, ℕ, zero, suc, ◌+◌, ◌-◌, ◌<◌, ◌≤◌, List, [], ◌∷◌, ◌++◌, true, Bool, length, take, drop, get_or, ap, sym, subst, ◌∙◌, refl, arith, length-append, length-take, length-drop}
+use Rattle.std.proofs.Common.{◌≡◌, ℕ, zero, suc, ◌+◌, ◌-◌, ◌<◌, ◌≤◌, List, [], ◌∷◌, ◌++◌, true, Bool, length, take, drop, get_or, ap, sym, subst, ◌∙◌, refl, arith, length-append}
+use Rattle.std.proofs.Common.{length-take, length-drop}
 use Rattle.std.specs.Prelude.{filter}
 use Rattle.std.specs.List.{AllByRecursion}
 use Rattle.std.specs.Io.BufRead.{strip_last, ends_with_byte}
@@ -133,8 +134,10 @@ lent_blank line spans at len f lt found none =
     found_blank line spans at f lt (subst Q none (k (omega (arith, length-drop at line))))
 
 -- behind the bytes of the lent part up to its next blank, if there are any, one word more is found
-pub lent_word : (line : List ℕ) (spans new : List Span) (at len : ℕ) → FoundTo line spans at → len ≤ length (take (length line - at) (drop at line)) → IsWithoutBlank (take len (take (length line - at) (drop at line))) →
-    (len < length (take (length line - at) (drop at line)) → is_blank (get_or (take (length line - at) (drop at line)) len 0) ≡ true) → (len ≡ 0 → ⊥) → new ≡ spans ++ record { start = at; len = len } ∷ [] → FoundTo line new (at + len)
+pub lent_word : (line : List ℕ) (spans new : List Span) (at len : ℕ) → FoundTo line spans at → len ≤ length (take (length line - at) (drop at line))
+    → IsWithoutBlank (take len (take (length line - at) (drop at line))) →
+    (len < length (take (length line - at) (drop at line)) → is_blank (get_or (take (length line - at) (drop at line)) len 0) ≡ true) → (len ≡ 0 → ⊥) → new ≡ spans
+    ++ record { start = at; len = len } ∷ [] → FoundTo line new (at + len)
 lent_word line spans new at len f within plain found some is =
     let P : List ℕ → Type 0 = λ l. (len ≤ length l) × (IsWithoutBlank (take len l)) × (len < length l → is_blank (get_or l len 0) ≡ true) in
     let k = subst P (take_rest line at) (within, plain, found) in
@@ -172,7 +175,8 @@ module _ {X : Type 0} (test : X → Bool) where
   -- a filter leaves no more elements than there are
   filter_few : (xs : List X) → length (filter test xs) ≤ length xs
   filter_few [] = omega arith
-  filter_few (x ∷ xs) = by_test (λ l. length l ≤ suc (length xs)) (test x) (x ∷ filter test xs) (filter test xs) (λ e. let few = filter_few xs in omega (arith, few)) (λ e. let few = filter_few xs in omega (arith, few))
+  filter_few (x ∷ xs) = by_test (λ l. length l ≤ suc (length xs)) (test x) (x ∷ filter test xs) (filter test xs) (λ e. let few = filter_few xs in omega (arith, few))
+      (λ e. let few = filter_few xs in omega (arith, few))
 
   -- what holds of each element holds of each that a filter leaves
   filter_each : (P : X → Type 0) (xs : List X) → AllByRecursion P xs → AllByRecursion P (filter test xs)
@@ -190,7 +194,8 @@ unfolding parts_of
 parts_few [] = omega arith
 parts_few (b ∷ line) =
     let few : length (parts_of line) ≤ suc (length line) = parts_few line in
-    by_test (λ l. length l ≤ suc (suc (length line))) (is_blank b) ([] ∷ parts_of line) (with_byte b (parts_of line)) (λ e. omega (arith, few)) (λ e. byte_few b (suc (length line)) (parts_of line) (omega (arith, few)))
+    by_test (λ l. length l ≤ suc (suc (length line))) (is_blank b) ([] ∷ parts_of line) (with_byte b (parts_of line)) (λ e. omega (arith, few))
+    (λ e. byte_few b (suc (length line)) (parts_of line) (omega (arith, few)))
 
 -- each part has at most so many bytes
 abbrev AreShort : ℕ → Words → Type 0
@@ -211,7 +216,8 @@ parts_short : (line : List ℕ) → AreShort (length line) (parts_of line)
 unfolding parts_of
 parts_short [] = (omega arith, tt)
 parts_short (b ∷ line) =
-    by_test (AreShort (suc (length line))) (is_blank b) ([] ∷ parts_of line) (with_byte b (parts_of line)) (λ e. (omega arith, short_more (length line) (parts_of line) (parts_short line))) (λ e. byte_short b (length line) (parts_of line) (parts_short line))
+    by_test (AreShort (suc (length line))) (is_blank b) ([] ∷ parts_of line) (with_byte b (parts_of line)) (λ e. (omega arith, short_more (length line) (parts_of line) (parts_short line)))
+    (λ e. byte_short b (length line) (parts_of line) (parts_short line))
 
 -- parts within the greatest length of a line are words
 are_words : (n : ℕ) (parts : Words) → n ≤ longest_line → AreShort n parts → AllByRecursion IsWord parts

@@ -15,7 +15,8 @@ use Rattle.resp_frames.specs.declared.rule.Rule.{Rule}
 use Rattle.resp_frames.specs.declared.rule.Rule.TheVariants as rules
 use Rattle.plain_world.specs.Words.{longest}
 
-pub open_count : (bytes : List ℕ) (scanned n : ℕ) (spans : List Span) → StandsAtCount bytes 0 scanned spans → IsOpenHeader 42 bytes n → IsOpenRequest bytes (record { read = 0; due = due.Count n }) spans
+pub open_count : (bytes : List ℕ) (scanned n : ℕ) (spans : List Span) → StandsAtCount bytes 0 scanned spans → IsOpenHeader 42 bytes n
+    → IsOpenRequest bytes (record { read = 0; due = due.Count n }) spans
 open_count bytes scanned n spans s h = record { stands = record { start = refl; none = s.none; header = h.scanned }; more = item_counting bytes h.begun h.more }
 
 pub broken_count : (bytes : List ℕ) (rule : Rule) (at : ℕ) → IsNoHeader 42 bytes rule at → IsBrokenAt bytes rule at
@@ -47,7 +48,8 @@ place_within bytes read at low h = omega (arith, length-drop read bytes)
 place_from : (bytes : List ℕ) (read at : ℕ) → drop at (drop read bytes) ≡ drop (read + at) bytes
 place_from bytes read at = drop-drop at read bytes ∙ ap (λ k. drop k bytes) (omega arith)
 
-pub broken_length : (bytes : List ℕ) (read words scanned : ℕ) (rule : Rule) (at : ℕ) (spans : List Span) → StandsAtLength bytes read words scanned spans → IsNoHeader 36 (take (length bytes - read) (drop read bytes)) rule at → IsBrokenAt bytes rule (read + at)
+pub broken_length : (bytes : List ℕ) (read words scanned : ℕ) (rule : Rule) (at : ℕ) (spans : List Span) → StandsAtLength bytes read words scanned spans
+    → IsNoHeader 36 (take (length bytes - read) (drop read bytes)) rule at → IsBrokenAt bytes rule (read + at)
 broken_length bytes read words scanned rule at spans s h =
     let P : List ℕ → Type 0 = λ l. IsNoHeader 36 l rule at in
     let k = subst P (take_rest bytes read) h in
@@ -56,7 +58,8 @@ broken_length bytes read words scanned rule at spans s h =
       fault = in_word words (words_at bytes spans) (drop read bytes) s.begun (length_line (subst (λ f. LineFault 36 (drop read bytes) rule f) (place_from bytes read at) k.fault));
     }
 
-pub other_length : (bytes : List ℕ) (read words scanned : ℕ) (spans : List Span) → StandsAtLength bytes read words scanned spans → IsOther 36 (take (length bytes - read) (drop read bytes)) → IsBrokenAt bytes rules.ExpectedDollar read
+pub other_length : (bytes : List ℕ) (read words scanned : ℕ) (spans : List Span) → StandsAtLength bytes read words scanned spans → IsOther 36 (take (length bytes - read) (drop read bytes))
+    → IsBrokenAt bytes rules.ExpectedDollar read
 other_length bytes read words scanned spans s h =
     let k = subst (IsOther 36) (take_rest bytes read) h in
     record { within = s.within; fault = in_word words (words_at bytes spans) (drop read bytes) s.begun (other_mark k.b k.more refl refl k.first k.other) }
@@ -69,7 +72,8 @@ bad_length bytes read words scanned n spans s h bad =
     let rest = drop read bytes in
     record {
       within = s.within;
-      fault = in_word words (words_at bytes spans) rest s.begun (length_number (bad_number (text_of rest n) (drop (n + 3) rest) refl refl k.0.whole k.0.text (λ l. k.1 l.0 l.1 (text_cut rest n ∙ l.2))));
+      fault = in_word words (words_at bytes spans) rest s.begun
+          (length_number (bad_number (text_of rest n) (drop (n + 3) rest) refl refl k.0.whole k.0.text (λ l. k.1 l.0 l.1 (text_cut rest n ∙ l.2))));
     }
 
 pub open_body : (bytes : List ℕ) (read words len : ℕ) (spans : List Span) → StandsAtBody bytes read words len spans → read_body len (take (length bytes - read) (drop read bytes)) ≡ Open →
@@ -78,7 +82,8 @@ open_body bytes read words len spans s e =
     let k : read_body len (drop read bytes) ≡ Open = ap (read_body len) (sym (take_rest bytes read)) ∙ e in
     record { stands = s; more = item_begun bytes words (words_at bytes spans) s.rest s.begun (ap read_bulk s.headed ∙ after_length len (drop read bytes) s.small ∙ k) }
 
-pub broken_body : (bytes : List ℕ) (read words len at : ℕ) (spans : List Span) → StandsAtBody bytes read words len spans → IsNoBody (take (length bytes - read) (drop read bytes)) len at → IsBrokenAt bytes rules.ExpectedCrLf (read + at)
+pub broken_body : (bytes : List ℕ) (read words len at : ℕ) (spans : List Span) → StandsAtBody bytes read words len spans → IsNoBody (take (length bytes - read) (drop read bytes)) len at
+    → IsBrokenAt bytes rules.ExpectedCrLf (read + at)
 broken_body bytes read words len at spans s h =
     let P : List ℕ → Type 0 = λ l. IsNoBody l len at in
     let k = subst P (take_rest bytes read) h in

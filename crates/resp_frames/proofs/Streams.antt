@@ -32,7 +32,8 @@ no_item_left bytes x A (Fault rule at) p e =
     cc
 
 -- the items at the front of bytes are the first of all items
-items_prefix : (bytes : List ℕ) (xs ys : List Item) (A rest : List ℕ) (end : End) → AllByRecursion IsItem xs → AllByRecursion IsItem ys → EndsAs bytes rest end → flat_map item_bytes xs ++ A ≡ flat_map item_bytes ys ++ rest →
+items_prefix : (bytes : List ℕ) (xs ys : List Item) (A rest : List ℕ) (end : End) → AllByRecursion IsItem xs → AllByRecursion IsItem ys → EndsAs bytes rest end → flat_map item_bytes xs
+    ++ A ≡ flat_map item_bytes ys ++ rest →
     (zs : List Item) × (ys ≡ xs ++ zs) × (A ≡ flat_map item_bytes zs ++ rest)
 items_prefix bytes [] ys A rest end p q e is = (ys, refl, is)
 items_prefix bytes (x ∷ xs) [] A rest end p q e is =
@@ -74,7 +75,8 @@ one_end bytes rest (Fault rule at) (Fault rule' at') p q =
     ap (λ r. Fault r at) same ∙ ap (Fault rule') place
 
 -- the items of a stream, up to its end
-one_reading : (bytes : List ℕ) (xs ys : List Item) (a b : List ℕ) (e f : End) → AllByRecursion IsItem xs → AllByRecursion IsItem ys → EndsAs bytes a e → EndsAs bytes b f → flat_map item_bytes xs ++ a ≡ flat_map item_bytes ys ++ b → (xs ≡ ys) × (a ≡ b)
+one_reading : (bytes : List ℕ) (xs ys : List Item) (a b : List ℕ) (e f : End) → AllByRecursion IsItem xs → AllByRecursion IsItem ys → EndsAs bytes a e → EndsAs bytes b f
+    → flat_map item_bytes xs ++ a ≡ flat_map item_bytes ys ++ b → (xs ≡ ys) × (a ≡ b)
 one_reading bytes [] [] a b e f p q s t is = (refl, is)
 one_reading bytes [] (y ∷ ys) a b e f p q s t is =
     let P : List ℕ → Type 0 = λ l. EndsAs bytes l e in
@@ -106,7 +108,8 @@ record Streamed (before : ℕ) (bytes : List ℕ) : Type 0 where
 ends_here : (before : ℕ) (bytes : List ℕ) → (x : Read Item) → read_item bytes ≡ x → ItemIs bytes x → ((y : Item) (rest : List ℕ) → x ≡ Took y rest → ⊥) → Streamed before bytes
 ends_here before bytes (Took y rest) e h no_more = absurd (no_more y rest refl)
 ends_here before [] Open e h no_more = record { items = []; rest = []; end = Whole; framed = record { whole = refl; each = tt }; ends = λ all n. refl }
-ends_here before (b ∷ bytes) Open e h no_more = record { items = []; rest = b ∷ bytes; end = Cut; framed = record { whole = refl; each = tt }; ends = λ all n. cut_from_open (b ∷ bytes) e (λ none. cc) }
+ends_here before (b ∷ bytes) Open e h no_more = record
+    { items = []; rest = b ∷ bytes; end = Cut; framed = record { whole = refl; each = tt }; ends = λ all n. cut_from_open (b ∷ bytes) e (λ none. cc) }
 ends_here before bytes (Wrong rule from) e h no_more =
     let within : length from ≤ length bytes = fault_within bytes rule from h in
     record {
@@ -122,7 +125,8 @@ item_long (Asked words) = omega arith
 item_long (Passed text) = omega arith
 item_long (Line text) = omega (arith, length-append text (10 ∷ []))
 
-read_next : (fuel before : ℕ) (bytes : List ℕ) → ((more : ℕ) (rest : List ℕ) → length rest ≤ fuel → Streamed more rest) → length bytes ≤ suc fuel → (x : Read Item) → read_item bytes ≡ x → ItemIs bytes x → Streamed before bytes
+read_next : (fuel before : ℕ) (bytes : List ℕ) → ((more : ℕ) (rest : List ℕ) → length rest ≤ fuel → Streamed more rest) → length bytes ≤ suc fuel → (x : Read Item) → read_item bytes ≡ x
+    → ItemIs bytes x → Streamed before bytes
 read_next fuel before bytes again le (Took y rest) e h =
     let n : length bytes ≡ length (item_bytes y ++ rest) = ap length h.1 in
     let m : length (item_bytes y ++ rest) ≡ length (item_bytes y) + length rest = length-append (item_bytes y) rest in
@@ -150,7 +154,8 @@ frames_there bytes =
 -- a fault stays where it is
 
 pub breaks_stay : (bytes rest back : List ℕ) (rule : Rule) (at : ℕ) → BreaksAt bytes rest rule at → BreaksAt (bytes ++ back) (rest ++ back) rule at
-breaks_stay bytes rest back rule at h = (h.0 ++ back, fault_stays rest rule h.0 back h.1, let n : at + length h.0 ≡ length bytes = h.2 in omega (arith, length-append h.0 back, length-append bytes back))
+breaks_stay bytes rest back rule at h =
+    (h.0 ++ back, fault_stays rest rule h.0 back h.1, let n : at + length h.0 ≡ length bytes = h.2 in omega (arith, length-append h.0 back, length-append bytes back))
 
 pub framed_more : (bytes rest more : List ℕ) (items : List Item) → Framed bytes items rest → Framed (bytes ++ more) items (rest ++ more)
 framed_more bytes rest more items f = record { whole = ap (λ l. l ++ more) f.whole ∙ append_assoc (flat_map item_bytes items) rest more; each = f.each }

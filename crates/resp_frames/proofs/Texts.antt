@@ -9,7 +9,8 @@ pub text_again : (end k : ℕ) (t rest : List ℕ) → IsWithout end t → lengt
 unfolding read_text
 text_again end zero t rest p h = absurd (omega arith)
 text_again end (suc k) [] rest p h = on_equal end end (Took [] rest) (with_front end (read_text end k rest)) refl
-text_again end (suc k) (b ∷ t) rest p h = on_other b end (Took [] (t ++ end ∷ rest)) (with_front b (read_text end k (t ++ end ∷ rest))) p.0 ∙ ap (with_front b) (text_again end k t rest p.1 (omega arith))
+text_again end (suc k) (b ∷ t) rest p h = on_other b end (Took [] (t ++ end ∷ rest)) (with_front b (read_text end k (t ++ end ∷ rest))) p.0
+    ∙ ap (with_front b) (text_again end k t rest p.1 (omega arith))
 
 pub text_open : (end k : ℕ) (t : List ℕ) → IsWithout end t → length t < k → read_text end k t ≡ Open
 unfolding read_text
@@ -40,4 +41,5 @@ unfolding read_text
 text_is end zero bytes = ([], refl, tt, refl)
 text_is end (suc k) [] = tt
 text_is end (suc k) (b ∷ bytes) =
-    by_equal (TextIs end (suc k) (b ∷ bytes)) b end (Took [] bytes) (with_front b (read_text end k bytes)) (λ e. (ap (λ c. c ∷ bytes) e, tt, omega arith)) (λ ne. front_is end k b bytes ne (read_text end k bytes) (text_is end k bytes))
+    by_equal (TextIs end (suc k) (b ∷ bytes)) b end (Took [] bytes) (with_front b (read_text end k bytes)) (λ e. (ap (λ c. c ∷ bytes) e, tt, omega arith))
+    (λ ne. front_is end k b bytes ne (read_text end k bytes) (text_is end k bytes))

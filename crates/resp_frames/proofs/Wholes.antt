@@ -49,7 +49,8 @@ next_digit most bytes n i s h low high few =
       few = few;
     }
 
-pub number_ends : (most : ℕ) (bytes : List ℕ) (n i : ℕ) → most < 2 ^ 32 → IsNumberSoFar most bytes n i → 0 < i → i < length bytes → 49 ≤ get_or bytes 0 0 → get_or bytes i 0 ≡ 13 → IsNumberLine most bytes (record { number = n; len = i })
+pub number_ends : (most : ℕ) (bytes : List ℕ) (n i : ℕ) → most < 2 ^ 32 → IsNumberSoFar most bytes n i → 0 < i → i < length bytes → 49 ≤ get_or bytes 0 0 → get_or bytes i 0 ≡ 13
+    → IsNumberLine most bytes (record { number = n; len = i })
 number_ends most bytes n i small s some h low end =
     let text = take i bytes in
     let few : n ≤ most = s.few in
@@ -65,17 +66,21 @@ number_ends most bytes n i small s some h low end =
     }
 
 -- a header behind its mark
-marked : (mark most : ℕ) (tail : List ℕ) (n : Numbered) → IsNumberLine most tail n → n.len + 2 ≤ length tail → get_or tail (n.len + 1) 0 ≡ 10 → mark ∷ tail ≡ header mark (decimal n.number) ++ drop (n.len + 2) tail
+marked : (mark most : ℕ) (tail : List ℕ) (n : Numbered) → IsNumberLine most tail n → n.len + 2 ≤ length tail → get_or tail (n.len + 1) 0 ≡ 10 → mark ∷ tail ≡ header mark (decimal n.number)
+    ++ drop (n.len + 2) tail
 marked mark most tail n t long feed =
     let text = take n.len tail in
     let next : n.len + 1 + 1 ≡ n.len + 2 = omega arith in
     let at_feed : drop (n.len + 1) tail ≡ 10 ∷ drop (n.len + 2) tail =
     drop_more tail (n.len + 1) 0 (omega arith) ∙ ap (λ b. b ∷ drop (n.len + 1 + 1) tail) feed ∙ ap (λ k. 10 ∷ drop k tail) next in
     let at_return : drop n.len tail ≡ 13 ∷ 10 ∷ drop (n.len + 2) tail = drop_more tail n.len 0 t.within ∙ ap (λ b. b ∷ drop (n.len + 1) tail) t.end ∙ ap (λ l. 13 ∷ l) at_feed in
-    ap (λ l. mark ∷ l) (sym (take-append-drop n.len tail) ∙ ap (λ l. text ++ l) at_return ∙ ap (λ l. l ++ 13 ∷ 10 ∷ drop (n.len + 2) tail) t.text ∙ sym (append_assoc (decimal n.number) line_end (drop (n.len + 2) tail)))
+    ap (λ l. mark ∷ l)
+    (sym (take-append-drop n.len tail) ∙ ap (λ l. text ++ l) at_return ∙ ap (λ l. l ++ 13 ∷ 10 ∷ drop (n.len + 2) tail) t.text
+    ∙ sym (append_assoc (decimal n.number) line_end (drop (n.len + 2) tail)))
 
 -- a header, as the code cuts it
-pub header_whole : (mark most : ℕ) (bytes : List ℕ) (n : Numbered) → 0 < length bytes → get_or bytes 0 0 ≡ mark → IsNumberLine most (take (length bytes - 1) (drop 1 bytes)) n → n.len + 2 < length bytes → get_or bytes (n.len + 2) 0 ≡ 10 →
+pub header_whole : (mark most : ℕ) (bytes : List ℕ) (n : Numbered) → 0 < length bytes → get_or bytes 0 0 ≡ mark → IsNumberLine most (take (length bytes - 1) (drop 1 bytes)) n
+    → n.len + 2 < length bytes → get_or bytes (n.len + 2) 0 ≡ 10 →
     IsHeaded mark most bytes (record { number = n.number; len = n.len + 3 })
 header_whole mark most [] n h first t long feed = absurd (omega arith)
 header_whole mark most (b ∷ tail) n h first t long feed =
@@ -95,8 +100,10 @@ header_whole mark most (b ∷ tail) n h first t long feed =
     }
 
 -- a header of one digit, and one of two
-module _ (mark most : ℕ) (bytes : List ℕ) (some : 99 ≤ most) (small : most < 2 ^ 32) (long : 5 ≤ length bytes) (first : get_or bytes 0 0 ≡ mark) (low : 49 ≤ get_or bytes 1 0) (high : get_or bytes 1 0 ≤ 57) where
-  tail_header : (n : Numbered) → IsNumberLine most (drop 1 bytes) n → n.len + 2 < length bytes → get_or bytes (n.len + 2) 0 ≡ 10 → IsHeaded mark most bytes (record { number = n.number; len = n.len + 3 })
+module _ (mark most : ℕ) (bytes : List ℕ) (some : 99 ≤ most) (small : most < 2 ^ 32) (long : 5 ≤ length bytes) (first : get_or bytes 0 0 ≡ mark) (low : 49 ≤ get_or bytes 1 0)
+    (high : get_or bytes 1 0 ≤ 57) where
+  tail_header : (n : Numbered) → IsNumberLine most (drop 1 bytes) n → n.len + 2 < length bytes → get_or bytes (n.len + 2) 0 ≡ 10
+      → IsHeaded mark most bytes (record { number = n.number; len = n.len + 3 })
   tail_header n line within feed =
       let P : List ℕ → Type 0 = λ l. IsNumberLine most l n in
       header_whole mark most bytes n (omega arith) first (subst P (sym (take_rest bytes 1)) line) within feed
@@ -116,7 +123,8 @@ module _ (mark most : ℕ) (bytes : List ℕ) (some : 99 ≤ most) (small : most
       let line = number_ends most (drop 1 bytes) (get_or bytes 1 0 - 48) 1 small one (omega arith) (omega (arith, length-drop 1 bytes)) (omega arith) (tail_at 1 ∙ return) in
       tail_header (record { number = get_or bytes 1 0 - 48; len = 1 }) line (omega arith) feed
 
-  pub header_of_two : 48 ≤ get_or bytes 2 0 → get_or bytes 2 0 ≤ 57 → get_or bytes 3 0 ≡ 13 → get_or bytes 4 0 ≡ 10 → IsHeaded mark most bytes (record { number = (get_or bytes 1 0 - 48) * 10 + (get_or bytes 2 0 - 48); len = 5 })
+  pub header_of_two : 48 ≤ get_or bytes 2 0 → get_or bytes 2 0 ≤ 57 → get_or bytes 3 0 ≡ 13 → get_or bytes 4 0 ≡ 10
+      → IsHeaded mark most bytes (record { number = (get_or bytes 1 0 - 48) * 10 + (get_or bytes 2 0 - 48); len = 5 })
   header_of_two low' high' return feed =
       let here : get_or (drop 1 bytes) 0 0 ≡ get_or bytes 1 0 = tail_at 0 in
       let next : get_or (drop 1 bytes) 1 0 ≡ get_or bytes 2 0 = tail_at 1 in

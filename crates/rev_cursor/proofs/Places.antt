@@ -117,10 +117,12 @@ width bits small = omega arith
 
 -- the next cursor by the block of places that the cursor is in
 pub next_is : (bits v : ℕ) → bits < 64 → next_of v bits ≡ reversed 64 (block_end (64 - bits) (place v) % 2 ^ 64)
-next_is bits v small = ap (λ (x : ℕ). reversed 64 (x % 2 ^ 64)) (subst (λ (w : ℕ). reversed w (all_above v bits) + 1 ≡ block_end (64 - bits) (reversed w v)) (width bits small) (above_end bits (64 - bits) v))
+next_is bits v small = ap (λ (x : ℕ). reversed 64 (x % 2 ^ 64))
+    (subst (λ (w : ℕ). reversed w (all_above v bits) + 1 ≡ block_end (64 - bits) (reversed w v)) (width bits small) (above_end bits (64 - bits) v))
 
 -- and at 64 bits, by std's reversal
-pub next_cursor : (bits cursor start result : ℕ) → bits < 64 → start ≡ reversed 64 cursor → result ≡ reverse_bits w64 ((bit_or start ((2 ^ 64 - 1) / 2 ^ bits) + 1) % 2 ^ 64) → result ≡ next_of cursor bits
+pub next_cursor : (bits cursor start result : ℕ) → bits < 64 → start ≡ reversed 64 cursor → result ≡ reverse_bits w64 ((bit_or start ((2 ^ 64 - 1) / 2 ^ bits) + 1) % 2 ^ 64)
+    → result ≡ next_of cursor bits
 next_cursor bits cursor start result small is_start is_result =
     let within : bits ≤ 64 = omega arith in
     let made : result ≡ reversed 64 ((bit_or start ((2 ^ 64 - 1) / 2 ^ bits) + 1) % 2 ^ 64)
@@ -137,11 +139,15 @@ block_end-le_64 bits v small =
 
 -- the next cursor's end is the end of the bucket's block
 pub end_of-next_of : (bits v : ℕ) → bits < 64 → end_of (next_of v bits) ≡ block_end (64 - bits) (place v)
-end_of-next_of bits v small = ap end_of (next_is bits v small) ∙ end_within-reversed 64 (block_end (64 - bits) (reversed 64 v)) (omega (arith, lt-block_end (64 - bits) (reversed 64 v))) (block_end-le_64 bits v small)
+end_of-next_of bits v small = ap end_of (next_is bits v small) ∙ end_within-reversed 64 (block_end (64 - bits) (reversed 64 v)) (omega (arith, lt-block_end (64 - bits) (reversed 64 v)))
+    (block_end-le_64 bits v small)
 
 -- the bucket of a cursor, in places
 pub bucket_of : (bits v next : ℕ) → bits < 64 → end_of next ≡ block_end (64 - bits) (place v) → IsBucket bits v next
 bucket_of bits v next small is_end = record {
-  whole = λ h e. (let both = subst (λ (w : ℕ). (block_start (64 - bits) (reversed w v) ≤ reversed w h) × (reversed w h < block_end (64 - bits) (reversed w v))) (width bits small) (in_block bits (64 - bits) v h e) in (both.0, omega (arith, both.1, is_end)));
-  only = λ h from to. subst (λ (w : ℕ). block_start (64 - bits) (reversed w v) ≤ reversed w h → reversed w h < block_end (64 - bits) (reversed w v) → h % 2 ^ bits ≡ v % 2 ^ bits) (width bits small) (in_bucket bits (64 - bits) v h) from (omega (arith, to, is_end));
+  whole = λ h e.
+      (let both = subst (λ (w : ℕ). (block_start (64 - bits) (reversed w v) ≤ reversed w h) × (reversed w h < block_end (64 - bits) (reversed w v))) (width bits small)
+      (in_block bits (64 - bits) v h e) in (both.0, omega (arith, both.1, is_end)));
+  only = λ h from to. subst (λ (w : ℕ). block_start (64 - bits) (reversed w v) ≤ reversed w h → reversed w h < block_end (64 - bits) (reversed w v) → h % 2 ^ bits ≡ v % 2 ^ bits)
+      (width bits small) (in_bucket bits (64 - bits) v h) from (omega (arith, to, is_end));
 }

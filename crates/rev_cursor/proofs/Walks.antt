@@ -66,7 +66,9 @@ met_inside : (cursor hash bits : ℕ) → bits < 64 → one_if (nat_le (place cu
 met_inside cursor hash bits small = elim (cases_lt (place hash) (place cursor)) [
   | inl early ↦ omega (arith, before (place cursor) (place hash) (end_of (next_of cursor bits)) early)
   | inr from ↦ elim (cases_lt (place hash) (end_of (next_of cursor bits))) [
-    | inl to ↦ (let same : hash % 2 ^ bits ≡ cursor % 2 ^ bits = (bucket_of bits cursor (next_of cursor bits) small (end_of-next_of bits cursor small)).only hash (omega (arith, from, block_start-le (64 - bits) (place cursor))) to in
+    | inl to ↦
+        (let same : hash % 2 ^ bits ≡ cursor % 2 ^ bits = (bucket_of bits cursor (next_of cursor bits) small (end_of-next_of bits cursor small)).only hash
+        (omega (arith, from, block_start-le (64 - bits) (place cursor))) to in
         omega (arith, equal (hash % 2 ^ bits) (cursor % 2 ^ bits) same, at_most_one (nat_le (place cursor) (place hash) && nat_lt (place hash) (end_of (next_of cursor bits)))))
     | inr late ↦ omega (arith, behind (place cursor) (place hash) (end_of (next_of cursor bits)) late)
   ]
@@ -91,7 +93,18 @@ module _ (bits : ℕ) (small : bits < 64) where
       let whole : block_end (64 - bits) (place c) ≡ 2 ^ 64 = sym (end_of-next_of bits c small) ∙ (block_end-at n c e ∙ (ap (λ (x : ℕ). x * 2 ^ (64 - bits)) count ∙ all_blocks)) in
       last c bits small (next_is bits c small ∙ (ap (λ (x : ℕ). reversed 64 (x % 2 ^ 64)) whole ∙ reversed-zero 64))
   walk_on (suc m) n c e left =
-      let goes_on : next_of c bits ≢ 0 = λ stop. (let fewer : n + 2 ≤ 2 ^ bits = omega arith in omega (arith, block_end-at n c e, ap end_of stop, end_of-zero, mul-le-mul_right (2 ^ (64 - bits)) fewer, all_blocks, add-mul n 1 (2 ^ (64 - bits)), add-mul n 2 (2 ^ (64 - bits)), pow_pos (64 - bits))) in
+      let goes_on : next_of c bits ≢ 0 = λ stop.
+      (let fewer : n + 2 ≤ 2 ^ bits = omega arith in omega (
+        arith,
+        block_end-at n c e,
+        ap end_of stop,
+        end_of-zero,
+        mul-le-mul_right (2 ^ (64 - bits)) fewer,
+        all_blocks,
+        add-mul n 1 (2 ^ (64 - bits)),
+        add-mul n 2 (2 ^ (64 - bits)),
+        pow_pos (64 - bits),
+      )) in
       more c bits (replicate (suc m) bits) small goes_on (walk_on m (n + 1) (next_of c bits) (sym (end_of-more (next_of c bits) goes_on) ∙ block_end-at n c e) (omega (arith, left)))
 
   pub walk_all : IsWalk 0 (replicate (2 ^ bits) bits)

@@ -17,7 +17,8 @@ unfolding end_within
 end_of_more zero h = absurd (h refl)
 end_of_more (suc m) h = refl
 
-joined_once : (o : Option ℕ) (place_of : ℕ → Option ℕ) (c m n i : ℕ) (f g : List ℕ) → place_of i ≡ o → end_of m ≡ place m → Span place_of c m f → Span place_of m n g → StartsAt place_of m g → times i (f ++ g) ≤ 1
+joined_once : (o : Option ℕ) (place_of : ℕ → Option ℕ) (c m n i : ℕ) (f g : List ℕ) → place_of i ≡ o → end_of m ≡ place m → Span place_of c m f → Span place_of m n g
+    → StartsAt place_of m g → times i (f ++ g) ≤ 1
 joined_once None place_of c m n i f g e ends a b start = omega (arith, times-append i f g, a.real i e, b.real i e)
 joined_once (Some at) place_of c m n i f g e ends a b start = elim (cases_lt at (place m)) [
   | inl h ↦ omega (arith, times-append i f g, a.once i, start i at e h)
@@ -39,14 +40,16 @@ joined place_of c m n f g more a b start =
       real = λ i e. omega (arith, times-append i f g, a.real i e, b.real i e);
     }
 
-pub joined_step : (place_of : ℕ → Option ℕ) (c m n next : ℕ) (f g found : List ℕ) → (m ≡ 0 → ⊥) → Span place_of c m f → Span place_of m n g → StartsAt place_of m g → found ≡ f ++ g → next ≡ n → Span place_of c next found
+pub joined_step : (place_of : ℕ → Option ℕ) (c m n next : ℕ) (f g found : List ℕ) → (m ≡ 0 → ⊥) → Span place_of c m f → Span place_of m n g → StartsAt place_of m g → found ≡ f ++ g
+    → next ≡ n → Span place_of c next found
 joined_step place_of c m n next f g found more a b start is_found is_next = rw (is_found, is_next) (joined place_of c m n f g more a b start)
 
 pub starts_step : (place_of : ℕ → Option ℕ) (move : ℕ → List ℕ) (n next : ℕ) → next ≡ n → StartsAt place_of n (move n) → StartsAt place_of next (move next)
 starts_step place_of move n next e start = subst (λ (x : ℕ). StartsAt place_of x (move x)) (sym e) start
 
 -- one turn of a page, and its three ends
-pub scan_more : (move : ℕ → List ℕ) (after : ℕ → ℕ) (left fewer count at next : ℕ) (met found : List ℕ) (whole : List ℕ × ℕ) → left ≡ suc fewer → (at ≡ 0 → ⊥) → length met < count → found ≡ met ++ move at → next ≡ after at → scan_from move after left count met at ≡ whole → scan_from move after fewer count found next ≡ whole
+pub scan_more : (move : ℕ → List ℕ) (after : ℕ → ℕ) (left fewer count at next : ℕ) (met found : List ℕ) (whole : List ℕ × ℕ) → left ≡ suc fewer → (at ≡ 0 → ⊥) → length met < count
+    → found ≡ met ++ move at → next ≡ after at → scan_from move after left count met at ≡ whole → scan_from move after fewer count found next ≡ whole
 unfolding scan_from
 scan_more move after left fewer count at next met found whole is_left more few is_found is_next so_far =
     let zero_no : (at == 0) ≡ false = grind (arith, nat_tests) in
@@ -61,7 +64,8 @@ scan_at_zero move after (suc left) count at met whole e so_far =
     let stop : (at == 0) ≡ true = grind (arith, nat_tests) in
     sym so_far ∙ rw stop refl
 
-pub scan_at_enough : (move : ℕ → List ℕ) (after : ℕ → ℕ) (left count at : ℕ) (met : List ℕ) (whole : List ℕ × ℕ) → (at ≡ 0 → ⊥) → count ≤ length met → scan_from move after left count met at ≡ whole → whole ≡ (met, at)
+pub scan_at_enough : (move : ℕ → List ℕ) (after : ℕ → ℕ) (left count at : ℕ) (met : List ℕ) (whole : List ℕ × ℕ) → (at ≡ 0 → ⊥) → count ≤ length met
+    → scan_from move after left count met at ≡ whole → whole ≡ (met, at)
 unfolding scan_from
 scan_at_enough move after zero count at met whole n e so_far = sym so_far
 scan_at_enough move after (suc left) count at met whole n e so_far =

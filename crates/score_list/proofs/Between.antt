@@ -122,13 +122,15 @@ module _ (t : Towers) (rank : ℕ) where
   pub each_there : (P : Element → Type 0) → rank + 1 < length (order t) → EachIs P (without_at (items t) rank) → P (get_or (items t) (suc rank) no_element)
   each_there P more each = each_after P (items t) rank (omega (arith, more, many)) each
 
-  pub before_passes : (f : Element → Bool) → rank < length (order t) → 0 < rank → IsParted f (without_at (items t) rank) → f (get_or (items t) (rank - 1) no_element) ≡ true → AllAre f true (take rank (items t))
+  pub before_passes : (f : Element → Bool) → rank < length (order t) → 0 < rank → IsParted f (without_at (items t) rank) → f (get_or (items t) (rank - 1) no_element) ≡ true
+      → AllAre f true (take rank (items t))
   before_passes f lt some parted passes =
       let one : suc (rank - 1) ≡ rank = omega (arith, some) in
       subst (λ n. AllAre f true (take n (items t))) one
       (front_passes f (items t) (rank - 1) (omega (arith, lt, many)) (subst (λ n. IsParted f (without_at (items t) n)) (sym one) parted) passes)
 
-  pub behind_fails : (f : Element → Bool) → rank + 1 < length (order t) → IsParted f (without_at (items t) rank) → f (get_or (items t) (suc rank) no_element) ≡ false → AllAre f false (drop (suc rank) (items t))
+  pub behind_fails : (f : Element → Bool) → rank + 1 < length (order t) → IsParted f (without_at (items t) rank) → f (get_or (items t) (suc rank) no_element) ≡ false
+      → AllAre f false (drop (suc rank) (items t))
   behind_fails f more parted fails = back_fails f (items t) rank (omega (arith, more, many)) parted fails
 
   pub none_left : (f : Element → Bool) → rank + 1 ≡ length (order t) → AllAre f false (drop (suc rank) (items t))

@@ -10,14 +10,25 @@ module _ (tall : ℕ → Bool) (next span next' span' : ℕ → ℕ) where
       let e = others (suc k) (λ q. lo.0 (sym q)) (λ q. lx.0 (sym q)) in
       (refl, e.0, e.1, same_behind x o left ks others lo.1 lx.1)
 
-  pub joined : (x : ℕ) (front back : List ℕ) (o d last left : ℕ) → Hung tall x last left next span next' span' → IsRow tall next span o d (front ++ back) → Reaches tall front o d last left → suc x ≢ o → Lacks (suc x) (front ++ back) → Lacks o (front ++ back) → IsDistinct (front ++ back) → IsRow tall next' span' o d (front ++ x ∷ back)
+  pub joined : (x : ℕ) (front back : List ℕ) (o d last left : ℕ) → Hung tall x last left next span next' span' → IsRow tall next span o d (front ++ back) → Reaches tall front o d last left
+      → suc x ≢ o → Lacks (suc x) (front ++ back) → Lacks o (front ++ back) → IsDistinct (front ++ back) → IsRow tall next' span' o d (front ++ x ∷ back)
   joined x [] back o d last left h row r new lx lo dist =
       let same = same_behind x o left back (λ p a b. h.others p (λ q. a (q ∙ r.0)) b) lo lx in
       elim (decide (tall x)) [
         | inl t ↦ (let e = h.joins t in
-            inl (t, ap next' (sym r.0) ∙ e.0, ap span' (sym r.0) ∙ e.1 ∙ ap suc r.1, moved tall next span tall next' span' o d (suc x) 0 back row (e.2 ∙ ap next r.0) (let a : span last ≡ span o = ap span r.0 in omega (arith, e.3)) same))
+            inl (
+              t,
+              ap next' (sym r.0) ∙ e.0,
+              ap span' (sym r.0) ∙ e.1 ∙ ap suc r.1,
+              moved tall next span tall next' span' o d (suc x) 0 back row (e.2 ∙ ap next r.0)
+                  (let a : span last ≡ span o = ap span r.0 in omega (arith, e.3)) same,
+            ))
         | inr f ↦ (let e = h.low f in
-            inr (f, moved tall next span tall next' span' o d o (suc d) back row (ap next' (sym r.0) ∙ e.0 ∙ ap next r.0) (let a : span last ≡ span o = ap span r.0 in let b : span' last ≡ span' o = ap span' r.0 in omega (arith, e.1)) same))
+            inr (
+              f,
+              moved tall next span tall next' span' o d o (suc d) back row (ap next' (sym r.0) ∙ e.0 ∙ ap next r.0)
+                  (let a : span last ≡ span o = ap span r.0 in let b : span' last ≡ span' o = ap span' r.0 in omega (arith, e.1)) same,
+            ))
       ]
   joined x (k ∷ ks) back o d last left h row (inl r) new lx lo dist =
       elim row [
@@ -37,14 +48,16 @@ module _ (tall : ℕ → Bool) (next span next' span' : ℕ → ℕ) where
       let e = others (suc k) (λ q. lo.0 (sym q)) in
       (refl, e.0, e.1, same_left o ks others lo.1)
 
-  pub left : (x : ℕ) (front back : List ℕ) (o d last passed : ℕ) → Unhung tall x last passed next span next' span' → IsRow tall next span o d (front ++ x ∷ back) → Reaches tall front o d last passed → Lacks o (front ++ x ∷ back) → IsDistinct (front ++ x ∷ back) → IsRow tall next' span' o d (front ++ back)
+  pub left : (x : ℕ) (front back : List ℕ) (o d last passed : ℕ) → Unhung tall x last passed next span next' span' → IsRow tall next span o d (front ++ x ∷ back)
+      → Reaches tall front o d last passed → Lacks o (front ++ x ∷ back) → IsDistinct (front ++ x ∷ back) → IsRow tall next' span' o d (front ++ back)
   left x [] back o d last passed h row r lo dist =
       let same = same_left o back (λ p a. h.others p (λ q. a (q ∙ r.0))) lo.1 in
       elim row [
         | inl w ↦ (let e = h.leaves w.0 in
             moved tall next span tall next' span' (suc x) 0 o d back w.3 (ap next' (sym r.0) ∙ e.0) (let b : span' last ≡ span' o = ap span' r.0 in omega (arith, e.1, r.1)) same)
         | inr w ↦ (let e = h.low w.0 in
-            moved tall next span tall next' span' o (suc d) o d back w.1 (ap next' (sym r.0) ∙ e.0 ∙ ap next r.0) (let a : span last ≡ span o = ap span r.0 in let b : span' last ≡ span' o = ap span' r.0 in omega (arith, e.1)) same)
+            moved tall next span tall next' span' o (suc d) o d back w.1 (ap next' (sym r.0) ∙ e.0 ∙ ap next r.0)
+            (let a : span last ≡ span o = ap span r.0 in let b : span' last ≡ span' o = ap span' r.0 in omega (arith, e.1)) same)
       ]
   left x (k ∷ ks) back o d last passed h row (inl r) lo dist =
       elim row [

@@ -1,12 +1,14 @@
 -- What the edits of links and towers make of the order.
-use Rattle.std.proofs.Common.{◌≡◌, ◌≢◌, ℕ, zero, suc, ◌+◌, ◌<◌, ◌^◌, Bool, true, nat_lt, List, [], ◌∷◌, ◌++◌, IsSome, length, take, drop, get_or, map, Option, Some, None, refl, sym, ap, ◌∙◌, subst, length-append, ltb-true, arith}
+use Rattle.std.proofs.Common.{◌≡◌, ◌≢◌, ℕ, zero, suc, ◌+◌, ◌<◌, ◌^◌, Bool, true, nat_lt, List, [], ◌∷◌, ◌++◌, IsSome, length, take, drop, get_or, map, Option, Some, None, refl, sym, ap}
+use Rattle.std.proofs.Common.{◌∙◌, subst, length-append, ltb-true, arith}
 use Rattle.std.proofs.lemmas.List.{take-append-drop, map-append, take-map, drop-map}
 use Rattle.slab.specs.Slab.{get}
 use Rattle.score_list.specs.declared.towers.Link.{Link}
 use Rattle.score_list.specs.declared.towers.Tower.{Tower}
 use Rattle.score_list.specs.declared.towers.Towers.{Towers}
 use Rattle.score_list.specs.Rows.{Lacks, IsDistinct, AllTall}
-use Rattle.score_list.specs.Linked.{Element, no_link, links_of, next_at, span_at, element_of, element_at, tall, order, items, IsLevel, LinkedAs, IsLinked, Threads, Unthreads, Adds, with_at, without_at}
+use Rattle.score_list.specs.Linked.{Element, no_link, links_of, next_at, span_at, element_of, element_at, tall, order, items, IsLevel, LinkedAs, IsLinked, Threads, Unthreads, Adds}
+use Rattle.score_list.specs.Linked.{with_at, without_at}
 use Rattle.score_list.proofs.Moved.{never, Same, moved}
 use Rattle.score_list.proofs.Threading.{order_is, all_kept, at_rank}
 
@@ -36,7 +38,8 @@ length_with xs rank x =
     length-append (take rank xs) (x ∷ drop rank xs) ∙ omega (arith, w)
 
 pub map_with : (f : ℕ → Element) (ks : List ℕ) (rank key : ℕ) → map f (with_at ks rank key) ≡ with_at (map f ks) rank (f key)
-map_with f ks rank key = map-append f (take rank ks) (key ∷ drop rank ks) ∙ ap (λ xs. xs ++ f key ∷ map f (drop rank ks)) (sym (take-map f rank ks)) ∙ ap (λ xs. take rank (map f ks) ++ f key ∷ xs) (sym (drop-map f rank ks))
+map_with f ks rank key = map-append f (take rank ks) (key ∷ drop rank ks) ∙ ap (λ xs. xs ++ f key ∷ map f (drop rank ks)) (sym (take-map f rank ks))
+    ∙ ap (λ xs. take rank (map f ks) ++ f key ∷ xs) (sym (drop-map f rank ks))
 
 -- ---- one key fewer
 
@@ -56,7 +59,8 @@ tall_without tall x [] back a = a.1
 tall_without tall x (k ∷ ks) back a = (a.0, tall_without tall x ks back a.1)
 
 pub map_without : (f : ℕ → Element) (ks : List ℕ) (rank : ℕ) → map f (without_at ks rank) ≡ without_at (map f ks) rank
-map_without f ks rank = map-append f (take rank ks) (drop (suc rank) ks) ∙ ap (λ xs. xs ++ map f (drop (suc rank) ks)) (sym (take-map f rank ks)) ∙ ap (λ xs. take rank (map f ks) ++ xs) (sym (drop-map f (suc rank) ks))
+map_without f ks rank = map-append f (take rank ks) (drop (suc rank) ks) ∙ ap (λ xs. xs ++ map f (drop (suc rank) ks)) (sym (take-map f rank ks))
+    ∙ ap (λ xs. take rank (map f ks) ++ xs) (sym (drop-map f (suc rank) ks))
 
 -- ---- another tower's entry changes
 
@@ -118,8 +122,10 @@ module _ (t0 t1 t2 : Towers) (key rank : ℕ) (element : Element) (linked : IsLi
   pub joined_as : LinkedAs longer (with_at (order t0) rank key)
   joined_as = record {
     rows = λ level lt. subst (λ ks. IsLevel t2 level (with_at ks rank key)) is_order (h.rows level lt);
-    based = all_kept t1 t2 (with_at (order t0) rank key) h.keeps.heights (tall_with (tall t1 0) key (take rank (order t0)) (drop rank (order t0)) (subst (AllTall (tall t1 0)) (sym (take-append-drop rank (order t0))) a.linked.based) a.based);
-    distinct = distinct_with key (take rank (order t0)) (drop rank (order t0)) (subst IsDistinct (sym (take-append-drop rank (order t0))) linked.distinct) (subst (Lacks (suc key)) (sym (take-append-drop rank (order t0))) a.fresh);
+    based = all_kept t1 t2 (with_at (order t0) rank key) h.keeps.heights
+        (tall_with (tall t1 0) key (take rank (order t0)) (drop rank (order t0)) (subst (AllTall (tall t1 0)) (sym (take-append-drop rank (order t0))) a.linked.based) a.based);
+    distinct = distinct_with key (take rank (order t0)) (drop rank (order t0)) (subst IsDistinct (sym (take-append-drop rank (order t0))) linked.distinct)
+        (subst (Lacks (suc key)) (sym (take-append-drop rank (order t0))) a.fresh);
     counted = omega (arith, h.keeps.len, a.len, linked.counted, length_with (order t0) rank key);
     full_head = h.keeps.head ∙ a.linked.full_head;
     short = omega (arith, h.keeps.len, a.len, room);
@@ -134,7 +140,8 @@ module _ (t0 t1 t2 : Towers) (key rank : ℕ) (element : Element) (linked : IsLi
       ∙ ap (λ e. with_at (items t0) rank e) a.is
 
 -- a tower that left every level is taken out
-module _ (t0 t1 t2 : Towers) (key rank : ℕ) (linked : IsLinked t0) (h : Unthreads t0 t1 key rank) (lt : rank < length (order t0)) (at : get_or (order t0) rank 0 ≡ key) (head : t2.head ≡ t1.head) (same : (k : ℕ) → k ≢ key → get t2.slab k ≡ get t1.slab k) (len : suc t2.len ≡ t1.len) where
+module _ (t0 t1 t2 : Towers) (key rank : ℕ) (linked : IsLinked t0) (h : Unthreads t0 t1 key rank) (lt : rank < length (order t0)) (at : get_or (order t0) rank 0 ≡ key)
+    (head : t2.head ≡ t1.head) (same : (k : ℕ) → k ≢ key → get t2.slab k ≡ get t1.slab k) (len : suc t2.len ≡ t1.len) where
   is : order t0 ≡ take rank (order t0) ++ key ∷ drop (suc rank) (order t0)
   is = at_rank (order t0) rank key lt at
 
@@ -152,7 +159,9 @@ module _ (t0 t1 t2 : Towers) (key rank : ℕ) (linked : IsLinked t0) (h : Unthre
   pub left_as : LinkedAs t2 (without_at (order t0) rank)
   left_as = record {
     rows = λ level less. level_elsewhere t1 t2 key head same level (without_at (order t0) rank) apart_from.0 (h.rows level less);
-    based = tall_elsewhere t1 t2 key head same (without_at (order t0) rank) apart_from.0 (all_kept t0 t1 (without_at (order t0) rank) h.keeps.heights (tall_without (tall t0 0) key (take rank (order t0)) (drop (suc rank) (order t0)) (subst (AllTall (tall t0 0)) is linked.based)));
+    based = tall_elsewhere t1 t2 key head same (without_at (order t0) rank) apart_from.0
+        (all_kept t0 t1 (without_at (order t0) rank) h.keeps.heights
+        (tall_without (tall t0 0) key (take rank (order t0)) (drop (suc rank) (order t0)) (subst (AllTall (tall t0 0)) is linked.based)));
     distinct = apart_from.1;
     counted = omega (arith, len, h.keeps.len, linked.counted, fewer);
     full_head = ap length head ∙ h.keeps.head ∙ linked.full_head;

@@ -1,5 +1,6 @@
 -- Where an owner stands, and the list that the links make.
-use Rattle.std.proofs.Common.{◌≡◌, ◌≢◌, ℕ, zero, suc, ◌+◌, ◌<◌, ◌≤◌, Bool, true, List, [], ◌∷◌, ◌++◌, length, take, drop, get_or, Option, Some, None, refl, sym, ap, ◌∙◌, subst, append_assoc, arith, ◌⊎◌, inl, inr}
+use Rattle.std.proofs.Common.{◌≡◌, ◌≢◌, ℕ, zero, suc, ◌+◌, ◌<◌, ◌≤◌, Bool, true, List, [], ◌∷◌, ◌++◌, length, take, drop, get_or, Option, Some, None, refl, sym, ap, ◌∙◌, subst}
+use Rattle.std.proofs.Common.{append_assoc, arith, ◌⊎◌, inl, inr}
 use Rattle.std.proofs.lemmas.List.{take-append-drop}
 use Rattle.score_list.specs.Rows.{IsRow, Reaches, Stands, AllTall}
 use Rattle.score_list.specs.Rows.Stands.{at_head, at_tower}
@@ -32,21 +33,28 @@ module _ (tall : ℕ → Bool) (next span : ℕ → ℕ) where
   pub row_at : (ks : List ℕ) (rank o : ℕ) (rest : List ℕ) → Stands tall (take rank ks) o rest → IsRow tall next span 0 0 ks → IsRow tall next span o 0 (rest ++ drop rank ks)
   row_at ks rank o rest s r = stands_row tall next span (take rank ks) (drop rank ks) o rest s (subst (IsRow tall next span 0 0) (sym (take-append-drop rank ks)) r)
 
-  stands_on : (front : List ℕ) (o n : ℕ) (rest before : List ℕ) (k : ℕ) (behind : List ℕ) → Stands tall front o rest → rest ≡ before ++ k ∷ behind → tall k ≡ true → n ≡ suc k → Stands tall front n behind
+  stands_on : (front : List ℕ) (o n : ℕ) (rest before : List ℕ) (k : ℕ) (behind : List ℕ) → Stands tall front o rest → rest ≡ before ++ k ∷ behind → tall k ≡ true → n ≡ suc k
+      → Stands tall front n behind
   stands_on front o n rest before k behind (at_head is_o is_rest) is t is_n = at_tower before k t is_n (sym is_rest ∙ is)
   stands_on front o n rest before k behind (at_tower b j u is_o is_front) is t is_n =
       at_tower (b ++ j ∷ before) k t is_n (is_front ∙ ap (λ xs. b ++ j ∷ xs) is ∙ sym (append_assoc b (j ∷ before) (k ∷ behind)))
 
   -- the next owner stands there too, where its place is not behind the rank
-  pub on : (ks : List ℕ) (rank o after : ℕ) (rest : List ℕ) → Stands tall (take rank ks) o rest → after + length rest ≡ rank → IsRow tall next span 0 0 ks → span o + after ≤ rank → (behind : List ℕ) × Stands tall (take rank ks) (next o) behind × (after + span o + length behind ≡ rank)
+  pub on : (ks : List ℕ) (rank o after : ℕ) (rest : List ℕ) → Stands tall (take rank ks) o rest → after + length rest ≡ rank → IsRow tall next span 0 0 ks → span o + after ≤ rank
+      → (behind : List ℕ) × Stands tall (take rank ks) (next o) behind × (after + span o + length behind ≡ rank)
   on ks rank o after rest s is r le =
       let a = ahead tall next span rest (drop rank ks) o 0 (row_at ks rank o rest s r) (omega arith) in
       (a.behind, stands_on (take rank ks) o (next o) rest a.before a.k a.behind s a.is a.reaches a.next_is, omega (arith, a.span_is))
 
   -- it is the last one, where the next one's place is behind the rank
-  pub arrived : (ks : List ℕ) (rank o after : ℕ) (rest : List ℕ) → Stands tall (take rank ks) o rest → after + length rest ≡ rank → IsRow tall next span 0 0 ks → rank < span o + after → (left : ℕ) × Reaches tall (take rank ks) 0 0 o left × (after + left ≡ rank)
-  arrived ks rank o after rest s is r lt =
-      (length rest, stands_reach tall (take rank ks) o rest o (length rest) s (subst (λ n. Reaches tall rest o 0 o n) (omega arith) (stays tall next span rest (drop rank ks) o 0 (row_at ks rank o rest s r) (omega arith))), is)
+  pub arrived : (ks : List ℕ) (rank o after : ℕ) (rest : List ℕ) → Stands tall (take rank ks) o rest → after + length rest ≡ rank → IsRow tall next span 0 0 ks → rank < span o + after
+      → (left : ℕ) × Reaches tall (take rank ks) 0 0 o left × (after + left ≡ rank)
+  arrived ks rank o after rest s is r lt = (
+    length rest,
+    stands_reach tall (take rank ks) o rest o (length rest) s
+        (subst (λ n. Reaches tall rest o 0 o n) (omega arith) (stays tall next span rest (drop rank ks) o 0 (row_at ks rank o rest s r) (omega arith))),
+    is,
+  )
 
   pub some_span : (ks : List ℕ) (rank o after : ℕ) (rest : List ℕ) → Stands tall (take rank ks) o rest → IsRow tall next span 0 0 ks → 0 < span o
   some_span ks rank o after rest s r = beyond tall next span o 0 (rest ++ drop rank ks) (row_at ks rank o rest s r)

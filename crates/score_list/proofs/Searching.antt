@@ -1,5 +1,6 @@
 -- The way down to the first element that a probe doesn't stand above.
-use Rattle.std.proofs.Common.{◌≡◌, ℕ, zero, suc, ◌+◌, ◌-◌, ◌<◌, ◌≤◌, Bool, true, false, List, [], ◌∷◌, ◌++◌, length, take, drop, get_or, map, count_by, cond, refl, sym, append_assoc, drop_of_length-le, ap, ◌∙◌, subst, length-take-le, drop-cons, ltb-true, ltb-false, nat_lt, arith, inl, inr}
+use Rattle.std.proofs.Common.{◌≡◌, ℕ, zero, suc, ◌+◌, ◌-◌, ◌<◌, ◌≤◌, Bool, true, false, List, [], ◌∷◌, ◌++◌, length, take, drop, get_or, map, count_by, cond, refl, sym, append_assoc}
+use Rattle.std.proofs.Common.{drop_of_length-le, ap, ◌∙◌, subst, length-take-le, drop-cons, ltb-true, ltb-false, nat_lt, arith, inl, inr}
 use Rattle.std.specs.Prelude.{slice_index_or, slice_set}
 use Rattle.std.proofs.lemmas.List.{take-append-drop, take-map, drop-map, length-set, get_or-set_other, get_or-set_same}
 use Rattle.std.proofs.lemmas.List.Sums.{sum_by-cons}
@@ -80,7 +81,8 @@ module _ (f : Element → Bool) where
       found_behind (j ∷ ks) back o d (inr r) lt a k e = found_behind ks back o (suc d) r.1 (omega arith) a k e
 
       -- in front of the rank, an owner whose next element fails, or that has none, is the last one
-      pub fails_at_last : (ks : List ℕ) (rank o after : ℕ) (rest : List ℕ) → KeysAre true (take rank ks) → Stands tall (take rank ks) o rest → after + length rest ≡ rank → IsRow tall next span 0 0 ks → ((k : ℕ) → next o ≡ suc k → f (at k) ≡ false) → rank < span o + after
+      pub fails_at_last : (ks : List ℕ) (rank o after : ℕ) (rest : List ℕ) → KeysAre true (take rank ks) → Stands tall (take rank ks) o rest → after + length rest ≡ rank
+          → IsRow tall next span 0 0 ks → ((k : ℕ) → next o ≡ suc k → f (at k) ≡ false) → rank < span o + after
       fails_at_last ks rank o after rest front s is r fails =
           elim (decide (nat_lt rank (span o + after))) [
             | inl e ↦ ltb-true rank (span o + after) e
@@ -91,10 +93,13 @@ module _ (f : Element → Bool) where
           ]
 
       -- where the next element passes, it stands in front of the rank too
-      pub passes_before : (ks : List ℕ) (rank o after : ℕ) (rest : List ℕ) → KeysAre false (drop rank ks) → Stands tall (take rank ks) o rest → after + length rest ≡ rank → IsRow tall next span 0 0 ks → (k : ℕ) → next o ≡ suc k → f (at k) ≡ true → span o + after ≤ rank
+      pub passes_before : (ks : List ℕ) (rank o after : ℕ) (rest : List ℕ) → KeysAre false (drop rank ks) → Stands tall (take rank ks) o rest → after + length rest ≡ rank
+          → IsRow tall next span 0 0 ks → (k : ℕ) → next o ≡ suc k → f (at k) ≡ true → span o + after ≤ rank
       passes_before ks rank o after rest back s is r k e above =
           elim (decide (nat_lt rank (span o + after))) [
-            | inl h ↦ (let lt : rank < span o + after = ltb-true rank (span o + after) h in never (f (at k)) above (found_behind rest (drop rank ks) o 0 (row_at tall next span ks rank o rest s r) (omega arith) back k e))
+            | inl h ↦
+                (let lt : rank < span o + after = ltb-true rank (span o + after) h in
+                never (f (at k)) above (found_behind rest (drop rank ks) o 0 (row_at tall next span ks rank o rest s r) (omega arith) back k e))
             | inr h ↦ ltb-false rank (span o + after) h
           ]
 
@@ -121,9 +126,11 @@ module _ (P : Element → Type 0) (at : ℕ → Element) where
   each_found tall next span o d (j ∷ ks) (inr r) a k e = each_found tall next span o (suc d) ks r.1 a.1 k e
 
   -- what holds of each element holds of the next one of an owner
-  pub each_next : (tall : ℕ → Bool) (next span : ℕ → ℕ) (ks : List ℕ) (rank o : ℕ) (rest : List ℕ) → EachIs P (map at ks) → Stands tall (take rank ks) o rest → IsRow tall next span 0 0 ks → (k : ℕ) → next o ≡ suc k → P (at k)
+  pub each_next : (tall : ℕ → Bool) (next span : ℕ → ℕ) (ks : List ℕ) (rank o : ℕ) (rest : List ℕ) → EachIs P (map at ks) → Stands tall (take rank ks) o rest → IsRow tall next span 0 0 ks
+      → (k : ℕ) → next o ≡ suc k → P (at k)
   each_next tall next span ks rank o rest each s r k e =
-      each_found tall next span o 0 (rest ++ drop rank ks) (row_at tall next span ks rank o rest s r) (stands_each tall (take rank ks) (drop rank ks) o rest s (subst KeysEach (sym (take-append-drop rank ks)) (keys_each ks each))) k e
+      each_found tall next span o 0 (rest ++ drop rank ks) (row_at tall next span ks rank o rest s r)
+      (stands_each tall (take rank ks) (drop rank ks) o rest s (subst KeysEach (sym (take-append-drop rank ks)) (keys_each ks each))) k e
 
 -- an owner that stands somewhere on the way down, and is the last one of its level unless the way has just begun
 pub record Descent (t : Towers) (rank level owner after : ℕ) : Type 0 where
@@ -135,7 +142,8 @@ pub descent_begins : (t : Towers) (rank : ℕ) → rank ≤ length (order t) →
 descent_begins t rank le = record { bound = omega arith; stands = (take rank (order t), at_head refl refl, omega (arith, length-take-le rank (order t) le)); came = λ lt. absurd (omega arith) }
 
 pub stands_lower : (t : Towers) (rank level owner after : ℕ) → 0 < level → StandsAt t level rank owner after → StandsAt t (level - 1) rank owner after
-stands_lower t rank level owner after lt s = (s.0, stands_below (tall t level) (tall t (level - 1)) (λ k h. lower (height_at t k) level (level - 1) (omega arith) h) (take rank (order t)) owner s.0 s.1, s.2)
+stands_lower t rank level owner after lt s =
+    (s.0, stands_below (tall t level) (tall t (level - 1)) (λ k h. lower (height_at t k) level (level - 1) (omega arith) h) (take rank (order t)) owner s.0 s.1, s.2)
 
 pub descends : (t : Towers) (rank level owner after : ℕ) → level < 16 → Arrives t level rank owner after → Descent t rank level owner after
 descends t rank level owner after lt a =
@@ -148,12 +156,14 @@ pub record Way (t : Towers) (rank level : ℕ) (path : List Place) : Type 0 wher
   pub came : (j : ℕ) → level ≤ j → j < 16 → Arrives t j rank (slice_index_or path j no_place).owner (slice_index_or path j no_place).rank
 
 -- with that of one level more
-pub way_on : (t : Towers) (rank level : ℕ) (path : List Place) (place : Place) → 0 < level → level - 1 < 16 → Arrives t (level - 1) rank place.owner place.rank → Way t rank level path → Way t rank (level - 1) (slice_set path (level - 1) place)
+pub way_on : (t : Towers) (rank level : ℕ) (path : List Place) (place : Place) → 0 < level → level - 1 < 16 → Arrives t (level - 1) rank place.owner place.rank → Way t rank level path
+    → Way t rank (level - 1) (slice_set path (level - 1) place)
 way_on t rank level path place lt low a w = record {
   long = length-set path (level - 1) place ∙ w.long;
   came = λ j le less. elim (decide (nat_lt (level - 1) j)) [
     | inl h ↦ (let more : level - 1 < j = ltb-true (level - 1) j h in
-        let same : slice_index_or (slice_set path (level - 1) place) j no_place ≡ slice_index_or path j no_place = get_or-set_other path (level - 1) j place no_place (λ e. absurd (omega (arith, e, more))) in
+        let same : slice_index_or (slice_set path (level - 1) place) j no_place ≡ slice_index_or path j no_place =
+        get_or-set_other path (level - 1) j place no_place (λ e. absurd (omega (arith, e, more))) in
         subst (λ (p : Place). Arrives t j rank p.owner p.rank) (sym same) (w.came j (omega (arith, more)) less))
     | inr h ↦ (let is : level - 1 ≡ j = omega (arith, le, ltb-false (level - 1) j h) in
         let same : slice_index_or (slice_set path (level - 1) place) (level - 1) no_place ≡ place = get_or-set_same path (level - 1) place no_place (omega (arith, low, w.long)) in
@@ -190,7 +200,9 @@ module _ (t : Towers) (linked : IsLinked t) (rank owner after : ℕ) (a : Arrive
   lowest_rank = omega (arith, a.2, left_none)
 
   row_down : IsRow (tall t 0) (next_at t 0) (span_at t 0) owner 0 (drop rank (order t))
-  row_down = subst (λ n. IsRow (tall t 0) (next_at t 0) (span_at t 0) owner n (drop rank (order t))) left_none (row_reached (tall t 0) (next_at t 0) (span_at t 0) (take rank (order t)) (drop rank (order t)) 0 0 owner a.0 a.1 (subst (IsLevel t 0) (sym (take-append-drop rank (order t))) (linked.rows 0 (omega arith))))
+  row_down = subst (λ n. IsRow (tall t 0) (next_at t 0) (span_at t 0) owner n (drop rank (order t))) left_none
+      (row_reached (tall t 0) (next_at t 0) (span_at t 0) (take rank (order t)) (drop rank (order t)) 0 0 owner a.0 a.1
+      (subst (IsLevel t 0) (sym (take-append-drop rank (order t))) (linked.rows 0 (omega arith))))
 
   pub lowest_next : rank < length (order t) → next_at t 0 owner ≡ suc (get_or (order t) rank 0)
   lowest_next lt =

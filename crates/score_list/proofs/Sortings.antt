@@ -1,5 +1,6 @@
 -- Sorted lists, and what an edit at a key's place makes of them.
-use Rattle.std.proofs.Common.{◌≡◌, ◌≢◌, ℕ, zero, suc, ◌+◌, ◌<◌, ℤ, Bool, true, false, int_lt, List, [], ◌∷◌, ◌++◌, length, take, drop, get_or, cond, Ordering, Less, Equal, Greater, Option, Some, None, Result, Ok, Err, OnOk, OnErr, ◌^◌, int_cmp, nat_cmp, is_lt, is_gt, IsSome, refl, sym, ap, ◌∙◌, subst, arith, inl, inr}
+use Rattle.std.proofs.Common.{◌≡◌, ◌≢◌, ℕ, zero, suc, ◌+◌, ◌<◌, ℤ, Bool, true, false, int_lt, List, [], ◌∷◌, ◌++◌, length, take, drop, get_or, cond, Ordering, Less, Equal, Greater, Option}
+use Rattle.std.proofs.Common.{Some, None, Result, Ok, Err, OnOk, OnErr, ◌^◌, int_cmp, nat_cmp, is_lt, is_gt, IsSome, refl, sym, ap, ◌∙◌, subst, arith, inl, inr}
 use Rattle.std.specs.Ordering.{ordering_then, ordering_reverse}
 use Rattle.std.specs.Cmp.{IsTotalOrder}
 use Rattle.std.specs.Cmp.Lexicographic.{slice_cmp}
@@ -208,7 +209,8 @@ module _ (blocks : Blocks) (key : Key) (t : Towers) (sorted : IsSorted blocks (i
 
   -- where the tower at the key's rank has another key, no element has the key
   pub not_there : (tower : ℕ) → IsAt t rank (Some tower) → key_of blocks (element_at t tower) ≢ key → Misses blocks key (items t)
-  not_there tower is ne = misses_at blocks key (items t) sorted (λ lt same. ne (ap (key_of blocks) (sym (stands_there tower is)) ∙ ap (λ n. key_of blocks (get_or (items t) n no_element)) is_place ∙ same))
+  not_there tower is ne = misses_at blocks key (items t) sorted
+      (λ lt same. ne (ap (key_of blocks) (sym (stands_there tower is)) ∙ ap (λ n. key_of blocks (get_or (items t) n no_element)) is_place ∙ same))
 
   -- where the tower at the key's rank has the key, the key is located in this tower
   pub is_there : (tower : ℕ) → IsAt t rank (Some tower) → tower + 1 < 2 ^ 64 → key_of blocks (element_at t tower) ≡ key → Located blocks key t rank tower
@@ -230,14 +232,19 @@ module _ (blocks : Blocks) (key : Key) (t : Towers) (sorted : IsSorted blocks (i
   live_there tower is = subst (λ (e : Element). IsSome (blocks e.1)) (stands_there tower is) (live_at (items t) rank sorted (omega (arith, many, is.0)))
 
 -- the list after an insert, whether or not there was memory
-pub after_insert : {A E : Type 0} (r : Result A E) (blocks : Blocks) (xs new : List Element) (score n : ℤ) (bytes : List ℕ) (member : BlockRef) (rank : ℕ) → n ≡ score → bytes ≡ bytes_at blocks member → rank ≡ place_of blocks (n, bytes) xs → IsSome (blocks member) → IsSorted blocks xs → Misses blocks (score, bytes_at blocks member) xs → OnOk r (new ≡ with_at xs rank (n, member)) → OnErr r (new ≡ xs) → IsSorted blocks new
+pub after_insert : {A E : Type 0} (r : Result A E) (blocks : Blocks) (xs new : List Element) (score n : ℤ) (bytes : List ℕ) (member : BlockRef) (rank : ℕ) → n ≡ score
+    → bytes ≡ bytes_at blocks member → rank ≡ place_of blocks (n, bytes) xs → IsSome (blocks member) → IsSorted blocks xs → Misses blocks (score, bytes_at blocks member) xs
+    → OnOk r (new ≡ with_at xs rank (n, member)) → OnErr r (new ≡ xs) → IsSorted blocks new
 after_insert (Ok x) blocks xs new score n bytes member rank is_score is_bytes is_rank live s m ok err =
-    let key_is : place_of blocks (n, bytes) xs ≡ place_of blocks (score, bytes_at blocks member) xs = ap (λ k. place_of blocks (k, bytes) xs) is_score ∙ ap (λ b. place_of blocks (score, b) xs) is_bytes in
-    subst (IsSorted blocks) (sym (ok ∙ ap (λ k. with_at xs rank (k, member)) is_score ∙ ap (λ k. with_at xs k (score, member)) (is_rank ∙ key_is))) (sorted_joined blocks (score, bytes_at blocks member) member score live refl xs s m)
+    let key_is : place_of blocks (n, bytes) xs ≡ place_of blocks (score, bytes_at blocks member) xs = ap (λ k. place_of blocks (k, bytes) xs) is_score
+    ∙ ap (λ b. place_of blocks (score, b) xs) is_bytes in
+    subst (IsSorted blocks) (sym (ok ∙ ap (λ k. with_at xs rank (k, member)) is_score ∙ ap (λ k. with_at xs k (score, member)) (is_rank ∙ key_is)))
+    (sorted_joined blocks (score, bytes_at blocks member) member score live refl xs s m)
 after_insert (Err e) blocks xs new score n bytes member rank is_score is_bytes is_rank live s m ok err = subst (IsSorted blocks) (sym err) s
 
 -- the old list has the located key at its place, and the new one is the old one without that place
-pub removed_is : (blocks : Blocks) (key : Key) (t : Towers) (old new : List Element) (rank tower : ℕ) → Located blocks key t rank tower → items t ≡ old → new ≡ without_at (items t) rank → HasAt blocks key old (place_of blocks key old) × (new ≡ without_at old (place_of blocks key old))
+pub removed_is : (blocks : Blocks) (key : Key) (t : Towers) (old new : List Element) (rank tower : ℕ) → Located blocks key t rank tower → items t ≡ old → new ≡ without_at (items t) rank
+    → HasAt blocks key old (place_of blocks key old) × (new ≡ without_at old (place_of blocks key old))
 removed_is blocks key t old new rank tower l is e = (
   subst (λ xs. HasAt blocks key xs (place_of blocks key xs)) is (subst (λ n. HasAt blocks key (items t) n) l.place l.has),
   e ∙ subst (λ xs. without_at (items t) rank ≡ without_at xs (place_of blocks key xs)) is (ap (λ n. without_at (items t) n) l.place),
@@ -257,13 +264,15 @@ live_in blocks [] n s lt = absurd (omega arith)
 live_in blocks (x ∷ xs) zero s lt = s.0
 live_in blocks (x ∷ xs) (suc n) s lt = live_in blocks xs n s.2 (omega arith)
 
-module _ (blocks : Blocks) (member : List ℕ) (was score : ℤ) (xs : List Element) (rank : ℕ) (sorted : IsSorted blocks xs) (has : HasAt blocks (was, member) xs rank) (misses : Misses blocks (score, member) xs) where
+module _ (blocks : Blocks) (member : List ℕ) (was score : ℤ) (xs : List Element) (rank : ℕ) (sorted : IsSorted blocks xs) (has : HasAt blocks (was, member) xs rank)
+    (misses : Misses blocks (score, member) xs) where
   -- the list with the element at a rank at the place of its new score is sorted
   pub sorted_moved : IsSorted blocks (with_at (without_at xs rank) (place_of blocks (score, member) (without_at xs rank)) (score, (get_or xs rank no_element).1))
   sorted_moved =
       let ref = (get_or xs rank no_element).1 in
       let is_key : key_of blocks (score, ref) ≡ (score, member) = ap (λ (k : Key). let p : Key = (score, k.1) in p) has.1 in
-      sorted_joined blocks (score, member) ref score (live_in blocks xs rank sorted has.0) is_key (without_at xs rank) (sorted_without blocks rank xs sorted) (misses_without blocks (score, member) rank xs misses)
+      sorted_joined blocks (score, member) ref score (live_in blocks xs rank sorted has.0) is_key (without_at xs rank) (sorted_without blocks rank xs sorted)
+      (misses_without blocks (score, member) rank xs misses)
 
 -- the old list has the located key at its place, and the new one has it with another score
 pub rescored_is : (blocks : Blocks) (member : List ℕ) (was score : ℤ) (t : Towers) (old new : List Element) (rank tower : ℕ) → Located blocks (was, member) t rank tower → items t ≡ old
@@ -271,6 +280,8 @@ pub rescored_is : (blocks : Blocks) (member : List ℕ) (was score : ℤ) (t : T
     → HasAt blocks (was, member) old (place_of blocks (was, member) old) × (new ≡ rescored blocks (was, member) score old)
 rescored_is blocks member was score t old new rank tower l is e = (
   subst (λ xs. HasAt blocks (was, member) xs (place_of blocks (was, member) xs)) is (subst (λ n. HasAt blocks (was, member) (items t) n) l.place l.has),
-  e ∙ subst (λ xs. with_at (without_at (items t) rank) (place_of blocks (score, member) (without_at (items t) rank)) (score, (get_or (items t) rank no_element).1) ≡ rescored blocks (was, member) score xs) is
+  e ∙ subst
+      (λ xs. with_at (without_at (items t) rank) (place_of blocks (score, member) (without_at (items t) rank)) (score, (get_or (items t) rank no_element).1) ≡ rescored blocks (was, member)
+      score xs) is
       (ap (λ n. with_at (without_at (items t) n) (place_of blocks (score, member) (without_at (items t) n)) (score, (get_or (items t) n no_element).1)) l.place),
 )

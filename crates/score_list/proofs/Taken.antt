@@ -16,7 +16,8 @@ tall_at t [] rank key a lt is = absurd (omega arith)
 tall_at t (k ∷ ks) zero key a lt is = ap (tall t 0) (sym is) ∙ a.0
 tall_at t (k ∷ ks) (suc rank) key a lt is = tall_at t ks rank key a.1 (omega arith) is
 
-module _ (t0 t1 : Towers) (key rank : ℕ) (tower : Tower) (score : ℤ) (linked : IsLinked t0) (h : Unthreads t0 t1 key rank) (lt : rank < length (order t0)) (at : get_or (order t0) rank 0 ≡ key) (found : get t1.slab key ≡ Some tower) where
+module _ (t0 t1 : Towers) (key rank : ℕ) (tower : Tower) (score : ℤ) (linked : IsLinked t0) (h : Unthreads t0 t1 key rank) (lt : rank < length (order t0))
+    (at : get_or (order t0) rank 0 ≡ key) (found : get t1.slab key ≡ Some tower) where
   abbrev pub off : Towers
   off = record t1 { slab = with_value t1.slab key (record tower { score = score }); len = t1.len - 1 }
 
@@ -52,7 +53,8 @@ module _ (t0 t1 : Towers) (key rank : ℕ) (tower : Tower) (score : ℤ) (linked
     linked = off_linked;
     len = refl;
     fresh = subst (Lacks (suc key)) (sym (ordered_as off (without_at (order t0) rank) off_as)) (left_fresh t0 t1 off key rank linked h lt at refl elsewhere shorter);
-    based = ap (λ s. nat_lt 0 (length (links_of s))) now ∙ ap (λ s. nat_lt 0 (length (links_of s))) (sym found) ∙ tall_at t1 (order t0) rank key (all_kept t0 t1 (order t0) h.keeps.heights linked.based) lt at;
+    based = ap (λ s. nat_lt 0 (length (links_of s))) now ∙ ap (λ s. nat_lt 0 (length (links_of s))) (sym found)
+        ∙ tall_at t1 (order t0) rank key (all_kept t0 t1 (order t0) h.keeps.heights linked.based) lt at;
     is = ap element_of now ∙ ap (λ (e : Element). let p : Element = (score, e.1) in p) (ap element_of (sym found) ∙ was);
     others = λ k ne. refl;
     fits = fits;

@@ -1,5 +1,6 @@
 -- A tower joins or leaves one level after the other, from the highest down.
-use Rattle.std.proofs.Common.{◌≡◌, ◌≢◌, ℕ, suc, ◌+◌, ◌-◌, ◌<◌, ◌≤◌, Bool, true, false, nat_lt, List, [], ◌∷◌, ◌++◌, length, take, drop, get_or, refl, sym, ap, ◌∙◌, subst, length-append, length-take-le, drop-cons, ltb-true, ltb-false, lt-ltb, arith, ◌⊎◌, inl, inr}
+use Rattle.std.proofs.Common.{◌≡◌, ◌≢◌, ℕ, suc, ◌+◌, ◌-◌, ◌<◌, ◌≤◌, Bool, true, false, nat_lt, List, [], ◌∷◌, ◌++◌, length, take, drop, get_or, refl, sym, ap, ◌∙◌, subst, length-append}
+use Rattle.std.proofs.Common.{length-take-le, drop-cons, ltb-true, ltb-false, lt-ltb, arith, ◌⊎◌, inl, inr}
 use Rattle.std.proofs.Math.Path.{fun_ext}
 use Rattle.std.proofs.lemmas.List.{take-append-drop}
 use Rattle.score_list.specs.declared.towers.Towers.{Towers}
@@ -97,7 +98,8 @@ module _ (t0 : Towers) (ks ks' : List ℕ) (rank : ℕ) where
       goes_past = omega (arith, a.2, beyond (tall t j) (next_at t j) (span_at t j) last a.0 (drop rank ks) row_behind)
 
       pub reached_apart : (key : ℕ) → Lacks (suc key) ks → suc key ≢ last
-      reached_apart key lacks = reached_other (tall t j) (suc key) (take rank ks) (drop rank ks) 0 0 last a.0 arrives (λ e. absurd (omega arith)) (subst (Lacks (suc key)) (sym (take-append-drop rank ks)) lacks)
+      reached_apart key lacks = reached_other (tall t j) (suc key) (take rank ks) (drop rank ks) 0 0 last a.0 arrives (λ e. absurd (omega arith))
+          (subst (Lacks (suc key)) (sym (take-append-drop rank ks)) lacks)
 
       whole : length (take rank ks) + length (drop rank ks) ≡ length ks
       whole = sym (length-append (take rank ks) (drop rank ks)) ∙ ap length (take-append-drop rank ks)
@@ -123,23 +125,27 @@ module _ (t0 : Towers) (ks ks' : List ℕ) (rank : ℕ) where
           }
 
 -- the row that a tower joined
-pub hung_row : (t t' : Towers) (ks : List ℕ) (rank j key last past : ℕ) → Hangs t t' j key last past → Reaches (tall t j) (take rank ks) 0 0 last past → IsLevel t j ks → Lacks (suc key) ks → IsDistinct ks → IsLevel t' j (with_at ks rank key)
+pub hung_row : (t t' : Towers) (ks : List ℕ) (rank j key last past : ℕ) → Hangs t t' j key last past → Reaches (tall t j) (take rank ks) 0 0 last past → IsLevel t j ks → Lacks (suc key) ks
+    → IsDistinct ks → IsLevel t' j (with_at ks rank key)
 hung_row t t' ks rank j key last past h r row lacks dist =
     let is = sym (take-append-drop rank ks) in
     let w : tall t' j ≡ tall t j = tall_kept t t' h.keeps.heights j in
     subst (λ f. IsRow f (next_at t' j) (span_at t' j) 0 0 (with_at ks rank key)) (sym w)
-    (joined (tall t j) (next_at t j) (span_at t j) (next_at t' j) (span_at t' j) key (take rank ks) (drop rank ks) 0 0 last past h.hung (subst (IsLevel t j) is row) r (λ e. absurd (omega arith)) (subst (Lacks (suc key)) is lacks) (lacks_head (take rank ks ++ drop rank ks)) (subst IsDistinct is dist))
+    (joined (tall t j) (next_at t j) (span_at t j) (next_at t' j) (span_at t' j) key (take rank ks) (drop rank ks) 0 0 last past h.hung (subst (IsLevel t j) is row) r
+    (λ e. absurd (omega arith)) (subst (Lacks (suc key)) is lacks) (lacks_head (take rank ks ++ drop rank ks)) (subst IsDistinct is dist))
 
 pub at_rank : (ks : List ℕ) (rank key : ℕ) → rank < length ks → get_or ks rank 0 ≡ key → ks ≡ take rank ks ++ key ∷ drop (suc rank) ks
 at_rank ks rank key lt is = sym (take-append-drop rank ks) ∙ ap (λ xs. take rank ks ++ xs) (drop-cons ks rank 0 lt ∙ ap (λ k. k ∷ drop (suc rank) ks) is)
 
 -- the row that a tower left
-pub unhung_row : (t t' : Towers) (ks : List ℕ) (rank j key last passed : ℕ) → Unhangs t t' j key last passed → Reaches (tall t j) (take rank ks) 0 0 last passed → IsLevel t j ks → rank < length ks → get_or ks rank 0 ≡ key → IsDistinct ks → IsLevel t' j (without_at ks rank)
+pub unhung_row : (t t' : Towers) (ks : List ℕ) (rank j key last passed : ℕ) → Unhangs t t' j key last passed → Reaches (tall t j) (take rank ks) 0 0 last passed → IsLevel t j ks
+    → rank < length ks → get_or ks rank 0 ≡ key → IsDistinct ks → IsLevel t' j (without_at ks rank)
 unhung_row t t' ks rank j key last passed h r row lt at dist =
     let is = at_rank ks rank key lt at in
     let w : tall t' j ≡ tall t j = tall_kept t t' h.keeps.heights j in
     subst (λ f. IsRow f (next_at t' j) (span_at t' j) 0 0 (without_at ks rank)) (sym w)
-    (left (tall t j) (next_at t j) (span_at t j) (next_at t' j) (span_at t' j) key (take rank ks) (drop (suc rank) ks) 0 0 last passed h.unhung (subst (IsLevel t j) is row) r (lacks_head (take rank ks ++ key ∷ drop (suc rank) ks)) (subst IsDistinct is dist))
+    (left (tall t j) (next_at t j) (span_at t j) (next_at t' j) (span_at t' j) key (take rank ks) (drop (suc rank) ks) 0 0 last passed h.unhung (subst (IsLevel t j) is row) r
+    (lacks_head (take rank ks ++ key ∷ drop (suc rank) ks)) (subst IsDistinct is dist))
 
 -- the span of a tower at a rank
 pub span_there : (t : Towers) (ks : List ℕ) (rank j key : ℕ) → IsLevel t j ks → rank < length ks → get_or ks rank 0 ≡ key → tall t j key ≡ true → span_at t j (suc key) + rank ≤ length ks

@@ -1,5 +1,6 @@
 -- What the towers hold, and what holds of them.
-use Rattle.std.specs.Prelude.{◌≡◌, ◌≢◌, ℕ, zero, suc, ◌+◌, ◌^◌, ◌<◌, ◌≤◌, get_or, ℤ, pos, Bool, true, nat_lt, List, [], ◌∷◌, ◌++◌, Option, Some, None, map, length, take, drop, slice_index_or, slice_set}
+use Rattle.std.specs.Prelude.{◌≡◌, ◌≢◌, ℕ, zero, suc, ◌+◌, ◌^◌, ◌<◌, ◌≤◌, get_or, ℤ, pos, Bool, true, nat_lt, List, [], ◌∷◌, ◌++◌, Option, Some, None, map, length, take, drop}
+use Rattle.std.specs.Prelude.{slice_index_or, slice_set}
 use Rattle.blocks.specs.declared.BlockRef.{BlockRef}
 use Rattle.slab.specs.Slab.{get}
 use Rattle.score_list.specs.declared.towers.Link.{Link}

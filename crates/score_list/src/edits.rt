@@ -116,7 +116,8 @@ impl Towers {
         requires parted { IsParted (P.above probe.now) (without_at (items self.old) rank) }
         requires compares { EachIs (P.compares probe.now) (without_at (items self.old) rank) }
         ensures linked { IsLinked self.new }
-        ensures items { items self.new ≡ with_at (without_at (items self.old) rank) (count_by (P.above probe.now) (without_at (items self.old) rank)) (score, (slice_index_or (items self.old) rank no_element).1) }
+        ensures items { items self.new ≡ with_at (without_at (items self.old) rank) (count_by (P.above probe.now) (without_at (items self.old) rank))
+            (score, (slice_index_or (items self.old) rank no_element).1) }
     {
         self.take_off(rank, key, path, score);
         let mut way = [START; LEVELS];
@@ -188,7 +189,8 @@ impl Towers {
         requires parted { IsParted (P.above probe.now) (without_at (items self.old) rank) }
         requires compares { EachIs (P.compares probe.now) (without_at (items self.old) rank) }
         ensures linked { IsLinked self.new }
-        ensures items { items self.new ≡ with_at (without_at (items self.old) rank) (count_by (P.above probe.now) (without_at (items self.old) rank)) (score, (slice_index_or (items self.old) rank no_element).1) }
+        ensures items { items self.new ≡ with_at (without_at (items self.old) rank) (count_by (P.above probe.now) (without_at (items self.old) rank))
+            (score, (slice_index_or (items self.old) rank no_element).1) }
     {
         if self.passes_front(rank, path, probe) && self.stops_behind(rank, key, probe) {
             self.set_score(rank, key, score);

@@ -1,6 +1,7 @@
 //! The list of scores and members.
 
-ghost use Rattle.std.specs.Prelude.{◌≡◌, ◌≢◌, ℕ, suc, ◌+◌, ◌<◌, ◌≤◌, length, List, [], Some, None, IfSome, IfNone, MatchOption, OnOk, OnErr, int_lt, count_by, slice_get, slice_set, slice_index_or, IsSome};
+ghost use Rattle.std.specs.Prelude.{◌≡◌, ◌≢◌, ℕ, suc, ◌+◌, ◌<◌, ◌≤◌, length, List, [], Some, None, IfSome, IfNone, MatchOption, OnOk, OnErr, int_lt, count_by, slice_get, slice_set};
+ghost use Rattle.std.specs.Prelude.{slice_index_or, IsSome};
 ghost use Rattle.blocks.specs.Blocks.{Blocks, bytes_at};
 ghost use Rattle.score_list.specs.Linked.{Element, no_element, with_at, without_at, renamed_at};
 ghost use Rattle.score_list.specs.Sorted.{IsSorted, Misses, place_of, HasAt, Removes, Rescores, Carries, key_of};

@@ -2,7 +2,8 @@
 
 ghost use Rattle.std.specs.Prelude.{◌≡◌, ◌≢◌, ℕ, suc, ◌+◌, ◌<◌, ◌≤◌, ◌^◌, length, get_or, true, List, [], Some, None};
 ghost use Rattle.score_list.specs.Rows.{Lacks};
-ghost use Rattle.score_list.specs.Linked.{Element, link_at, links_at, span_at, height_at, tall, order, items, IsLevel, IsLinked, LinkedAs, StandsAt, Arrives, SetsLink, Hangs, Unhangs, Threads, Unthreads, IsPath};
+ghost use Rattle.score_list.specs.Linked.{Element, link_at, links_at, span_at, height_at, tall, order, items, IsLevel, IsLinked, LinkedAs, StandsAt, Arrives, SetsLink, Hangs, Unhangs};
+ghost use Rattle.score_list.specs.Linked.{Threads, Unthreads, IsPath};
 
 use blocks::BlockRef;
 use slab::Slab;

@@ -25,7 +25,8 @@ pub holds_of : (t : Table ℤ) (at : ℕ) (e : Element ℤ) (x : Scored) → ite
 holds_of t at e x found same = record { hash = e.hash; found = found ∙ (λ i. Some (record { key = (same i).1; hash = e.hash; value = (same i).0 })) }
 
 -- one item number of the dictionary changes, and so does the list
-module _ (m : Blocks) (old new : Table ℤ) (xs ys : List Scored) (at : ℕ) (element : Option (Element ℤ)) (k : Keyed m old) (u : Updates old.items new.items at element) (agree : Agree old xs) (f : Follows xs ys (entry_of (item old at)) (entry_of element)) where
+module _ (m : Blocks) (old new : Table ℤ) (xs ys : List Scored) (at : ℕ) (element : Option (Element ℤ)) (k : Keyed m old) (u : Updates old.items new.items at element)
+    (agree : Agree old xs) (f : Follows xs ys (entry_of (item old at)) (entry_of element)) where
   -- another element isn't the one that was there
   another : (other : ℕ) (e : Element ℤ) → other ≢ at → item old other ≡ Some e → entry_of (item old at) ≢ Some (e.value, e.key)
   another other e apart there same =

@@ -1,5 +1,6 @@
 -- Which elements a list of scores and members has, and which it has after an edit.
-use Rattle.std.proofs.Common.{◌≡◌, ◌≢◌, ◌⊎◌, inl, inr, ℕ, zero, suc, ◌<◌, ◌≤◌, true, false, Bool, List, [], ◌∷◌, length, get_or, Option, Some, None, refl, sym, ap, ◌∙◌, arith, Less, Equal, cond, count_by, is_lt}
+use Rattle.std.proofs.Common.{◌≡◌, ◌≢◌, ◌⊎◌, inl, inr, ℕ, zero, suc, ◌<◌, ◌≤◌, true, false, Bool, List, [], ◌∷◌, length, get_or, Option, Some, None, refl, sym, ap, ◌∙◌, arith, Less, Equal}
+use Rattle.std.proofs.Common.{cond, count_by, is_lt}
 use Rattle.std.specs.Prelude.{Contains}
 use Rattle.std.proofs.lemmas.Cmp.{tied_itself}
 use Rattle.blocks.specs.declared.BlockRef.{BlockRef}
@@ -123,7 +124,8 @@ module _ (m : Blocks) where
   gone : (xs : List Element) (n : ℕ) → IsSorted m xs → n < length xs → Among (without_at xs n) (get_or xs n no_element) → ⊥
   gone [] n s lt h = omega (arith, lt)
   gone (z ∷ zs) zero s lt h = less_differs (key_of m z) (key_of m z) (behind_among m (key_of m z) zs z s.1 h) refl
-  gone (z ∷ zs) (suc n) s lt (inl e) = less_differs (key_of m z) (key_of m (get_or zs n no_element)) (behind_among m (key_of m z) zs (get_or zs n no_element) s.1 (among_at zs n (omega (arith, lt)))) (ap (key_of m) e)
+  gone (z ∷ zs) (suc n) s lt (inl e) = less_differs (key_of m z) (key_of m (get_or zs n no_element))
+      (behind_among m (key_of m z) zs (get_or zs n no_element) s.1 (among_at zs n (omega (arith, lt)))) (ap (key_of m) e)
   gone (z ∷ zs) (suc n) s lt (inr h) = gone zs n s.2 (omega (arith, lt)) h
 
 -- The second list has the first one's elements, but `is` in place of `was`.

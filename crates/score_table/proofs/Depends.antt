@@ -19,7 +19,8 @@ use Rattle.collection_walk.proofs.Named.{self, names_key}
 use Rattle.score_table.proofs.Ranked.{counted, items_arranged, ranking_holds, ranking_once}
 
 module _ (a b : Blocks) where
-  pairs_same : (items : List (Option (Element ℤ))) → ((r : BlockRef) → IsIn r (flat_map (own_of no_block) items) → b r ≡ a r) → flat_map (pair_of b (λ (v : ℤ). v)) items ≡ flat_map (pair_of a (λ (v : ℤ). v)) items
+  pairs_same : (items : List (Option (Element ℤ))) → ((r : BlockRef) → IsIn r (flat_map (own_of no_block) items) → b r ≡ a r)
+      → flat_map (pair_of b (λ (v : ℤ). v)) items ≡ flat_map (pair_of a (λ (v : ℤ). v)) items
   pairs_same [] same = refl
   pairs_same (None ∷ items) same = pairs_same items same
   pairs_same (Some e ∷ items) same =

@@ -106,7 +106,9 @@ module _ (m : Blocks) (old : ScoreTable) (is : IsScoreTable m old) where
       let it : e ≡ st.element = some_element (item old.table at) e st.element (ap (item old.table) (sym here) ∙ p.1.found) st.found in
       apart (sym (ap (λ (k : Key). k.0) same) ∙ ap (λ (f : Element ℤ). f.value) it))
 
-module _ (m : Blocks) (old : ScoreTable) (table : Table ℤ) (ys : List Scored) (at place : ℕ) (e : Element ℤ) (is : IsScoreTable m old) (live : IsSome (m e.key)) (adds : Adds old.table table at e) (hashed : e.hash ≡ hash_of old.table.seed (bytes_at m e.key)) (lacks : Lacks m old.table (bytes_at m e.key)) (sorted : IsSorted m ys) (list_is : ys ≡ with_at old.list place (e.value, e.key)) where
+module _ (m : Blocks) (old : ScoreTable) (table : Table ℤ) (ys : List Scored) (at place : ℕ) (e : Element ℤ) (is : IsScoreTable m old) (live : IsSome (m e.key))
+    (adds : Adds old.table table at e) (hashed : e.hash ≡ hash_of old.table.seed (bytes_at m e.key)) (lacks : Lacks m old.table (bytes_at m e.key)) (sorted : IsSorted m ys)
+    (list_is : ys ≡ with_at old.list place (e.value, e.key)) where
   -- the dictionary that the element joined is sound over the store
   added : Keyed m table
   added = (adds.keyed m is.keyed live hashed lacks).0
@@ -186,7 +188,8 @@ same_changed m s q v is has = record {
   seed = refl;
 }
 
-module _ (m : Blocks) (old : ScoreTable) (table : Table ℤ) (ys : List Scored) (at : ℕ) (was score : ℤ) (q : List ℕ) (is : IsScoreTable m old) (st : Stands m old.table at q) (swaps : Swaps old.table table at was score) where
+module _ (m : Blocks) (old : ScoreTable) (table : Table ℤ) (ys : List Scored) (at : ℕ) (was score : ℤ) (q : List ℕ) (is : IsScoreTable m old) (st : Stands m old.table at q)
+    (swaps : Swaps old.table table at was score) where
   -- the element that stands for the member is the one whose value changes
   pub its : st.element ≡ record { key = swaps.key; hash = swaps.hash; value = was }
   its = some_element (item old.table at) st.element (record { key = swaps.key; hash = swaps.hash; value = was }) st.found swaps.found
@@ -252,7 +255,8 @@ module _ (m : Blocks) (old : ScoreTable) (table : Table ℤ) (ys : List Scored) 
 
 -- ---- a member is taken out, and its block given back
 
-module _ (m n : Blocks) (old : ScoreTable) (table : Table ℤ) (ys : List Scored) (q : List ℕ) (ref : BlockRef) (score : ℤ) (is : IsScoreTable m old) (r : Removes m old.table table q ref score) (given : n ≡ with_block m ref None) where
+module _ (m n : Blocks) (old : ScoreTable) (table : Table ℤ) (ys : List Scored) (q : List ℕ) (ref : BlockRef) (score : ℤ) (is : IsScoreTable m old)
+    (r : Removes m old.table table q ref score) (given : n ≡ with_block m ref None) where
   -- the table of scores without the member, before its block is given back
   abbrev mid : ScoreTable
   mid = record { table = table; list = ys }
@@ -304,7 +308,8 @@ module _ (m n : Blocks) (old : ScoreTable) (table : Table ℤ) (ys : List Scored
   live = subst (λ o. IsSome o) (sym r.bytes) refl
 
   -- where the member left and its block was given back, the table has its old scores without that member
-  pub taken : Keyed m table → IsSorted m ys → (removed : Bool) → ListRemoves m (score, q) old.list removed ys → content m table ≡ remove (content m old.table) q → Grown (hash_of old.table.seed) (key_tables m old.table) (key_tables m table)
+  pub taken : Keyed m table → IsSorted m ys → (removed : Bool) → ListRemoves m (score, q) old.list removed ys → content m table ≡ remove (content m old.table) q
+      → Grown (hash_of old.table.seed) (key_tables m old.table) (key_tables m table)
       → IsChanged m n old mid (remove (scores m old) q)
   taken keyed sorted removed removes map_is grown = record {
     sound = kept_sound m n mid sound others_same;
@@ -320,7 +325,8 @@ module _ (m n : Blocks) (old : ScoreTable) (table : Table ℤ) (ys : List Scored
 -- ---- the elements stay, and the tables change
 
 -- a table whose items stay, and whose buckets come from the old ones by edits, has its old scores
-pub items_changed : (m : Blocks) (old : ScoreTable) (table : Table ℤ) → IsScoreTable m old → table.items ≡ old.table.items → Keyed m table → table.seed ≡ old.table.seed → content m table ≡ content m old.table
+pub items_changed : (m : Blocks) (old : ScoreTable) (table : Table ℤ) → IsScoreTable m old → table.items ≡ old.table.items → Keyed m table → table.seed ≡ old.table.seed
+    → content m table ≡ content m old.table
     → Grown (hash_of old.table.seed) (key_tables m old.table) (key_tables m table) → IsChanged m m old (record { table = table; list = old.list }) (scores m old)
 items_changed m old table is items keyed seed map_is grown = record {
   sound = record {

@@ -1,5 +1,6 @@
 -- The list of the scores and members of a table, and the map of them.
-use Rattle.std.proofs.Common.{◌≡◌, ◌≢◌, ◌⊎◌, inl, inr, ℕ, ◌+◌, ◌<◌, ◌≤◌, zero, suc, ℤ, List, [], ◌∷◌, length, map, get_or, Option, Some, None, IsSome, is_some, cond, unwrap_or, refl, sym, ap, ◌∙◌, subst, arith, Less}
+use Rattle.std.proofs.Common.{◌≡◌, ◌≢◌, ◌⊎◌, inl, inr, ℕ, ◌+◌, ◌<◌, ◌≤◌, zero, suc, ℤ, List, [], ◌∷◌, length, map, get_or, Option, Some, None, IsSome, is_some, cond, unwrap_or, refl, sym}
+use Rattle.std.proofs.Common.{ap, ◌∙◌, subst, arith, Less}
 use Rattle.std.specs.Prelude.{Contains, IfSome, IfNone, MatchOption, slice_get}
 use Rattle.std.specs.FinMap.{empty, get, insert, len, len-insert, len-empty, get-empty}
 use Rattle.std.specs.Ordering.{nat_cmp}
@@ -56,8 +57,10 @@ module _ (m : Blocks) where
   many : (xs : List Scored) → IsSorted m xs → AreApart xs → len (map_in xs) ≡ length xs
   many [] s a = len-empty (slice_cmp nat_cmp) ℤ
   many (x ∷ xs) s a =
-      let none : get (map_in xs) (bytes_at m x.1) ≡ None = in_none xs (bytes_at m x.1) (λ y h same. less_differs (key_of m x) (key_of m y) (behind_among m (key_of m x) xs y s.1 h) (ap (key_of m) (a x y (inl refl) (inr h) (sym same)))) in
-      len-insert nat_list_cmp_total (map_in xs) (bytes_at m x.1) x.0 ∙ ap (λ o. cond (is_some o) (len (map_in xs)) (len (map_in xs) + 1)) none ∙ (let rest = many xs s.2 (apart_behind x xs a) in omega (arith, rest))
+      let none : get (map_in xs) (bytes_at m x.1) ≡ None = in_none xs (bytes_at m x.1)
+      (λ y h same. less_differs (key_of m x) (key_of m y) (behind_among m (key_of m x) xs y s.1 h) (ap (key_of m) (a x y (inl refl) (inr h) (sym same)))) in
+      len-insert nat_list_cmp_total (map_in xs) (bytes_at m x.1) x.0 ∙ ap (λ o. cond (is_some o) (len (map_in xs)) (len (map_in xs) + 1)) none
+      ∙ (let rest = many xs s.2 (apart_behind x xs a) in omega (arith, rest))
 
 module _ (m : Blocks) (s : ScoreTable) (is : IsScoreTable m s) where
   -- an element of the list in the dictionary
@@ -121,7 +124,8 @@ names_at m [] n s = omega arith
 names_at m (x ∷ xs) zero s = record { live = s.0; same = refl }
 names_at m (x ∷ xs) (suc n) s = more (slice_get xs n) (names_at m xs n s.2)
   where
-    more : (o : Option Scored) → MatchOption o (length xs ≤ n) (λ pair. Names m pair (slice_get (map (key_of m) xs) n)) → MatchOption o (length (x ∷ xs) ≤ suc n) (λ pair. Names m pair (slice_get (map (key_of m) xs) n))
+    more : (o : Option Scored) → MatchOption o (length xs ≤ n) (λ pair. Names m pair (slice_get (map (key_of m) xs) n))
+        → MatchOption o (length (x ∷ xs) ≤ suc n) (λ pair. Names m pair (slice_get (map (key_of m) xs) n))
     more None h = omega (arith, h)
     more (Some y) h = h
 
@@ -136,7 +140,8 @@ key_at m (x ∷ xs) zero lt = refl
 key_at m (x ∷ xs) (suc n) lt = key_at m xs n (omega (arith, lt))
 
 -- a member's rank, looked for by its score
-pub ranks_at : (m : Blocks) (s : ScoreTable) (q : List ℕ) (v : ℤ) (place : ℕ) (o : Option ℕ) → IsScoreTable m s → get (scores m s) q ≡ Some v → IfSome o (λ rank. (rank ≡ place) × HasAt m (v, q) s.list rank) → IfNone o (Misses m (v, q) s.list)
+pub ranks_at : (m : Blocks) (s : ScoreTable) (q : List ℕ) (v : ℤ) (place : ℕ) (o : Option ℕ) → IsScoreTable m s → get (scores m s) q ≡ Some v
+    → IfSome o (λ rank. (rank ≡ place) × HasAt m (v, q) s.list rank) → IfNone o (Misses m (v, q) s.list)
     → MatchOption o (get (scores m s) q ≡ None) (λ rank. RanksAt m s q rank)
 ranks_at m s q v place (Some rank) is has found none = record { score = v; has = has; there = key_at m s.list rank found.1.0 ∙ ap Some found.1.1 }
 ranks_at m s q v place None is has found none = absurd (let p = among_score m s is q v has in missed m (v, q) s.list p.0 none p.1 p.2)
@@ -144,7 +149,8 @@ ranks_at m s q v place None is has found none = absurd (let p = among_score m s 
 -- ---- what an item number has
 
 -- the block and the value of an item number are the pair of that item number
-pub item_names : (m : Blocks) (s : ScoreTable) (at : ℕ) (key : BlockRef) (shown v : ℤ) → IsScoreTable m s → Holds s.table at key shown → value_of (item s.table at) ≡ Some v → Names m (v, key) (pair_at m s at)
+pub item_names : (m : Blocks) (s : ScoreTable) (at : ℕ) (key : BlockRef) (shown v : ℤ) → IsScoreTable m s → Holds s.table at key shown → value_of (item s.table at) ≡ Some v
+    → Names m (v, key) (pair_at m s at)
 item_names m s at key shown v is h value =
     let e : Element ℤ = record { key = key; hash = h.hash; value = shown } in
     let same : shown ≡ v = some_same shown v (ap value_of (sym h.found) ∙ value) in

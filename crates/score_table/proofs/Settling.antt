@@ -41,11 +41,16 @@ not_missed m s at key v q is h bytes misses =
 apart_ranks : (m : Blocks) (xs : List Scored) (j k : ℕ) → IsSorted m xs → j < length xs → k < length xs → get_or xs j no_element ≡ get_or xs k no_element → j ≡ k
 apart_ranks m [] j k s lt less same = absurd (omega arith)
 apart_ranks m (x ∷ xs) zero zero s lt less same = refl
-apart_ranks m (x ∷ xs) zero (suc k) s lt less same = absurd (less_differs (key_of m x) (key_of m (get_or xs k no_element)) (behind_among m (key_of m x) xs (get_or xs k no_element) s.1 (among_at xs k (omega (arith, less)))) (ap (key_of m) same))
-apart_ranks m (x ∷ xs) (suc j) zero s lt less same = absurd (less_differs (key_of m x) (key_of m (get_or xs j no_element)) (behind_among m (key_of m x) xs (get_or xs j no_element) s.1 (among_at xs j (omega (arith, lt)))) (ap (key_of m) (sym same)))
+apart_ranks m (x ∷ xs) zero (suc k) s lt less same = absurd
+    (less_differs (key_of m x) (key_of m (get_or xs k no_element)) (behind_among m (key_of m x) xs (get_or xs k no_element) s.1 (among_at xs k (omega (arith, less)))) (ap (key_of m) same))
+apart_ranks m (x ∷ xs) (suc j) zero s lt less same = absurd
+    (less_differs (key_of m x) (key_of m (get_or xs j no_element)) (behind_among m (key_of m x) xs (get_or xs j no_element) s.1 (among_at xs j (omega (arith, lt))))
+    (ap (key_of m) (sym same)))
 apart_ranks m (x ∷ xs) (suc j) (suc k) s lt less same = ap suc (apart_ranks m xs j k s.2 (omega (arith, lt)) (omega (arith, less)) same)
 
-module _ (m n : Blocks) (s : ScoreTable) (table : Table ℤ) (ys : List Scored) (at rank : ℕ) (key ref : BlockRef) (v : ℤ) (q : List ℕ) (is : IsScoreTable m s) (h : Holds s.table at key v) (key_bytes : m key ≡ Some q) (has : HasAt m (v, q) s.list rank) (same : n ref ≡ m key) (p : Changes m n (key ∷ []) (ref ∷ [])) (r : Renames s.table table at ref) (list_is : ys ≡ renamed_at s.list rank ref) where
+module _ (m n : Blocks) (s : ScoreTable) (table : Table ℤ) (ys : List Scored) (at rank : ℕ) (key ref : BlockRef) (v : ℤ) (q : List ℕ) (is : IsScoreTable m s) (h : Holds s.table at key v)
+    (key_bytes : m key ≡ Some q) (has : HasAt m (v, q) s.list rank) (same : n ref ≡ m key) (p : Changes m n (key ∷ []) (ref ∷ [])) (r : Renames s.table table at ref)
+    (list_is : ys ≡ renamed_at s.list rank ref) where
   there : Among s.list (v, key)
   there = among_contained s.list (v, key) (is.agree.listed at (record { key = key; hash = h.hash; value = v }) h.found)
 
@@ -61,8 +66,10 @@ module _ (m n : Blocks) (s : ScoreTable) (table : Table ℤ) (ys : List Scored) 
     others = λ k lt apart. other k lt apart (is.agree.named (get_or s.list k no_element) (contained_among s.list (get_or s.list k no_element) (among_at s.list k lt)));
   }
     where
-      other : (k : ℕ) → k < length s.list → k ≢ rank → (i : ℕ) × Holds s.table i (get_or s.list k no_element).1 (get_or s.list k no_element).0 → n (get_or s.list k no_element).1 ≡ m (get_or s.list k no_element).1
-      other k lt apart w = other_kept m n s.table table at key ref v is.keyed h same p r w.0 (record { key = (get_or s.list k no_element).1; hash = w.1.hash; value = (get_or s.list k no_element).0 }) not_at w.1.found
+      other : (k : ℕ) → k < length s.list → k ≢ rank → (i : ℕ) × Holds s.table i (get_or s.list k no_element).1 (get_or s.list k no_element).0
+          → n (get_or s.list k no_element).1 ≡ m (get_or s.list k no_element).1
+      other k lt apart w = other_kept m n s.table table at key ref v is.keyed h same p r w.0
+          (record { key = (get_or s.list k no_element).1; hash = w.1.hash; value = (get_or s.list k no_element).0 }) not_at w.1.found
         where
           not_at : w.0 ≢ at
           not_at here = apart (apart_ranks m s.list k rank is.sorted lt has.0 (some_same (sym (ap entry_of w.1.found) ∙ ap (λ i. entry_of (item s.table i)) here ∙ ap entry_of h.found) ∙ sym found))
@@ -100,4 +107,5 @@ module _ (m n : Blocks) (s : ScoreTable) (table : Table ℤ) (ys : List Scored) 
       }
 
       scores_same : scores n new ≡ scores m s
-      scores_same = map_of-renames m n (λ (v : ℤ). v) s.table table at ref is.keyed (moved_keyed m n s.table table at key ref v is.keyed h same p r).0 r (bytes_kept m n s.table table at key ref v is.keyed h same p r) (other_kept m n s.table table at key ref v is.keyed h same p r)
+      scores_same = map_of-renames m n (λ (v : ℤ). v) s.table table at ref is.keyed (moved_keyed m n s.table table at key ref v is.keyed h same p r).0 r
+          (bytes_kept m n s.table table at key ref v is.keyed h same p r) (other_kept m n s.table table at key ref v is.keyed h same p r)

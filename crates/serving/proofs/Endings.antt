@@ -57,7 +57,8 @@ module _ {E : Type 0} (X C : E → Words → List Part → E → Type 0) (quits 
     frames_of rest w s end e = record { items = s.items; rest = rest; framed = s.framed; are = refl; ends = e }
 
     -- all requests are answered
-    concludes : (rest : List ℕ) (w : E) (s : Serves X C quits taken rest first w o o1 [] []) (end : End) → EndsAs taken rest end → (ended : Ended) (o2 : SinkSeen) → PutsAll o1 o2 (tail_of ended) → EndsBy limit taken end i2.told ended
+    concludes : (rest : List ℕ) (w : E) (s : Serves X C quits taken rest first w o o1 [] []) (end : End) → EndsAs taken rest end → (ended : Ended) (o2 : SinkSeen)
+        → PutsAll o1 o2 (tail_of ended) → EndsBy limit taken end i2.told ended
         → CountsReads i i2 ended → CountsWrites o o2 ended → Served (path X first) (CutPath X C first) quits limit i i2 o o2 w ended
     concludes rest w s end e ended o2 tail by reads writes = record {
       taken = taken;
@@ -66,7 +67,9 @@ module _ {E : Type 0} (X C : E → Words → List Part → E → Type 0) (quits 
       asked = requests s.items;
       end = end;
       frames = frames_of rest w s end e;
-      ends = answered (record { replies = s.replies; may = s.went; go_on = s.go_on; wrote = all_then o o1 o2 (spelled s.replies) (tail_of ended) (onward_all o o1 (spelled s.replies) s.wrote) tail }) by;
+      ends = answered
+          (record { replies = s.replies; may = s.went; go_on = s.go_on; wrote = all_then o o1 o2 (spelled s.replies) (tail_of ended) (onward_all o o1 (spelled s.replies) s.wrote) tail })
+          by;
       reads = reads;
       writes = writes;
     }
@@ -76,7 +79,8 @@ module _ {E : Type 0} (X C : E → Words → List Part → E → Type 0) (quits 
     no_faults rest w s = (onward_all o o1 (spelled s.replies) s.wrote).faults
 
     -- all requests are answered, and then a rule is broken, whose line can't be written
-    concludes_tail : (rest : List ℕ) (w : E) (s : Serves X C quits taken rest first w o o1 [] []) (rule : Rule) (at : ℕ) → EndsAs taken rest (Fault rule at) → (o2 : SinkSeen) → PutsFront o1 o2 (fault_line rule at) → i2.faults ≡ i.faults
+    concludes_tail : (rest : List ℕ) (w : E) (s : Serves X C quits taken rest first w o o1 [] []) (rule : Rule) (at : ℕ) → EndsAs taken rest (Fault rule at) → (o2 : SinkSeen)
+        → PutsFront o1 o2 (fault_line rule at) → i2.faults ≡ i.faults
         → Served (path X first) (CutPath X C first) quits limit i i2 o o2 w endings.WriteFault
     concludes_tail rest w s rule at e o2 tail reads =
         let front = fault_then o o1 o2 (spelled s.replies) (fault_line rule at) (onward_all o o1 (spelled s.replies) s.wrote) tail in
@@ -103,7 +107,8 @@ module _ {E : Type 0} (X C : E → Words → List Part → E → Type 0) (quits 
         }
 
     -- a run that wants memory behind some requests served is served to this end
-    concludes_memory : (rest : List ℕ) (w last : E) → Serves X C quits taken rest first w o o1 [] [] → i2.faults ≡ i.faults → Served (path X first) (CutPath X C first) quits limit i i2 o o1 last endings.Memory
+    concludes_memory : (rest : List ℕ) (w last : E) → Serves X C quits taken rest first w o o1 [] [] → i2.faults ≡ i.faults
+        → Served (path X first) (CutPath X C first) quits limit i i2 o o1 last endings.Memory
     concludes_memory rest w last s reads =
         let f = frames_there taken in
         let r = requests_first taken s.items rest f.0 f.1 s.framed f.2 in
@@ -191,7 +196,8 @@ module _ {E : Type 0} (X C : E → Words → List Part → E → Type 0) (quits 
 
     -- a run that wants memory behind some of the requests fed next ends by want of memory
     pub ends_memory : (rest : List ℕ) (w last : E) → Serves X C quits old.kept rest e0 w o0 o1 [] [] → Served (path X first) (CutPath X C first) quits limit i i1 o o1 last endings.Memory
-    ends_memory rest w last f = concludes_memory first limit i i1 o o1 s.taken s.took.told few rest w last (serves_then X C quits s.taken old.kept first e0 o o0 [] [] s.serves rest w o1 [] f) s.took.faults
+    ends_memory rest w last f = concludes_memory first limit i i1 o o1 s.taken s.took.told few rest w last
+        (serves_then X C quits s.taken old.kept first e0 o o0 [] [] s.serves rest w o1 [] f) s.took.faults
 
     -- the requests that are whole are answered
     module _ (i2 : SourceSeen) (o2 : SinkSeen) (new : Feeding) (e1 : E) (f : Serves X C quits old.kept new.kept e0 e1 o0 o1 [] []) where
@@ -204,12 +210,15 @@ module _ {E : Type 0} (X C : E → Words → List Part → E → Type 0) (quits 
       broken rule at b fed = (b.from, b.fault, b.place ∙ (fed ∙ s.fed ∙ sym s.counted))
 
       -- a run that comes to a broken rule and puts its line ends by this rule
-      pub ends_protocol : (rule : Rule) (at : ℕ) → IsBroken new rule at → SameFed old new → PutsAll o1 o2 (fault_line rule at) → Served (path X first) (CutPath X C first) quits limit i i1 o o2 e1 (endings.Protocol rule at)
+      pub ends_protocol : (rule : Rule) (at : ℕ) → IsBroken new rule at → SameFed old new → PutsAll o1 o2 (fault_line rule at)
+          → Served (path X first) (CutPath X C first) quits limit i i1 o o2 e1 (endings.Protocol rule at)
       ends_protocol rule at b fed tail =
-          concludes first limit i i1 o o1 s.taken s.took.told few new.kept e1 all_served (Fault rule at) (broken rule at b fed) (endings.Protocol rule at) o2 tail refl s.took.faults (tail.faults ∙ no_faults first limit i i1 o o1 s.taken s.took.told few new.kept e1 all_served)
+          concludes first limit i i1 o o1 s.taken s.took.told few new.kept e1 all_served (Fault rule at) (broken rule at b fed) (endings.Protocol rule at) o2 tail refl s.took.faults
+          (tail.faults ∙ no_faults first limit i i1 o o1 s.taken s.took.told few new.kept e1 all_served)
 
       -- a run that comes to a broken rule and fails to put its line ends by a fault of the output
-      pub ends_tail : (rule : Rule) (at : ℕ) → IsBroken new rule at → SameFed old new → PutsFront o1 o2 (fault_line rule at) → Served (path X first) (CutPath X C first) quits limit i i1 o o2 e1 endings.WriteFault
+      pub ends_tail : (rule : Rule) (at : ℕ) → IsBroken new rule at → SameFed old new → PutsFront o1 o2 (fault_line rule at)
+          → Served (path X first) (CutPath X C first) quits limit i i1 o o2 e1 endings.WriteFault
       ends_tail rule at b fed tail = concludes_tail first limit i i1 o o1 s.taken s.took.told few new.kept e1 all_served rule at (broken rule at b fed) o2 tail s.took.faults
 
       -- where the whole requests are served, the output counts no fault
@@ -219,7 +228,8 @@ module _ {E : Type 0} (X C : E → Words → List Part → E → Type 0) (quits 
       -- a run that has taken the limit's number of bytes ends by the limit
       pub ends_limit : n ≡ limit → (new.kept ≡ []) ⊎ IsCut new.kept → Served (path X first) (CutPath X C first) quits limit i i1 o o1 e1 endings.Limit
       ends_limit is e = elim e [
-        | inl none ↦ concludes first limit i i1 o o1 s.taken s.took.told few new.kept e1 all_served Whole none endings.Limit o1 (all_nothing o1) (at_limit (s.counted ∙ is) refl) s.took.faults writes_none
+        | inl none ↦ concludes first limit i i1 o o1 s.taken s.took.told few new.kept e1 all_served Whole none endings.Limit o1 (all_nothing o1) (at_limit (s.counted ∙ is) refl)
+            s.took.faults writes_none
         | inr cut ↦ concludes first limit i i1 o o1 s.taken s.took.told few new.kept e1 all_served Cut cut endings.Limit o1 (all_nothing o1) (at_limit (s.counted ∙ is) refl) s.took.faults writes_none
       ]
 
@@ -232,29 +242,35 @@ module _ {E : Type 0} (X C : E → Words → List Part → E → Type 0) (quits 
       ends_read_fault not e t =
           let reads : CountsReads i i2 endings.ReadFault = (subst (λ f. Rose f i2.faults) s.took.faults t.rose, λ h. t.unsure (s.took.sure h)) in
           elim e [
-            | inl none ↦ concludes first limit i i2 o o1 s.taken (takes_none i i1 i2 s.taken s.took t.told) few new.kept e1 all_served Whole none endings.ReadFault o1 (all_nothing o1) (take_fails (below not) refl) reads writes_none
-            | inr cut ↦ concludes first limit i i2 o o1 s.taken (takes_none i i1 i2 s.taken s.took t.told) few new.kept e1 all_served Cut cut endings.ReadFault o1 (all_nothing o1) (take_fails (below not) refl) reads writes_none
+            | inl none ↦ concludes first limit i i2 o o1 s.taken (takes_none i i1 i2 s.taken s.took t.told) few new.kept e1 all_served Whole none endings.ReadFault o1 (all_nothing o1)
+                (take_fails (below not) refl) reads writes_none
+            | inr cut ↦ concludes first limit i i2 o o1 s.taken (takes_none i i1 i2 s.taken s.took t.told) few new.kept e1 all_served Cut cut endings.ReadFault o1 (all_nothing o1)
+                (take_fails (below not) refl) reads writes_none
           ]
 
       -- a run below the limit whose input ends after a whole request ends whole
       pub ends_whole : (n ≡ limit → ⊥) → TakesAll i1 i2 [] → IsAtEnd i2.told → length new.kept ≡ 0 → Served (path X first) (CutPath X C first) quits limit i i2 o o1 e1 endings.Whole
       ends_whole not t end none =
-          concludes first limit i i2 o o1 s.taken (takes_none i i1 i2 s.taken s.took t.told) few new.kept e1 all_served Whole (nil_from_length new.kept none) endings.Whole o1 (all_nothing o1) (finds_end (below not) end refl) (t.faults ∙ s.took.faults) writes_none
+          concludes first limit i i2 o o1 s.taken (takes_none i i1 i2 s.taken s.took t.told) few new.kept e1 all_served Whole (nil_from_length new.kept none) endings.Whole o1
+          (all_nothing o1) (finds_end (below not) end refl) (t.faults ∙ s.took.faults) writes_none
 
       -- what the feeder keeps, where it keeps any byte, ends inside a request
       is_cut : (new.kept ≡ []) ⊎ IsCut new.kept → (length new.kept ≡ 0 → ⊥) → IsCut new.kept
       is_cut e some = elim e [ inl none ↦ absurd (some (ap length none)) | inr begun ↦ begun ]
 
       -- a run below the limit whose input ends inside a request ends cut
-      pub ends_cut : (n ≡ limit → ⊥) → (new.kept ≡ []) ⊎ IsCut new.kept → TakesAll i1 i2 [] → IsAtEnd i2.told → (length new.kept ≡ 0 → ⊥) → Served (path X first) (CutPath X C first) quits limit i i2 o o1 e1 endings.Cut
+      pub ends_cut : (n ≡ limit → ⊥) → (new.kept ≡ []) ⊎ IsCut new.kept → TakesAll i1 i2 [] → IsAtEnd i2.told → (length new.kept ≡ 0 → ⊥)
+          → Served (path X first) (CutPath X C first) quits limit i i2 o o1 e1 endings.Cut
       ends_cut not e t end some =
-          concludes first limit i i2 o o1 s.taken (takes_none i i1 i2 s.taken s.took t.told) few new.kept e1 all_served Cut (is_cut e some) endings.Cut o1 (all_nothing o1) (finds_end (below not) end refl) (t.faults ∙ s.took.faults) writes_none
+          concludes first limit i i2 o o1 s.taken (takes_none i i1 i2 s.taken s.took t.told) few new.kept e1 all_served Cut (is_cut e some) endings.Cut o1 (all_nothing o1)
+          (finds_end (below not) end refl) (t.faults ∙ s.took.faults) writes_none
 
       -- want of memory, when a piece was taken
       pub ends_taken : (most : ℕ) → n + most ≤ limit → TakesPiece i1 i2 most → Served (path X first) (CutPath X C first) quits limit i i2 o o1 e1 endings.Memory
       ends_taken most within t =
           let took = takes_then i i1 i2 s.taken t.piece s.took t.took in
-          concludes_memory first limit i i2 o o1 (s.taken ++ t.piece) took.told (omega (arith, length-append s.taken t.piece, s.counted, within, t.few)) (new.kept ++ t.piece) e1 e1 (serves_more X C quits s.taken new.kept first e1 o o1 [] [] all_served t.piece) took.faults
+          concludes_memory first limit i i2 o o1 (s.taken ++ t.piece) took.told (omega (arith, length-append s.taken t.piece, s.counted, within, t.few)) (new.kept ++ t.piece) e1 e1
+          (serves_more X C quits s.taken new.kept first e1 o o1 [] [] all_served t.piece) took.faults
 
       -- a piece was taken and fed
       pub serving_on : SameFed old new → (most count : ℕ) (fed : Feeding) → Feeds i1 i2 most count new fed → Serving first i i2 (n + count) fed e1 o o1

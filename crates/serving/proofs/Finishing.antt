@@ -60,15 +60,19 @@ module _ {E : Type 0} (X C : E → Words → List Part → E → Type 0) (quits 
         subst P (sym is) (serves_fails X C quits old.kept new.kept e0 e1 o0 o1 [] p (passed g.gives) o2 front)
 
   -- want of memory: what is pending isn't put
-  pub finish_memory : (fed rest : List ℕ) (e0 e1 : E) (o0 o1 o2 : SinkSeen) (p : List ℕ) → Halves X C quits fed rest e0 e1 o0 o1 p → o2 ≡ o1 → (mid : List ℕ) × (there : E) × Serves X C quits fed mid e0 there o0 o2 [] []
-  finish_memory fed rest e0 e1 o0 o1 o2 p h same = let P : SinkSeen → Type 0 = λ o. (mid : List ℕ) × (there : E) × Serves X C quits fed mid e0 there o0 o [] [] in subst P (sym same) (h.mid, h.there, h.written)
+  pub finish_memory : (fed rest : List ℕ) (e0 e1 : E) (o0 o1 o2 : SinkSeen) (p : List ℕ) → Halves X C quits fed rest e0 e1 o0 o1 p → o2 ≡ o1 → (mid : List ℕ) × (there : E)
+      × Serves X C quits fed mid e0 there o0 o2 [] []
+  finish_memory fed rest e0 e1 o0 o1 o2 p h same = let P : SinkSeen → Type 0 = λ o. (mid : List ℕ) × (there : E)
+      × Serves X C quits fed mid e0 there o0 o [] [] in subst P (sym same) (h.mid, h.there, h.written)
 
   -- a request is given out and answered
-  module _ (old mid new : Feeding) (words : Words) (e0 e1 e2 : E) (o0 o1 o2 : SinkSeen) (p p1 : List ℕ) (s : Serves X C quits old.kept mid.kept e0 e1 o0 o1 [] p) (g : GivesRequests mid.kept new.kept (words ∷ [])) where
+  module _ (old mid new : Feeding) (words : Words) (e0 e1 e2 : E) (o0 o1 o2 : SinkSeen) (p p1 : List ℕ) (s : Serves X C quits old.kept mid.kept e0 e1 o0 o1 [] p)
+      (g : GivesRequests mid.kept new.kept (words ∷ [])) where
     pub breaks_off : RepliedPart X C quits e1 e2 words o1 o2 p → Breaks X C quits old.kept e0 e2 o0 o2 []
     breaks_off r = breaks_then X C quits old.kept mid.kept e0 e1 o0 o1 [] p s e2 o2 (breaks_one X C quits mid.kept new.kept words e1 e2 o1 o2 p p g r)
 
-    pub finish_quit : (o3 : SinkSeen) (p' : List ℕ) (result : Answered) → Replied X C quits e1 e2 words o1 o2 p p1 true → Finishes o2 o3 p1 p' all.Quit result → AnswersAll X C quits old new e0 e2 o0 o3 result
+    pub finish_quit : (o3 : SinkSeen) (p' : List ℕ) (result : Answered) → Replied X C quits e1 e2 words o1 o2 p p1 true → Finishes o2 o3 p1 p' all.Quit result
+        → AnswersAll X C quits old new e0 e2 o0 o3 result
     finish_quit o3 p' result r (HasPut is put none) =
         let P : Answered → Type 0 = λ a. AnswersAll X C quits old new e0 e2 o0 o3 a in
         let q = quits_then X C quits old.kept mid.kept e0 e1 o0 o1 [] p s e2 o2 p1 (quits_one X C quits mid.kept new.kept words e1 e2 o1 o2 p p1 g r) in

@@ -44,7 +44,8 @@ puts_straight o o1 o2 p p1 p2 a (Err e) same put none q =
     let P : List ℕ → Type 0 = λ l. PutsAll o o1 l in
     fault_then o o1 o2 p a (subst P same put) q
 
-module _ {X : Type 0} (f : X → List ℕ) (xs : List X) (i : ℕ) (x : X) (here : i < length xs) (is : x ≡ get_or xs i x) (o o1 o2 : SinkSeen) (p p1 : List ℕ) (so_far : Onward o o1 p p1 (flat_map f (take i xs))) where
+module _ {X : Type 0} (f : X → List ℕ) (xs : List X) (i : ℕ) (x : X) (here : i < length xs) (is : x ≡ get_or xs i x) (o o1 o2 : SinkSeen) (p p1 : List ℕ)
+    (so_far : Onward o o1 p p1 (flat_map f (take i xs))) where
   -- a part more
   pub onward_part : (p2 : List ℕ) → Onward o1 o2 p1 p2 (f x) → Onward o o2 p p2 (flat_map f (take (i + 1) xs))
   onward_part p2 g = let P : List ℕ → Type 0 = λ l. Onward o o2 p p2 l in subst P (parts_next f xs i x here is) (onward_then o o1 o2 p p1 p2 _ (f x) so_far g)

@@ -50,7 +50,8 @@ module _ {E : Type 0} (X C : E → Words → List Part → E → Type 0) (quits 
   cut_append : (a b c : E) (p q : List Words) (r s : List (List Part)) → path X a p r b → CutPath X C b q s c → CutPath X C a (p ++ q) (r ++ s) c
   cut_append a b c p q r s x (whole y) = whole (path_append a b c p q r s x y)
   cut_append a b c p q r s x (at_last others last front reply mid is are y cut) =
-      at_last (p ++ others) last (r ++ front) reply mid (ap (λ l. p ++ l) is ∙ sym (append_assoc p others (last ∷ []))) (ap (λ l. r ++ l) are ∙ sym (append_assoc r front (reply ∷ []))) (path_append a b mid p others r front x y) cut
+      at_last (p ++ others) last (r ++ front) reply mid (ap (λ l. p ++ l) is ∙ sym (append_assoc p others (last ∷ []))) (ap (λ l. r ++ l) are ∙ sym (append_assoc r front (reply ∷ [])))
+      (path_append a b mid p others r front x y) cut
 
   -- a way for the requests of some items and a cut one for those behind them are a cut way for all
   cut_items : (e0 e1 e2 : E) (xs ys : List Item) (r s : List (List Part)) → path X e0 (requests xs) r e1 → CutPath X C e1 (requests ys) s e2 → CutPath X C e0 (requests (xs ++ ys)) (r ++ s) e2
@@ -255,7 +256,14 @@ module _ {E : Type 0} (X C : E → Words → List Part → E → Type 0) (quits 
         by : WritesWhole o1 o2 p p2 (spelling r.reply) → Halves a c e0 e2 o0 o2 p2
         by (AllPending same is) =
             let P : SinkSeen → Type 0 = λ o. Halves a c e0 e2 o0 o p2 in
-            subst P (sym same) (record { mid = h.mid; there = h.there; written = h.written; waiting = serves_then h.mid b h.there e1 o1 o1 [] p h.waiting c e2 o1 p2 (one o1 o1 p p2 (onward_pending o1 p p2 (spelling r.reply) is)) })
+            subst P (sym same)
+            (record {
+              mid = h.mid;
+              there = h.there;
+              written = h.written;
+              waiting =
+                  serves_then h.mid b h.there e1 o1 o1 [] p h.waiting c e2 o1 p2 (one o1 o1 p p2 (onward_pending o1 p p2 (spelling r.reply) is));
+            })
         by (OnePending put is) = record {
           mid = b;
           there = e1;

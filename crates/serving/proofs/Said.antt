@@ -22,7 +22,8 @@ use Rattle.serving.specs.Exactly.{ServesExactly, NoReadFault, EndsWell}
 -- ---- from the states of an engine to what is seen of them
 
 module _ {E F : Type 0} (P PC : List Words → List (List Part) → E → Type 0) (Q QC : List Words → List (List Part) → F → Type 0) (quits : Words → Bool)
-    (see : E → F) (turn : (asked : List Words) (replies : List (List Part)) (last : E) → P asked replies last → Q asked replies (see last)) (turn_cut : (asked : List Words) (replies : List (List Part)) (last : E) → PC asked replies last → QC asked replies (see last)) where
+    (see : E → F) (turn : (asked : List Words) (replies : List (List Part)) (last : E) → P asked replies last → Q asked replies (see last))
+    (turn_cut : (asked : List Words) (replies : List (List Part)) (last : E) → PC asked replies last → QC asked replies (see last)) where
   -- a serving of an engine is one of what is seen of it
   pub served_as : (limit : ℕ) (i i1 : SourceSeen) (o o1 : SinkSeen) (last : E) (ended : Ended) → Served P PC quits limit i i1 o o1 last ended → Served Q QC quits limit i i1 o o1 (see last) ended
   served_as limit i i1 o o1 last ended s = record {
@@ -35,9 +36,33 @@ module _ {E F : Type 0} (P PC : List Words → List (List Part) → E → Type 0
     ends = elim s.ends [
       | answered a by ↦ answered (record { replies = a.replies; may = turn s.asked a.replies last a.may; go_on = a.go_on; wrote = a.wrote }) by
       | quit a is ↦
-          quit (record { front = a.front; quit = a.quit; others = a.others; split = a.split; go_on = a.go_on; ends_run = a.ends_run; replies = a.replies; may = turn (a.front ++ a.quit ∷ []) a.replies last a.may; wrote = a.wrote }) is
+          quit
+          (record {
+            front = a.front;
+            quit = a.quit;
+            others = a.others;
+            split = a.split;
+            go_on = a.go_on;
+            ends_run = a.ends_run;
+            replies = a.replies;
+            may =
+                turn (a.front ++ a.quit ∷ []) a.replies last a.may;
+            wrote = a.wrote;
+          }) is
       | write_fault a is ↦
-          write_fault (record { some = a.some; others = a.others; split = a.split; replies = a.replies; may = turn_cut a.some a.replies last a.may; go_on = a.go_on; tail = a.tail; behind = a.behind; wrote = a.wrote }) is
+          write_fault
+          (record {
+            some = a.some;
+            others = a.others;
+            split = a.split;
+            replies = a.replies;
+            may = turn_cut a.some a.replies last a.may;
+            go_on = a.go_on;
+            tail = a.tail;
+            behind =
+                a.behind;
+            wrote = a.wrote;
+          }) is
       | no_memory a is ↦ no_memory (record { some = a.some; others = a.others; split = a.split; replies = a.replies; last = see a.last; may = turn a.some a.replies a.last a.may; wrote = a.wrote }) is
     ];
     reads = s.reads;
@@ -72,7 +97,8 @@ not_among quits [] others words go_on e = let a : true ≡ false = sym e ∙ go_
 not_among quits (first ∷ front) others words go_on e = not_among quits front others words go_on.1 e
 
 -- bytes that end well have no other frames in which no request ends the run, but those that end after a whole one
-ends_whole : (quits : Words → Bool) (bytes : List ℕ) (asked asked' : List Words) (end end' : End) → Frames bytes asked end → EndsWell quits asked end → Frames bytes asked' end' → GoOn quits asked' → end' ≡ Whole
+ends_whole : (quits : Words → Bool) (bytes : List ℕ) (asked asked' : List Words) (end end' : End) → Frames bytes asked end → EndsWell quits asked end → Frames bytes asked' end'
+    → GoOn quits asked' → end' ≡ Whole
 ends_whole quits bytes asked asked' end end' a well b go_on =
     let one = one_frames bytes asked asked' end end' a b in
     elim well [
@@ -102,7 +128,8 @@ module _ {E : Type 0} (P PC : List Words → List (List Part) → E → Type 0) 
 
   -- ---- an input that is served whole
 
-  module _ (bytes : List ℕ) (asked : List Words) (end : End) (left : Left bytes s.taken i1.told) (frames : Frames bytes asked end) (well : EndsWell quits asked end) (few : length bytes < limit) (no_read : NoReadFault i i1) where
+  module _ (bytes : List ℕ) (asked : List Words) (end : End) (left : Left bytes s.taken i1.told) (frames : Frames bytes asked end) (well : EndsWell quits asked end)
+      (few : length bytes < limit) (no_read : NoReadFault i i1) where
     not_limit : length s.taken ≡ limit → ⊥
     not_limit e = omega (arith, ap length left.whole, length-append s.taken left.rest)
 
@@ -138,7 +165,8 @@ module _ {E : Type 0} (P PC : List Words → List (List Part) → E → Type 0) 
     first_asked : (more : List Words) × (asked ≡ s.asked ++ more)
     first_asked =
         let P : List ℕ → Type 0 = λ l. Framed l s.frames.items (s.frames.rest ++ left.rest) in
-        let r = requests_first bytes s.frames.items (s.frames.rest ++ left.rest) asked end (subst P (sym left.whole) (framed_more s.taken s.frames.rest left.rest s.frames.items s.frames.framed)) frames in
+        let r = requests_first bytes s.frames.items (s.frames.rest ++ left.rest) asked end
+        (subst P (sym left.whole) (framed_more s.taken s.frames.rest left.rest s.frames.items s.frames.framed)) frames in
         (r.0, r.1 ∙ ap (λ l. l ++ r.0) s.frames.are)
 
     -- the line of a broken rule stands behind no reply

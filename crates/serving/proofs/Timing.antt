@@ -7,7 +7,8 @@ use Rattle.plain_world.specs.Words.{Words}
 use Rattle.plain_world.specs.declared.reply.Part.{Part}
 use Rattle.serving.specs.Timed.{Timed, ReadsMoment, Works, Rests, TimedReply, TimedStep}
 
-module _ {E : Type 0} (executes : ℕ → E → Words → List Part → E → Type 0) (works : ℕ → Plan → E → E → Type 0) (quits : Words → Bool) (old mid : E) (clock clock' : Option Answers) (pacers : List PacerSeen) (words : Words) (reply : List Part) (moment : ℕ)
+module _ {E : Type 0} (executes : ℕ → E → Words → List Part → E → Type 0) (works : ℕ → Plan → E → E → Type 0) (quits : Words → Bool) (old mid : E) (clock clock' : Option Answers)
+    (pacers : List PacerSeen) (words : Words) (reply : List Part) (moment : ℕ)
     (read : ReadsMoment clock clock' moment) (answers : executes moment old words reply mid) where
   abbrev pub first : Timed E
   first = record { engine = old; clock = clock; pacers = pacers }
@@ -23,7 +24,8 @@ module _ {E : Type 0} (executes : ℕ → E → Words → List Part → E → Ty
   step_quits ends = record { moment = moment; mid = here; answered = replied; rests = subst (λ b. Rests executes works quits b moment here here) (sym ends) refl }
 
   -- it goes on
-  pub step_works : (new : E) (pacers' : List PacerSeen) → quits words ≡ false → Works works moment mid new pacers pacers' → TimedStep executes works quits first words reply (record { engine = new; clock = clock'; pacers = pacers' })
+  pub step_works : (new : E) (pacers' : List PacerSeen) → quits words ≡ false → Works works moment mid new pacers pacers'
+      → TimedStep executes works quits first words reply (record { engine = new; clock = clock'; pacers = pacers' })
   step_works new pacers' goes w =
       let there : Timed E = record { engine = new; clock = clock'; pacers = pacers' } in
       record { moment = moment; mid = here; answered = replied; rests = subst (λ b. Rests executes works quits b moment here there) (sym goes) (w, refl) }

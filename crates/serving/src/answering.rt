@@ -53,7 +53,8 @@ pub fn moment_of(clock: &mut Box<dyn Clock>) -> u64
 // Does the work that is planned next, at this moment.
 fn rest<E: Server>(engine: &mut E, conductor: &mut Conductor, moment: u64)
     requires alive { E.spent engine.old ≡ false }
-    ensures { Works E.works moment engine.old engine.new (following (λ b. (⟦<dyn Pacer as Pacer>⟧ b.vtable).pacing b.value) conductor.old) (following (λ b. (⟦<dyn Pacer as Pacer>⟧ b.vtable).pacing b.value) conductor.new) }
+    ensures { Works E.works moment engine.old engine.new (following (λ b. (⟦<dyn Pacer as Pacer>⟧ b.vtable).pacing b.value) conductor.old)
+        (following (λ b. (⟦<dyn Pacer as Pacer>⟧ b.vtable).pacing b.value) conductor.new) }
 {
     engine.background(conductor.next(), moment);
 }
@@ -67,7 +68,9 @@ fn answer_one<E: Server, O: Sink>(
     pending: &mut Pending,
     output: &mut O,
 ) -> Answer
-    ensures { AnswersOne (TimedStep E.executes E.works E.quits) (TimedCut E.executes E.works E.quits) E.quits (record { engine = engine.old; clock = answers clock.old; pacers = following (λ b. (⟦<dyn Pacer as Pacer>⟧ b.vtable).pacing b.value) conductor.old }) (record { engine = engine.new; clock = answers clock.new; pacers = following (λ b. (⟦<dyn Pacer as Pacer>⟧ b.vtable).pacing b.value) conductor.new }) request.now
+    ensures { AnswersOne (TimedStep E.executes E.works E.quits) (TimedCut E.executes E.works E.quits) E.quits
+        (record { engine = engine.old; clock = answers clock.old; pacers = following (λ b. (⟦<dyn Pacer as Pacer>⟧ b.vtable).pacing b.value) conductor.old })
+        (record { engine = engine.new; clock = answers clock.new; pacers = following (λ b. (⟦<dyn Pacer as Pacer>⟧ b.vtable).pacing b.value) conductor.new }) request.now
         (O.seen output.old) (O.seen output.new) (pending_bytes pending.old) (pending_bytes pending.new) result }
 {
     let moment = moment_of(clock);
@@ -109,7 +112,9 @@ pub fn answer_all<E: Server, O: Sink>(
     output: &mut O,
 ) -> Answered
     requires { pending_bytes pending.old ≡ [] }
-    ensures answers { AnswersAll (TimedStep E.executes E.works E.quits) (TimedCut E.executes E.works E.quits) E.quits feeder.old feeder.new (record { engine = engine.old; clock = answers clock.old; pacers = following (λ b. (⟦<dyn Pacer as Pacer>⟧ b.vtable).pacing b.value) conductor.old }) (record { engine = engine.new; clock = answers clock.new; pacers = following (λ b. (⟦<dyn Pacer as Pacer>⟧ b.vtable).pacing b.value) conductor.new })
+    ensures answers { AnswersAll (TimedStep E.executes E.works E.quits) (TimedCut E.executes E.works E.quits) E.quits feeder.old feeder.new
+        (record { engine = engine.old; clock = answers clock.old; pacers = following (λ b. (⟦<dyn Pacer as Pacer>⟧ b.vtable).pacing b.value) conductor.old })
+        (record { engine = engine.new; clock = answers clock.new; pacers = following (λ b. (⟦<dyn Pacer as Pacer>⟧ b.vtable).pacing b.value) conductor.new })
         (O.seen output.old) (O.seen output.new) result }
     ensures none { AllPut (pending_bytes pending.new) result }
 {

@@ -64,7 +64,12 @@ fn serve<E: Server, I: Source, O: Sink>(
     requires pending { pending_bytes pending.old ≡ [] }
     requires room { length room.old ≡ 65536 }
     requires limit { limit ≤ 2 ^ 62 }
-    ensures { Served (path (TimedStep E.executes E.works E.quits) (record { engine = engine.old; clock = answers clock.old; pacers = following (λ b. (⟦<dyn Pacer as Pacer>⟧ b.vtable).pacing b.value) conductor.old })) (CutPath (TimedStep E.executes E.works E.quits) (TimedCut E.executes E.works E.quits) (record { engine = engine.old; clock = answers clock.old; pacers = following (λ b. (⟦<dyn Pacer as Pacer>⟧ b.vtable).pacing b.value) conductor.old })) E.quits limit (I.seen input.old) (I.seen input.new) (O.seen output.old) (O.seen output.new)
+    ensures { Served
+        (path (TimedStep E.executes E.works E.quits)
+        (record { engine = engine.old; clock = answers clock.old; pacers = following (λ b. (⟦<dyn Pacer as Pacer>⟧ b.vtable).pacing b.value) conductor.old }))
+        (CutPath (TimedStep E.executes E.works E.quits) (TimedCut E.executes E.works E.quits)
+        (record { engine = engine.old; clock = answers clock.old; pacers = following (λ b. (⟦<dyn Pacer as Pacer>⟧ b.vtable).pacing b.value) conductor.old })) E.quits limit
+        (I.seen input.old) (I.seen input.new) (O.seen output.old) (O.seen output.new)
         (record { engine = engine.new; clock = answers clock.new; pacers = following (λ b. (⟦<dyn Pacer as Pacer>⟧ b.vtable).pacing b.value) conductor.new }) result }
 {
     let mut taken: u64 = 0;
@@ -109,7 +114,12 @@ pub fn serve_input<E: Server, I: Source, O: Sink>(
     limit: u64,
 ) -> Ended
     requires { limit ≤ 2 ^ 62 }
-    ensures { Served (path (TimedStep E.executes E.works E.quits) (record { engine = engine.old; clock = answers clock.old; pacers = following (λ b. (⟦<dyn Pacer as Pacer>⟧ b.vtable).pacing b.value) conductor.old })) (CutPath (TimedStep E.executes E.works E.quits) (TimedCut E.executes E.works E.quits) (record { engine = engine.old; clock = answers clock.old; pacers = following (λ b. (⟦<dyn Pacer as Pacer>⟧ b.vtable).pacing b.value) conductor.old })) E.quits limit (I.seen input.old) (I.seen input.new) (O.seen output.old) (O.seen output.new)
+    ensures { Served
+        (path (TimedStep E.executes E.works E.quits)
+        (record { engine = engine.old; clock = answers clock.old; pacers = following (λ b. (⟦<dyn Pacer as Pacer>⟧ b.vtable).pacing b.value) conductor.old }))
+        (CutPath (TimedStep E.executes E.works E.quits) (TimedCut E.executes E.works E.quits)
+        (record { engine = engine.old; clock = answers clock.old; pacers = following (λ b. (⟦<dyn Pacer as Pacer>⟧ b.vtable).pacing b.value) conductor.old })) E.quits limit
+        (I.seen input.old) (I.seen input.new) (O.seen output.old) (O.seen output.new)
         (record { engine = engine.new; clock = answers clock.new; pacers = following (λ b. (⟦<dyn Pacer as Pacer>⟧ b.vtable).pacing b.value) conductor.new }) result }
 {
     let mut feeder = Feeder::new(alloc);

@@ -28,7 +28,8 @@ item_waits_mark heap t start end w = (let p = item_mark 0 t.items w.at w.element
 -- ---- what a call answers
 
 -- each mark and each vacant item number is one of the numbers below the end
-marks_counted : (passed : ℕ → Bool) (m : Blocks) (limits : Limits) (seed : ℕ) (body : Body) → IsBody m limits seed body → count_by passed (marks_in body) + count_by passed (vacant_in body) ≡ passed_below passed (end_in body)
+marks_counted : (passed : ℕ → Bool) (m : Blocks) (limits : Limits) (seed : ℕ) (body : Body) → IsBody m limits seed body
+    → count_by passed (marks_in body) + count_by passed (vacant_in body) ≡ passed_below passed (end_in body)
 marks_counted passed m limits seed Empty is = refl
 marks_counted passed m limits seed (Numbers p) is = omega (arith, count_cons passed 0 [])
 marks_counted passed m limits seed (Pack p) is = omega (arith, count_cons passed 0 [])
@@ -47,8 +48,10 @@ mark_below after limits seed (Table t) index mark is h =
     omega (arith, p.2, is.keyed.placed.below p.0 some)
 
 -- a part of the marks was passed
-pub passes_part : (before : Blocks) (heap : Heap) (old new : Members) (from room count start end : ℕ) (answer : Moved) → IsMembers before old → count ≡ marks_end old → start ≡ min from count → end ≡ min count (start + room) → 32 ≤ room
-    → answer.next ≡ (if nat_lt end count then Some end else None) → answer.used ≡ end - start → marks new ≡ marks old → vacant_marks new ≡ vacant_marks old → ArePassed heap (is_within start end) (marks new) (refs old) (refs new) → PassesPart heap old new from room answer
+pub passes_part : (before : Blocks) (heap : Heap) (old new : Members) (from room count start end : ℕ) (answer : Moved) → IsMembers before old → count ≡ marks_end old
+    → start ≡ min from count → end ≡ min count (start + room) → 32 ≤ room
+    → answer.next ≡ (if nat_lt end count then Some end else None) → answer.used ≡ end - start → marks new ≡ marks old → vacant_marks new ≡ vacant_marks old
+    → ArePassed heap (is_within start end) (marks new) (refs old) (refs new) → PassesPart heap old new from room answer
 passes_part before heap old new from room count start end answer sound count_is start_is end_is wide next_is used_is same vacant p = record {
   same_marks = same;
   same_vacant = vacant;
@@ -64,7 +67,8 @@ passes_part before heap old new from room count start end answer sound count_is 
     );
     within = omega (arith, used_is, start_is, end_is);
     on = subst (λ n. IfSome answer.next (λ to. (from < to) × (to < n) × (answer.used ≡ room))) count_is
-        (goes_on from count start end answer.next start_is next_is room answer.used (omega (arith, start_is, end_is)) wide (λ less. omega (arith, less, end_is, used_is)) (λ here. omega (arith, here, used_is)));
+        (goes_on from count start end answer.next start_is next_is room answer.used (omega (arith, start_is, end_is)) wide (λ less. omega (arith, less, end_is, used_is))
+        (λ here. omega (arith, here, used_is)));
   };
 }
   where
@@ -83,7 +87,8 @@ waits_one heap s at start end true marks_are refs_are is =
     let parts = within_parts start end 0 both.0 in
     record { index = 0; mark = 0; ref = at; marked = ap (λ l. slice_get l 0) marks_are; named = ap (λ l. slice_get l 0) refs_are; from = parts.0; below = parts.1; waits = both.1 }
 waits_one heap s at start end false marks_are refs_are is =
-    subst (λ ms. ArePassed heap (is_within start end) ms (refs s) (refs s)) (sym marks_are) (subst (λ rs. ArePassed heap (is_within start end) (0 ∷ []) rs rs) (sym refs_are) (record { calm = calm; stays = λ index mark marked out. refl }))
+    subst (λ ms. ArePassed heap (is_within start end) ms (refs s) (refs s)) (sym marks_are)
+    (subst (λ rs. ArePassed heap (is_within start end) (0 ∷ []) rs rs) (sym refs_are) (record { calm = calm; stays = λ index mark marked out. refl }))
   where
     calm : (index mark : ℕ) (r : BlockRef) → slice_get (0 ∷ []) index ≡ Some mark → slice_get (at ∷ []) index ≡ Some r → is_within start end mark ≡ true → wants heap r ≡ false
     calm zero mark r marked named within =
@@ -114,7 +119,8 @@ waits_table heap s t start end false is calm =
     subst (λ b. ArePassed heap (is_within start end) (marks_in b) (refs_of b) (refs_of b)) (sym is) (items_passed heap t t start end (λ at. refl) (λ at h. refl) calm)
 
 -- what waits in a part waits from the part's start on
-pub part_waits : (heap : Heap) (s : Members) (from room count start end : ℕ) → start ≡ min from count → end ≡ min count (start + room) → WantsMove heap s start end → WantsMove heap s from (from + room)
+pub part_waits : (heap : Heap) (s : Members) (from room count start end : ℕ) → start ≡ min from count → end ≡ min count (start + room) → WantsMove heap s start end
+    → WantsMove heap s from (from + room)
 part_waits heap s from room count start end start_is end_is w = record {
   index = w.index;
   mark = w.mark;

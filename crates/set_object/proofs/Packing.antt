@@ -38,7 +38,13 @@ entry_len text short = omega (arith, length-append (spelling text) (back_length 
 entries_len : (list : List (List ℕ)) → All (λ (x : List ℕ). length x ≤ 4096) list → length (flat_map entry list) ≤ length list * 4110
 entries_len [] short = omega arith
 entries_len (x ∷ list) short =
-    omega (arith, length-append (entry x) (flat_map entry list), entry_len x (All-head (λ (x : List ℕ). length x ≤ 4096) x list short), entries_len list (All-tail (λ (x : List ℕ). length x ≤ 4096) x list short))
+    omega (
+      arith,
+      length-append (entry x) (flat_map entry list),
+      entry_len x (All-head (λ (x : List ℕ). length x ≤ 4096) x list short),
+      entries_len list
+          (All-tail (λ (x : List ℕ). length x ≤ 4096) x list short),
+    )
 
 -- a short element has room in a pack of few short elements
 pub pack_fits : (list : List (List ℕ)) (bytes text : List ℕ) → IsPackOf list bytes → All (λ (x : List ℕ). length x ≤ 4096) list → length list ≤ 65536 → length text ≤ 4096 → Fits bytes text
@@ -47,7 +53,8 @@ pack_fits list bytes text p short few small =
     let long : length bytes ≡ pack_len list = written_len bytes p.pack written ∙ ap pack_len p.texts_are in
     omega (arith, long, entries_len list short, entry_len text small, few)
 
-pub pack_pushed : (list : List (List ℕ)) (old new text : List ℕ) (count : ℕ) → IsPackOf list old → IsEdited new (spellings_of old ++ spelling text ∷ []) count → texts new ≡ texts old ++ text ∷ [] → IsPackOf (list ++ text ∷ []) new
+pub pack_pushed : (list : List (List ℕ)) (old new text : List ℕ) (count : ℕ) → IsPackOf list old → IsEdited new (spellings_of old ++ spelling text ∷ []) count → texts new ≡ texts old
+    ++ text ∷ [] → IsPackOf (list ++ text ∷ []) new
 pack_pushed list old new text count p e is = record {
   pack = e.pack;
   texts_are = is ∙ ap (λ xs. xs ++ text ∷ []) p.texts_are;
@@ -57,7 +64,8 @@ pack_pushed list old new text count p e is = record {
 pub pack_empty : (bytes : List ℕ) (count : ℕ) → IsEdited bytes [] count → IsPackOf [] bytes
 pack_empty bytes count e = record { pack = e.pack; texts_are = ap (map text_of) e.entries; written = e.entries }
 
-pub pack_removed : (list : List (List ℕ)) (old new : List ℕ) (i count : ℕ) → IsPackOf list old → IsEdited new (removed (spellings_of old) i) count → texts new ≡ removed (texts old) i → IsPackOf (removed list i) new
+pub pack_removed : (list : List (List ℕ)) (old new : List ℕ) (i count : ℕ) → IsPackOf list old → IsEdited new (removed (spellings_of old) i) count → texts new ≡ removed (texts old) i
+    → IsPackOf (removed list i) new
 pack_removed list old new i count p e is = record {
   pack = e.pack;
   texts_are = is ∙ ap (λ xs. removed xs i) p.texts_are;

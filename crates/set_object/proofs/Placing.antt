@@ -1,5 +1,6 @@
 -- Bodies that are placed for a set with one more member.
-use Rattle.std.proofs.Common.{◌≡◌, ◌≢◌, ℕ, ◌+◌, ◌<◌, ◌≤◌, ◌^◌, Bool, true, false, List, [], ◌∷◌, ◌++◌, map, take, drop, length, cond, Result, Ok, Err, Some, unwrap_or, max, is_some, refl, sym, ap, ◌∙◌, subst, arith, inl, inr, length-append}
+use Rattle.std.proofs.Common.{◌≡◌, ◌≢◌, ℕ, ◌+◌, ◌<◌, ◌≤◌, ◌^◌, Bool, true, false, List, [], ◌∷◌, ◌++◌, map, take, drop, length, cond, Result, Ok, Err, Some, unwrap_or, max, is_some, refl}
+use Rattle.std.proofs.Common.{sym, ap, ◌∙◌, subst, arith, inl, inr, length-append}
 use Rattle.std.specs.Prelude.{ℤ}
 use Rattle.std.specs.Prelude.{int_lt, IfOk}
 use Rattle.std.specs.List.{Contains}
@@ -126,7 +127,8 @@ module _ (m n : Blocks) (self : Members) (x : List ℕ) (sound : IsMembers m sel
   module _ (risen : IsRisen self.limits (form_of self) (insert (members m self) x tt) Intset) where
     -- where the set with the new member is to be an intset, that member is the canonical text of a number
     pub is_number : is_some (number_of x) ≡ true
-    is_number = numbers_each (keys (insert (members m self) x tt)) x risen.fitting.0 (sym (keys_among (insert (members m self) x tt) x) ∙ has_put (members m self) x x ∙ cond-true _ _ _ (tied-same x x refl))
+    is_number = numbers_each (keys (insert (members m self) x tt)) x risen.fitting.0
+        (sym (keys_among (insert (members m self) x tt) x) ∙ has_put (members m self) x x ∙ cond-true _ _ _ (tied-same x x refl))
 
     -- an intset of the old members and the new one, placed in a block, is a body of the set with the new member
     pub number_placed : (at : BlockRef) (size : ℕ) (k : ℤ) (old bytes : List ℕ) → n ≡ with_block m at (Some bytes) → Changes m n [] (at ∷ []) → size ≡ len (members m self) + 1
@@ -144,7 +146,8 @@ module _ (m n : Blocks) (self : Members) (x : List ℕ) (sound : IsMembers m sel
         record {
           sound = subst (IsNumbers self.limits size) (sym same) whole;
           members_are = ap (λ bs. set_of (number_texts bs)) same ∙ ap (λ ns. set_of (map canonical ns)) added ∙ ap set_of (map_inserted (numbers_of old) i k)
-              ∙ ap (λ xs. set_of (inserted xs i (canonical k))) is.texts_are ∙ set_inserted list i (canonical k) ∙ ap (λ q. insert (set_of list) q tt) (sym text) ∙ ap (λ s. insert s x tt) (sym members_list);
+              ∙ ap (λ xs. set_of (inserted xs i (canonical k))) is.texts_are ∙ set_inserted list i (canonical k) ∙ ap (λ q. insert (set_of list) q tt) (sym text)
+              ∙ ap (λ s. insert s x tt) (sym members_list);
           changes = p;
           grown = Grown-same (hash_of self.seed) no_tables no_tables refl;
         }
@@ -153,7 +156,8 @@ module _ (m n : Blocks) (self : Members) (x : List ℕ) (sound : IsMembers m sel
         inserted_len ns i k = omega (arith, length-append (take i ns) (k ∷ drop i ns), length-append (take i ns) (drop i ns), ap length (take-append-drop i ns))
 
         all_inserted : (ns : List ℤ) (i : ℕ) (k : ℤ) → All (λ n. mag n < 2 ^ 63) ns → mag k < 2 ^ 63 → All (λ n. mag n < 2 ^ 63) (inserted ns i k)
-        all_inserted ns i k all small = All-append (λ n. mag n < 2 ^ 63) (take i ns) (k ∷ drop i ns) (All-take (λ n. mag n < 2 ^ 63) i ns all) (All-cons (λ n. mag n < 2 ^ 63) k (drop i ns) small (All-drop (λ n. mag n < 2 ^ 63) i ns all))
+        all_inserted ns i k all small = All-append (λ n. mag n < 2 ^ 63) (take i ns) (k ∷ drop i ns) (All-take (λ n. mag n < 2 ^ 63) i ns all)
+            (All-cons (λ n. mag n < 2 ^ 63) k (drop i ns) small (All-drop (λ n. mag n < 2 ^ 63) i ns all))
 
         map_inserted : (ns : List ℤ) (i : ℕ) (k : ℤ) → map canonical (inserted ns i k) ≡ inserted (map canonical ns) i (canonical k)
         map_inserted ns i k =
@@ -178,27 +182,33 @@ longest_within (x ∷ xs) v all = omega (arith, All-head (λ (x : List ℕ). len
 
 module _ (m : Blocks) (limits : Limits) (seed : ℕ) (body : Body) (x : List ℕ) (lacks : has (members_of m body) x ≡ false) (f : Form) where
   -- an empty body rises to the least form that fits the new member alone
-  pub empty_risen : (number : Bool) → body ≡ Empty → number ≡ is_some (number_of x) → IsLeast (FitsSet limits number 1 (length x)) f → IsRisen limits (form_of_body body) (insert (members_of m body) x tt) f
+  pub empty_risen : (number : Bool) → body ≡ Empty → number ≡ is_some (number_of x) → IsLeast (FitsSet limits number 1 (length x)) f
+      → IsRisen limits (form_of_body body) (insert (members_of m body) x tt) f
   empty_risen number is by_text h =
       subst (λ (b : Body). IsRisen limits (form_of_body b) (insert (members_of m b) x tt) f) (sym is)
       (risen_numbers limits empty [] x (sym set_nil) once_nil (has_empty x) number 1 (length x) f by_text refl refl (omega arith) h)
 
   -- a body with an intset rises, by a new member, to the form to which the set of that intset's numbers does
-  pub numbers_risen : (p : Packed) → body ≡ Numbers p → IsRisen limits Intset (insert (set_of (number_texts (bytes_at m p.at))) x tt) f → IsRisen limits (form_of_body body) (insert (members_of m body) x tt) f
+  pub numbers_risen : (p : Packed) → body ≡ Numbers p → IsRisen limits Intset (insert (set_of (number_texts (bytes_at m p.at))) x tt) f
+      → IsRisen limits (form_of_body body) (insert (members_of m body) x tt) f
   numbers_risen p is risen = subst (λ (b : Body). IsRisen limits (form_of_body b) (insert (members_of m b) x tt) f) (sym is) risen
 
   -- a body with a listpack rises to the least form but an intset that fits one member more and the new one's length
-  pub pack_risen : (p : Packed) → body ≡ Pack p → IsBody m limits seed body → IsLeast (FitsSet limits false (p.len + 1) (length x)) f → IsRisen limits (form_of_body body) (insert (members_of m body) x tt) f
+  pub pack_risen : (p : Packed) → body ≡ Pack p → IsBody m limits seed body → IsLeast (FitsSet limits false (p.len + 1) (length x)) f
+      → IsRisen limits (form_of_body body) (insert (members_of m body) x tt) f
   pack_risen p is sound h =
       let s : IsMemberPack limits p.len (bytes_at m p.at) = subst (IsBody m limits seed) is sound in
       let xs = texts (bytes_at m p.at) in
       subst (λ (b : Body). IsRisen limits (form_of_body b) (insert (members_of m b) x tt) f) (sym is)
-      (risen_pack limits (set_of xs) xs x refl s.once (ap (λ (b : Body). has (members_of m b) x) (sym is) ∙ lacks) (p.len + 1) f (omega (arith, s.counted)) (longest_within xs limits.set_value s.short) h)
+      (risen_pack limits (set_of xs) xs x refl s.once (ap (λ (b : Body). has (members_of m b) x) (sym is) ∙ lacks) (p.len + 1) f (omega (arith, s.counted))
+      (longest_within xs limits.set_value s.short) h)
 
 -- the numbers of an intset, and one more
-module _ (limits : Limits) (len : ℕ) (bytes x : List ℕ) (s : IsNumbers limits len bytes) (lacks : has (set_of (number_texts bytes)) x ≡ false) (number : Bool) (by_text : number ≡ is_some (number_of x)) where
+module _ (limits : Limits) (len : ℕ) (bytes x : List ℕ) (s : IsNumbers limits len bytes) (lacks : has (set_of (number_texts bytes)) x ≡ false) (number : Bool)
+    (by_text : number ≡ is_some (number_of x)) where
   -- an intset with a new text rises to the least form that fits the count, the longest, and whether that is a number
-  pub numbers_more : (most : ℕ) (f : Form) → most ≡ max (longest (number_texts bytes)) (length x) → IsLeast (FitsSet limits number (len + 1) most) f → IsRisen limits Intset (insert (set_of (number_texts bytes)) x tt) f
+  pub numbers_more : (most : ℕ) (f : Form) → most ≡ max (longest (number_texts bytes)) (length x) → IsLeast (FitsSet limits number (len + 1) most) f
+      → IsRisen limits Intset (insert (set_of (number_texts bytes)) x tt) f
   numbers_more most f most_is h =
       let xs = number_texts bytes in
       risen_numbers limits (set_of xs) xs x refl (numbers_once (numbers_of bytes) s.intset.rising s.fit) lacks number (len + 1) most f by_text
@@ -220,12 +230,14 @@ table_placed m n self t set h = record {
 }
 
 -- a number that the set lacks is put into its intset
-pub add_new : {E : Type 0} (m : Blocks) (self : Members) (k : ℤ) (old : List ℕ) (r : Result Bool E) (b : Bool) → IsMembers m self → form_of self ≢ Hashtable → has (members m self) (canonical k) ≡ false → IsNumberList (listed_of m self.body) old
+pub add_new : {E : Type 0} (m : Blocks) (self : Members) (k : ℤ) (old : List ℕ) (r : Result Bool E) (b : Bool) → IsMembers m self → form_of self ≢ Hashtable
+    → has (members m self) (canonical k) ≡ false → IsNumberList (listed_of m self.body) old
     → r ≡ Ok b → (r ≡ Ok false → Contains (numbers_of old) k) → r ≡ Ok true
 add_new m self k old r true sound packed lacks list is there = is
 add_new m self k old r false sound packed lacks list is there =
     let found : has (members m self) (canonical k) ≡ true =
-    ap (λ s. has s (canonical k)) ((listed_is m self.limits self.seed self.body sound.body).0 ∙ ap set_of (sym list.texts_are)) ∙ has_among (number_texts old) (canonical k) ∙ stands_text (numbers_of old) k (there is) in
+    ap (λ s. has s (canonical k)) ((listed_is m self.limits self.seed self.body sound.body).0 ∙ ap set_of (sym list.texts_are)) ∙ has_among (number_texts old) (canonical k)
+    ∙ stands_text (numbers_of old) k (there is) in
     absurd (both (has (members m self) (canonical k)) found lacks)
   where
     both : (b : Bool) → b ≡ true → b ≡ false → ⊥

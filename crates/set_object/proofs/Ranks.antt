@@ -45,11 +45,13 @@ module _ (m : Blocks) (b : Body) (t : Dict) (is : b ≡ Table t) where
 
   pub behind_in : (place i : ℕ) (o : Option ℕ) → IsNext t (place + 1) o → IsPlace m b i place → MatchOption o (i + 1 ≡ length (listed_of m b)) (λ to. IsPlace m b (i + 1) to)
   behind_in place i o h at =
-      subst (λ c. MatchOption o (i + 1 ≡ length (listed_of m c)) (λ to. IsPlace m c (i + 1) to)) (sym is) (next_stands t (length (listed_of m (Table t))) place i o (keys_len m t.items) h (subst (λ c. IsPlace m c i place) is at))
+      subst (λ c. MatchOption o (i + 1 ≡ length (listed_of m c)) (λ to. IsPlace m c (i + 1) to)) (sym is)
+      (next_stands t (length (listed_of m (Table t))) place i o (keys_len m t.items) h (subst (λ c. IsPlace m c i place) is at))
 
   pub table_element : (i place : ℕ) (e : Element (Unit {0})) → item t place ≡ Some e → IsPlace m b i place → bytes_at m e.key ≡ slice_index_or (listed_of m b) i []
   table_element i place e there at =
-      sym (key_there m t.items place e there) ∙ ap (λ n. slice_index_or (flat_map (key_in m) t.items) n []) (subst (λ c. IsPlace m c i place) is at).1 ∙ ap (λ c. slice_index_or (listed_of m c) i []) (sym is)
+      sym (key_there m t.items place e there) ∙ ap (λ n. slice_index_or (flat_map (key_in m) t.items) n []) (subst (λ c. IsPlace m c i place) is at).1
+      ∙ ap (λ c. slice_index_or (listed_of m c) i []) (sym is)
 
 -- the place of an item number, and its member
 abbrev pub Spot : Blocks → Body → ℕ → ℕ → Type 0

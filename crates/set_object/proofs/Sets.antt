@@ -1,5 +1,6 @@
 -- Sets of strings, and the lists that they are made of.
-use Rattle.std.proofs.Common.{◌≡◌, ◌≢◌, inl, inr, ℕ, zero, suc, ◌+◌, ◌-◌, ◌<◌, ◌≤◌, Bool, true, false, cond, List, [], ◌∷◌, ◌++◌, map, length, take, drop, Option, Some, None, is_some, refl, sym, ap, ◌∙◌, arith, length-append, get_or}
+use Rattle.std.proofs.Common.{◌≡◌, ◌≢◌, inl, inr, ℕ, zero, suc, ◌+◌, ◌-◌, ◌<◌, ◌≤◌, Bool, true, false, cond, List, [], ◌∷◌, ◌++◌, map, length, take, drop, Option, Some, None, is_some}
+use Rattle.std.proofs.Common.{refl, sym, ap, ◌∙◌, arith, length-append, get_or}
 use Rattle.std.specs.Prelude.{slice_get, IfSome, IfNone}
 use Rattle.std.specs.List.{insert as inserted, remove as removed}
 use Rattle.std.proofs.lemmas.Bool.{cond-true, cond-false, cases_Bool}
@@ -9,7 +10,8 @@ use Rattle.std.specs.declared.cmp.Ordering.TheVariants.{Less, Equal, Greater}
 use Rattle.std.specs.Ordering.{nat_cmp, eq_by_cmp, is_eq}
 use Rattle.std.specs.Cmp.{eq_by_cmp_equiv}
 use Rattle.std.specs.Cmp.Lexicographic.{slice_cmp, nat_list_cmp_total}
-use Rattle.std.specs.FinMap.{empty, find, get, insert, remove, get-empty, get-from_entries, get-insert, get-remove, len, len-insert, len-remove, len-empty, empty_of_len, same_map, slice_cmp-IsAntisymmetric, nat_cmp-IsAntisymmetric}
+use Rattle.std.specs.FinMap.{empty, find, get, insert, remove, get-empty, get-from_entries, get-insert, get-remove, len, len-insert, len-remove, len-empty, empty_of_len, same_map}
+use Rattle.std.specs.FinMap.{slice_cmp-IsAntisymmetric, nat_cmp-IsAntisymmetric}
 use Rattle.set_object.specs.Strings.{Strings, set_of, has, IsOnce}
 
 -- a test has one answer
@@ -182,7 +184,8 @@ len_le (x ∷ xs) = elim (cases_Bool (has (set_of xs) x)) [
 -- where no string stands twice in a list, its first one is not behind it, and none stands twice there
 pub once_parts : (x : List ℕ) (xs : List (List ℕ)) → IsOnce (x ∷ xs) → (among x xs ≡ false) × IsOnce xs
 once_parts x xs once = elim (cases_Bool (has (set_of xs) x)) [
-  | inl there ↦ let same : len (set_of (x ∷ xs)) ≡ len (set_of xs) = ap len (set_cons x xs) ∙ len-insert nat_list_cmp_total (set_of xs) x tt ∙ cond-true _ _ _ there in absurd (omega (arith, same, len_le xs, once))
+  | inl there ↦ let same : len (set_of (x ∷ xs)) ≡ len (set_of xs) = ap len (set_cons x xs) ∙ len-insert nat_list_cmp_total (set_of xs) x tt
+      ∙ cond-true _ _ _ there in absurd (omega (arith, same, len_le xs, once))
   | inr lacks ↦ let more : len (set_of (x ∷ xs)) ≡ len (set_of xs) + 1 = ap len (set_cons x xs) ∙ len_put (set_of xs) x lacks in (sym (has_among xs x) ∙ lacks, omega (arith, more, once))
 ]
 
@@ -208,7 +211,13 @@ among-removed q (y ∷ xs) (suc i) x once is =
     let parts = once_parts y xs once in
     let rest = among-removed q xs i x parts.1 is in
     elim (cases_Bool (tied q x)) [
-      | inl t ↦ (let out : tied q y ≡ false = tied-other q y (λ same. elim (cases_Bool (among x xs)) [ inl yes' ↦ let never : among y xs ≡ true = ap (λ k. among k xs) (sym same ∙ tied-true q x t) ∙ yes' in absurd (two_ways _ never parts.0) | inr lacks ↦ absurd (two_ways _ (stands_get xs i x is) lacks) ]) in
+      | inl t ↦
+          (let out : tied q y ≡ false = tied-other q y
+          (λ same. elim (cases_Bool (among x xs)) [
+            | inl yes' ↦ let never : among y xs ≡ true = ap (λ k. among k xs) (sym same ∙ tied-true q x t) ∙ yes' in absurd (two_ways _ never parts.0)
+            | inr lacks
+                ↦ absurd (two_ways _ (stands_get xs i x is) lacks)
+          ]) in
           cond-false _ _ _ out ∙ rest ∙ cond-true _ _ _ t ∙ sym (cond-true _ _ _ t))
       | inr f ↦ ap (cond (tied q y) true) (rest ∙ cond-false _ _ _ f) ∙ sym (cond-false _ _ _ f)
     ]

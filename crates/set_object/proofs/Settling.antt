@@ -29,7 +29,8 @@ settled_same m t stays k = record {
 
 -- ---- one member's block
 
-module _ (m n : Blocks) (old new : Dict) (at : ℕ) (key ref : BlockRef) (k : Keyed m old) (h : Holds old at key tt) (same : n ref ≡ m key) (p : Changes m n (key ∷ []) (ref ∷ [])) (r : Renames old new at ref) where
+module _ (m n : Blocks) (old new : Dict) (at : ℕ) (key ref : BlockRef) (k : Keyed m old) (h : Holds old at key tt) (same : n ref ≡ m key) (p : Changes m n (key ∷ []) (ref ∷ []))
+    (r : Renames old new at ref) where
   pub item_settled : IsRelocatedTable m n old new (λ i. i ≢ at)
   item_settled =
       let moved = moved_keyed m n old new at key ref tt k h same p r in
@@ -46,7 +47,8 @@ module _ (m n : Blocks) (old new : Dict) (at : ℕ) (key ref : BlockRef) (k : Ke
 
 -- ---- one after the other
 
-pub settled_more : (a b c : Blocks) (t u v : Dict) (start k : ℕ) → start ≤ k → IsRelocatedTable a b t u (λ i. (i < start) ⊎ (k ≤ i)) → IsRelocatedTable b c u v (λ i. i ≢ k) → IsRelocatedTable a c t v (λ i. (i < start) ⊎ (k + 1 ≤ i))
+pub settled_more : (a b c : Blocks) (t u v : Dict) (start k : ℕ) → start ≤ k → IsRelocatedTable a b t u (λ i. (i < start) ⊎ (k ≤ i)) → IsRelocatedTable b c u v (λ i. i ≢ k)
+    → IsRelocatedTable a c t v (λ i. (i < start) ⊎ (k + 1 ≤ i))
 settled_more a b c t u v start k low p q = record {
   keyed = q.keyed;
   content_is = q.content_is ∙ p.content_is;

@@ -26,7 +26,8 @@ use Rattle.set_object.specs.declared.members.Body.{Body}
 use Rattle.set_object.specs.declared.members.Body.TheVariants.{Empty, Numbers, Pack, Table}
 use Rattle.set_object.specs.declared.members.Members.{Members}
 use Rattle.set_object.specs.Strings.{Strings, set_of, has, IsOnce}
-use Rattle.set_object.specs.Members.{IsMembers, IsBody, IsMemberPack, IsNumbers, AreNumbersOf, ArePackedOf, AreBytesOf, IsPacked, repacked, IsPlacedBody, form_of_body, members, members_of, number_texts, form_left, tables_of, no_tables}
+use Rattle.set_object.specs.Members.{IsMembers, IsBody, IsMemberPack, IsNumbers, AreNumbersOf, ArePackedOf, AreBytesOf, IsPacked, repacked, IsPlacedBody, form_of_body, members, members_of}
+use Rattle.set_object.specs.Members.{number_texts, form_left, tables_of, no_tables}
 use Rattle.set_object.proofs.Sets.{two_ways, tied, has_empty, tied-true, among, has_among, has_taken, stands_get, taken_is, set_removed, len_taken}
 use Rattle.set_object.proofs.Hashing.{Dict}
 use Rattle.set_object.proofs.Texts.{AreFit, numbers_once}
@@ -97,7 +98,8 @@ texts_once xs i x once is =
 
 -- ---- the block of a packed set without a member was placed
 
-module _ (m n : Blocks) (self : Members) (x : List ℕ) (sound : IsMembers m self) (there : has (members m self) x ≡ true) (at : BlockRef) (size : ℕ) (bytes : List ℕ) (placed : n ≡ with_block m at (Some bytes)) (changes : Changes m n [] (at ∷ [])) (less : size + 1 ≡ body_len self.body) where
+module _ (m n : Blocks) (self : Members) (x : List ℕ) (sound : IsMembers m self) (there : has (members m self) x ≡ true) (at : BlockRef) (size : ℕ) (bytes : List ℕ)
+    (placed : n ≡ with_block m at (Some bytes)) (changes : Changes m n [] (at ∷ [])) (less : size + 1 ≡ body_len self.body) where
   -- the members without the one that is taken out
   abbrev left : Strings
   left = remove (members m self) x
@@ -139,7 +141,13 @@ module _ (m n : Blocks) (self : Members) (x : List ℕ) (sound : IsMembers m sel
         once = now.once;
         few = omega (arith, less, ap body_len is, old.few);
         short = all_short (texts bytes) self.limits.set_value
-            (λ q h. omega (arith, longest_each list q (was q list (ap (λ s. has s q) old_list ∙ has_among list q) (sym (has_taken (members m self) x q) ∙ ap (λ s. has s q) (sym now.members_are) ∙ has_among (texts bytes) q ∙ h)), longest_within list self.limits.set_value old.short));
+            (λ q h. omega (
+              arith,
+              longest_each list q
+                  (was q list (ap (λ s. has s q) old_list ∙ has_among list q)
+                  (sym (has_taken (members m self) x q) ∙ ap (λ s. has s q) (sym now.members_are) ∙ has_among (texts bytes) q ∙ h)),
+              longest_within list self.limits.set_value old.short,
+            ));
       } in
       record {
         sound = subst (IsMemberPack self.limits size) (sym same_bytes) whole;
@@ -194,7 +202,8 @@ form_stays Quicklist (suc n) some = refl
 form_stays Stream (suc n) some = refl
 
 -- a packed set that has a member has a block
-pub has_block : (m : Blocks) (body : Body) (x : List ℕ) → has (members_of m body) x ≡ true → form_of_body body ≢ Hashtable → ((p : Packed) → body ≡ Numbers p → ⊥) → ((p : Packed) → body ≡ Pack p → ⊥) → ⊥
+pub has_block : (m : Blocks) (body : Body) (x : List ℕ) → has (members_of m body) x ≡ true → form_of_body body ≢ Hashtable → ((p : Packed) → body ≡ Numbers p → ⊥)
+    → ((p : Packed) → body ≡ Pack p → ⊥) → ⊥
 has_block m Empty x there packed numbers pack = two_ways _ there (has_empty x)
 has_block m (Numbers p) x there packed numbers pack = numbers p refl
 has_block m (Pack p) x there packed numbers pack = pack p refl

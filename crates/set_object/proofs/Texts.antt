@@ -57,7 +57,9 @@ numbers_once (x ∷ ns) rising fit =
     let rest : AreFit ns = All-tail (λ n. mag n < 2 ^ 63) x ns fit in
     once_cons (canonical x) (map canonical ns)
     (elim (cases_Bool (among (canonical x) (map canonical ns))) [
-      | inl t ↦ (let c = text_stands ns x rest (All-head (λ n. mag n < 2 ^ 63) x ns fit) t in absurd (<ℤ_irrefl (subst (λ (y : ℤ). x <ℤ y) c.2 (rising 0 (suc c.0) x (omega arith) (omega (arith, c.1))))))
+      | inl t ↦
+          (let c = text_stands ns x rest (All-head (λ n. mag n < 2 ^ 63) x ns fit) t in
+          absurd (<ℤ_irrefl (subst (λ (y : ℤ). x <ℤ y) c.2 (rising 0 (suc c.0) x (omega arith) (omega (arith, c.1))))))
       | inr f ↦ f
     ])
     (numbers_once ns (λ i j d h k. rising (suc i) (suc j) d (omega (arith, h)) (omega (arith, k))) rest)
@@ -75,7 +77,8 @@ text_more (x ∷ ns) (suc i) n is = ap (λ xs. canonical x ∷ xs) (text_more ns
 
 pub longest_from : (ns : List ℤ) (i : ℕ) (n : ℤ) → slice_get ns i ≡ Some n → longest (map canonical (drop i ns)) ≡ max (length (canonical n)) (longest (map canonical (drop (suc i) ns)))
 longest_from [] i n is = cc
-longest_from (x ∷ ns) zero n is = ap (λ (y : ℤ). max (length (canonical y)) (longest (map canonical ns))) (let e : x ≡ n = cc in e) ∙ ap (λ ys. max (length (canonical n)) (longest (map canonical ys))) (sym (all ns))
+longest_from (x ∷ ns) zero n is = ap (λ (y : ℤ). max (length (canonical y)) (longest (map canonical ns))) (let e : x ≡ n = cc in e)
+    ∙ ap (λ ys. max (length (canonical n)) (longest (map canonical ys))) (sym (all ns))
   where
     all : (ys : List ℤ) → drop 0 ys ≡ ys
     all [] = refl
@@ -88,7 +91,8 @@ text_short n small = length_signed_le 19 n (omega (arith, small)) small
 
 pub texts_short : (ns : List ℤ) → AreFit ns → All (λ (x : List ℕ). length x ≤ 4096) (map canonical ns)
 texts_short [] fit = All-nil (λ (x : List ℕ). length x ≤ 4096)
-texts_short (x ∷ ns) fit = All-cons (λ (x : List ℕ). length x ≤ 4096) (canonical x) (map canonical ns) (omega (arith, text_short x (All-head (λ n. mag n < 2 ^ 63) x ns fit))) (texts_short ns (All-tail (λ n. mag n < 2 ^ 63) x ns fit))
+texts_short (x ∷ ns) fit = All-cons (λ (x : List ℕ). length x ≤ 4096) (canonical x) (map canonical ns) (omega (arith, text_short x (All-head (λ n. mag n < 2 ^ 63) x ns fit)))
+    (texts_short ns (All-tail (λ n. mag n < 2 ^ 63) x ns fit))
 
 pub texts_numbers : (ns : List ℤ) → AreFit ns → are_numbers (map canonical ns) ≡ true
 texts_numbers [] fit = refl

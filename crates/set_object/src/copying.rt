@@ -31,7 +31,8 @@ fn copy_member<B: BlockStore>(
     requires entry { IsSome (item source.now at) }
     requires keyed { Keyed (B.blocks store.old) table.old }
     requires absent { has (content (B.blocks store.old) table.old) (key_of (B.blocks store.old) (item source.now at)) ≡ false }
-    ensures hashed { OnOk result (IsHashed (B.blocks store.old) (B.blocks store.new) table.old table.new (insert (content (B.blocks store.old) table.old) (key_of (B.blocks store.old) (item source.now at)) tt)) }
+    ensures hashed { OnOk result
+        (IsHashed (B.blocks store.old) (B.blocks store.new) table.old table.new (insert (content (B.blocks store.old) table.old) (key_of (B.blocks store.old) (item source.now at)) tt)) }
     ensures served { Served B.step store.old store.new }
     ensures err_table { OnErr result (table.new ≡ table.old) }
     ensures err_blocks { OnErr result (B.blocks store.new ≡ B.blocks store.old) }

@@ -110,7 +110,8 @@ impl Members {
     // Whether a block whose mark is in a part wants to move.
     fn part_waits<B: BlockStore>(&self, store: &B, part: Part) -> bool
         requires sound { IsMembers (B.blocks store.now) self.now }
-        ensures { MatchBool result (WantsMove (B.heap store.now) self.now part.start part.end) (ArePassed (B.heap store.now) (is_within part.start part.end) (marks self.now) (refs self.now) (refs self.now)) }
+        ensures { MatchBool result (WantsMove (B.heap store.now) self.now part.start part.end)
+            (ArePassed (B.heap store.now) (is_within part.start part.end) (marks self.now) (refs self.now) (refs self.now)) }
     {
         match &self.body {
             Body::Empty => false,

@@ -131,7 +131,8 @@ impl Members {
         ensures err_set { OnErr result (form_of self.old ≢ Form.Hashtable → self.new ≡ self.old) }
         ensures err_blocks { OnErr result (form_of self.old ≢ Form.Hashtable → B.blocks store.new ≡ B.blocks store.old) }
         ensures err_form { OnErr result (form_of self.new ≡ form_of self.old) }
-        ensures err_removed { OnErr result (form_of self.old ≡ Form.Hashtable → IsChanged (B.blocks store.old) (B.blocks store.new) self.old self.new (remove (members (B.blocks store.old) self.old) member.now)) }
+        ensures err_removed { OnErr result
+            (form_of self.old ≡ Form.Hashtable → IsChanged (B.blocks store.old) (B.blocks store.new) self.old self.new (remove (members (B.blocks store.old) self.old) member.now)) }
     {
         if let Body::Table(table) = &mut self.body {
             return unhash_member(store, table, member);

@@ -1,5 +1,6 @@
 -- What is at a place among names that rise, and what becomes of the set of names there.
-use Rattle.std.proofs.Common.{◌≡◌, ℕ, zero, suc, ◌<◌, ◌≤◌, Bool, true, false, cond, List, [], ◌∷◌, length, get_or, Option, Some, None, Result, Ok, Err, IfOk, IfErr, is_some, inl, inr, refl, sym, ap, subst, ◌∙◌, arith}
+use Rattle.std.proofs.Common.{◌≡◌, ℕ, zero, suc, ◌<◌, ◌≤◌, Bool, true, false, cond, List, [], ◌∷◌, length, get_or, Option, Some, None, Result, Ok, Err, IfOk, IfErr, is_some, inl, inr}
+use Rattle.std.proofs.Common.{refl, sym, ap, subst, ◌∙◌, arith}
 use Rattle.std.specs.Prelude.{T, slice_get, map as list_map}
 use Rattle.std.specs.List.{insert, remove as removed}
 use Rattle.std.proofs.lemmas.Bool.{cond-true, cond-false, cases_Bool}
@@ -70,10 +71,14 @@ missed-gap (x ∷ names) name (suc at) is = cond-false _ _ _ (ap is_eq (turned n
 pub put-gap : (names : List Name) (new : Name) (at : ℕ) → IsGap names (bytes_of new) at → listed (insert names at new) ≡ put name_cmp (bytes_of new) tt (listed names)
 put-gap [] new zero gap = refl
 put-gap [] new (suc at) gap = absurd (omega (arith, gap.in_range))
-put-gap (x ∷ names) new zero gap = sym (ap (λ r. by_order r ((bytes_of new, tt) ∷ listed (x ∷ names)) ((bytes_of x, tt) ∷ listed names) ((bytes_of x, tt) ∷ put name_cmp (bytes_of new) tt (listed names))) (turned (bytes_of new) (bytes_of x) Greater (gap.higher 0 x (omega arith) (omega arith))))
+put-gap (x ∷ names) new zero gap = sym
+    (ap (λ r. by_order r ((bytes_of new, tt) ∷ listed (x ∷ names)) ((bytes_of x, tt) ∷ listed names) ((bytes_of x, tt) ∷ put name_cmp (bytes_of new) tt (listed names)))
+    (turned (bytes_of new) (bytes_of x) Greater (gap.higher 0 x (omega arith) (omega arith))))
 put-gap (x ∷ names) new (suc at) gap =
     ap (λ es. (bytes_of x, tt) ∷ es) (put-gap names new at (behind x names (bytes_of new) at gap))
-    ∙ sym (ap (λ r. by_order r ((bytes_of new, tt) ∷ listed (x ∷ names)) ((bytes_of x, tt) ∷ listed names) ((bytes_of x, tt) ∷ put name_cmp (bytes_of new) tt (listed names))) (turned (bytes_of new) (bytes_of x) Less (gap.lower 0 x (omega arith) (omega arith))))
+    ∙ sym
+    (ap (λ r. by_order r ((bytes_of new, tt) ∷ listed (x ∷ names)) ((bytes_of x, tt) ∷ listed names) ((bytes_of x, tt) ∷ put name_cmp (bytes_of new) tt (listed names)))
+    (turned (bytes_of new) (bytes_of x) Less (gap.lower 0 x (omega arith) (omega arith))))
 
 -- The names rise still.
 pub rise-gap : (names : List Name) (new : Name) (at : ℕ) → Rise names → IsGap names (bytes_of new) at → Rise (insert names at new)
@@ -129,7 +134,8 @@ rise-without (y ∷ names) zero h = second _ _ h
 rise-without (y ∷ names) (suc at) h = both _ _ (below-without (bytes_of y) names at (first _ _ h)) (rise-without names at (second _ _ h))
 
 -- without the name at a place, that name is found no more, and each other is found as before
-find-without : (names : List Name) (name p : List ℕ) (at : ℕ) → Rise names → IsAt names name at → find name_cmp p (listed (removed names at)) ≡ cond (eq_by_cmp name_cmp p name) None (find name_cmp p (listed names))
+find-without : (names : List Name) (name p : List ℕ) (at : ℕ) → Rise names → IsAt names name at
+    → find name_cmp p (listed (removed names at)) ≡ cond (eq_by_cmp name_cmp p name) None (find name_cmp p (listed names))
 find-without [] name p at rise is = absurd (omega (arith, is.in_range))
 find-without (x ∷ names) name p zero rise is = elim (cases_Bool (eq_by_cmp name_cmp p name)) [
   | inl same ↦ find_below name_total p (bytes_of x) (listed names) (ap (name_cmp p) (is.here x) ∙ equal _ same) (first _ _ rise) ∙ sym (cond-true _ _ _ same)
@@ -138,7 +144,8 @@ find-without (x ∷ names) name p zero rise is = elim (cases_Bool (eq_by_cmp nam
 find-without (x ∷ names) name p (suc at) rise is =
     let rest : IsAt names name at = record { in_range = omega (arith, is.in_range); here = is.here } in
     ap (λ o. cond (eq_by_cmp name_cmp p (bytes_of x)) (Some tt) o) (find-without names name p at (second _ _ rise) rest)
-    ∙ swapped (eq_by_cmp name_cmp p (bytes_of x)) (eq_by_cmp name_cmp p name) _ _ _ (λ same. ap is_eq (name_total.congr p (bytes_of x) name (equal _ same) ∙ below-at (bytes_of x) names name at (first _ _ rise) rest))
+    ∙ swapped (eq_by_cmp name_cmp p (bytes_of x)) (eq_by_cmp name_cmp p name) _ _ _
+    (λ same. ap is_eq (name_total.congr p (bytes_of x) name (equal _ same) ∙ below-at (bytes_of x) names name at (first _ _ rise) rest))
 
 -- The set of the names hasn't the one that was taken out.
 pub names-without : (names : List Name) (name : List ℕ) (at : ℕ) → Rise names → IsAt names name at → names_of (removed names at) ≡ map.remove (names_of names) name

@@ -28,10 +28,12 @@ seen_as e = (e.0, pending_of e.1)
 -- A test of what is seen is a test of the entries.
 filter-seen : (test : Id × Pending → Bool) (es : List (Id × Handed)) → filter test (list_map seen_as es) ≡ list_map seen_as (filter (λ e. test (seen_as e)) es)
 filter-seen test [] = refl
-filter-seen test (e ∷ es) = elim (test (seen_as e)) as (λ b. cond b (seen_as e ∷ filter test (list_map seen_as es)) (filter test (list_map seen_as es)) ≡ list_map seen_as (cond b (e ∷ filter (λ x. test (seen_as x)) es) (filter (λ x. test (seen_as x)) es))) [
-  | true ↦ ap (λ xs. seen_as e ∷ xs) (filter-seen test es)
-  | false ↦ filter-seen test es
-]
+filter-seen test (e ∷ es) = elim (test (seen_as e)) as
+    (λ b. cond b (seen_as e ∷ filter test (list_map seen_as es)) (filter test (list_map seen_as es)) ≡ list_map seen_as
+    (cond b (e ∷ filter (λ x. test (seen_as x)) es) (filter (λ x. test (seen_as x)) es))) [
+      | true ↦ ap (λ xs. seen_as e ∷ xs) (filter-seen test es)
+      | false ↦ filter-seen test es
+    ]
 
 -- the entries above an id, or all
 abbrev pub kept_later : Option Id → List (Id × Handed) → List (Id × Handed)
@@ -41,14 +43,16 @@ kept_later (Some above) es = filter (λ e. is_lt (id_cmp above e.0)) es
 -- The later entries, as they are seen.
 pub later-seen : (above : Option Id) (es : List (Id × Handed)) (pending : Pendings) → IdsRise es → pendings_of es ≡ pending → later above pending ≡ list_map seen_as (kept_later above es)
 later-seen None es pending rising view = ap map.entries (sym view) ∙ numbered-entries pending_of es rising
-later-seen (Some above) es pending rising view = ap (λ p. filter (is_above above) (map.entries p)) (sym view) ∙ ap (filter (is_above above)) (numbered-entries pending_of es rising) ∙ filter-seen (is_above above) es
+later-seen (Some above) es pending rising view = ap (λ p. filter (is_above above) (map.entries p)) (sym view) ∙ ap (filter (is_above above)) (numbered-entries pending_of es rising)
+    ∙ filter-seen (is_above above) es
 
 -- the ids of a consumer among entries
 abbrev pub owned_ids : List ℕ → List (Id × Handed) → List Id
 owned_ids consumer es = list_map (λ e. e.0) (filter (is_of consumer) (list_map seen_as es))
 
 -- The ids that are asked for, as they are seen.
-pub ids-seen : (consumer : List ℕ) (above : Id) (limit : ℕ) (es : List (Id × Handed)) (pending : Pendings) → IdsRise es → pendings_of es ≡ pending → ids_of pending consumer above limit ≡ take limit (owned_ids consumer (kept_later (Some above) es))
+pub ids-seen : (consumer : List ℕ) (above : Id) (limit : ℕ) (es : List (Id × Handed)) (pending : Pendings) → IdsRise es → pendings_of es ≡ pending
+    → ids_of pending consumer above limit ≡ take limit (owned_ids consumer (kept_later (Some above) es))
 ids-seen consumer above limit es pending rising view = ap (λ xs. take limit (list_map (λ (e : Id × Pending). e.0) (filter (is_of consumer) xs))) (later-seen (Some above) es pending rising view)
 
 -- One more id of the consumer.
@@ -93,7 +97,8 @@ module _ (es : List (Id × Handed)) (pending : Pendings) (rising : IdsRise es) (
 
   -- The id at each place.
   pub key-seen : (k : ℕ) → slice_get (map.keys pending) k ≡ option_map (λ (e : Id × Handed). e.0) (slice_get es k)
-  key-seen k = ap (λ m. slice_get (map.keys m) k) (sym view) ∙ ap (λ xs. slice_get (list_map (λ (e : Id × Pending). e.0) xs) k) (numbered-entries pending_of es rising) ∙ ap (λ xs. slice_get xs k) (firsts es) ∙ slice_get-map (λ (e : Id × Handed). e.0) es k
+  key-seen k = ap (λ m. slice_get (map.keys m) k) (sym view) ∙ ap (λ xs. slice_get (list_map (λ (e : Id × Pending). e.0) xs) k) (numbered-entries pending_of es rising)
+      ∙ ap (λ xs. slice_get xs k) (firsts es) ∙ slice_get-map (λ (e : Id × Handed). e.0) es k
 
 same_entry : (y z : Id × Pending) → Some y ≡ Some z → y ≡ z
 same_entry y z h = cc
@@ -102,7 +107,8 @@ found_nowhere : (o : Option Pending) (y : Pending) → o ≡ Some y → o ≡ No
 found_nowhere o y h k = cc
 
 -- an entry is found behind another one, whose key is lower than all that follow
-found-behind : (x e : Id × Pending) (es : List (Id × Pending)) → T (below_all id_cmp x.0 es) → find id_cmp e.0 es ≡ Some e.1 → (b : Bool) → eq_by_cmp id_cmp e.0 x.0 ≡ b → cond b (Some x.1) (find id_cmp e.0 es) ≡ Some e.1
+found-behind : (x e : Id × Pending) (es : List (Id × Pending)) → T (below_all id_cmp x.0 es) → find id_cmp e.0 es ≡ Some e.1 → (b : Bool) → eq_by_cmp id_cmp e.0 x.0 ≡ b
+    → cond b (Some x.1) (find id_cmp e.0 es) ≡ Some e.1
 found-behind x e es below found true t = absurd (found_nowhere (find id_cmp e.0 es) e.1 found (find_below id_total e.0 x.0 es (equal _ t) below))
 found-behind x e es below found false t = found
 
@@ -111,7 +117,8 @@ first-found : (test : Id × Pending → Bool) (es : List (Id × Pending)) (e : I
 first-found test [] e sorted is = cc
 first-found test (x ∷ es) e sorted is = by (test x) is (λ h. first-found test es e (second _ _ sorted) h)
   where
-    by : (b : Bool) → slice_get (cond b (x ∷ filter test es) (filter test es)) 0 ≡ Some e → (slice_get (filter test es) 0 ≡ Some e → find id_cmp e.0 es ≡ Some e.1) → cond (eq_by_cmp id_cmp e.0 x.0) (Some x.1) (find id_cmp e.0 es) ≡ Some e.1
+    by : (b : Bool) → slice_get (cond b (x ∷ filter test es) (filter test es)) 0 ≡ Some e → (slice_get (filter test es) 0 ≡ Some e → find id_cmp e.0 es ≡ Some e.1)
+        → cond (eq_by_cmp id_cmp e.0 x.0) (Some x.1) (find id_cmp e.0 es) ≡ Some e.1
     by true h further =
         let one : x ≡ e = same_entry x e h in
         cond-true _ _ _ (ap (λ (y : Id × Pending). eq_by_cmp id_cmp e.0 y.0) one ∙ ap is_eq (tied_itself id_total e.0)) ∙ ap (λ (y : Id × Pending). Some y.1) one

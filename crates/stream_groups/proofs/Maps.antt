@@ -11,7 +11,8 @@ use Rattle.std.specs.Ordering.{is_eq, is_lt, eq_by_cmp, match_ordering}
 use Rattle.std.specs.Cmp.{IsTotalOrder, Equal-is, alike_right}
 use Rattle.std.specs.Map.{keys_of, lookup, set_value, remove_entry}
 use Rattle.std.specs.BTreeMap.{insert_entry}
-use Rattle.std.specs.FinMap.{IsAntisymmetric, empty, entries, find, get, insert, remove, from_sorted, is_sorted, entries-from_sorted, entries-insert, get-from_sorted, get-insert, get-remove, same_map, same_entries_map, empty_of_len, len-entries}
+use Rattle.std.specs.FinMap.{IsAntisymmetric, empty, entries, find, get, insert, remove, from_sorted, is_sorted, entries-from_sorted, entries-insert, get-from_sorted, get-insert}
+use Rattle.std.specs.FinMap.{get-remove, same_map, same_entries_map, empty_of_len, len-entries}
 use Rattle.std.specs.FinMap.Entries.{put, below_all, by_order}
 use Rattle.stream_groups.specs.Seen.{seen_entries, seen}
 
@@ -86,7 +87,9 @@ module _ {K X L Y : Type 0} {R : L → L → Ordering} (o : IsTotalOrder R) (key
 
   find-seen : (q : L) (es : List (K × X)) → find R q (seen_entries key value es) ≡ option_map value (lookup (λ k. eq_by_cmp R q (key k)) es)
   find-seen q [] = refl
-  find-seen q (e ∷ es) = elim (eq_by_cmp R q (key e.0)) as (λ b. cond b (Some (value e.1)) (find R q (seen_entries key value es)) ≡ option_map value (cond b (Some e.1) (lookup (λ k. eq_by_cmp R q (key k)) es))) [ true ↦ refl | false ↦ find-seen q es ]
+  find-seen q (e ∷ es) = elim (eq_by_cmp R q (key e.0)) as
+      (λ b. cond b (Some (value e.1)) (find R q (seen_entries key value es)) ≡ option_map value (cond b (Some e.1) (lookup (λ k. eq_by_cmp R q (key k)) es)))
+      [ true ↦ refl | false ↦ find-seen q es ]
 
   -- What the map that is seen has at a key.
   pub get-seen : (q : L) (es : List (K × X)) → IsStrictlySortedBy by_key (keys_of es) → get (seen R key value es) q ≡ option_map value (lookup (λ k. eq_by_cmp R q (key k)) es)
@@ -95,15 +98,20 @@ module _ {K X L Y : Type 0} {R : L → L → Ordering} (o : IsTotalOrder R) (key
 
   put-seen : (k : K) (v : X) (es : List (K × X)) → seen_entries key value (insert_entry by_key es k v) ≡ put R (key k) (value v) (seen_entries key value es)
   put-seen k v [] = refl
-  put-seen k v (e ∷ es) = elim (R (key k) (key e.0)) as (λ r. seen_entries key value (match_ordering r ((k, v) ∷ e ∷ es) ((e.0, v) ∷ es) (e ∷ insert_entry by_key es k v)) ≡ by_order r ((key k, value v) ∷ seen_entries key value (e ∷ es)) ((key e.0, value v) ∷ seen_entries key value es) ((key e.0, value e.1) ∷ put R (key k) (value v) (seen_entries key value es))) [
-    | Less ↦ refl
-    | Equal ↦ refl
-    | Greater ↦ ap (λ xs. (key e.0, value e.1) ∷ xs) (put-seen k v es)
-  ]
+  put-seen k v (e ∷ es) = elim (R (key k) (key e.0)) as
+      (λ r. seen_entries key value (match_ordering r ((k, v) ∷ e ∷ es) ((e.0, v) ∷ es) (e ∷ insert_entry by_key es k v)) ≡ by_order r ((key k, value v) ∷ seen_entries key value (e ∷ es))
+      ((key e.0, value v) ∷ seen_entries key value es) ((key e.0, value e.1) ∷ put R (key k) (value v) (seen_entries key value es))) [
+        | Less ↦ refl
+        | Equal ↦ refl
+        | Greater ↦ ap (λ xs. (key e.0, value e.1) ∷ xs) (put-seen k v es)
+      ]
 
   -- To insert is to insert into the map that is seen.
-  pub seen-insert : (k : K) (v : X) (es new : List (K × X)) → IsStrictlySortedBy by_key (keys_of es) → IsStrictlySortedBy by_key (keys_of new) → new ≡ insert_entry by_key es k v → seen R key value new ≡ insert (seen R key value es) (key k) (value v)
-  seen-insert k v es new h after is = same_entries_map _ _ (entries-seen new after ∙ ap (seen_entries key value) is ∙ put-seen k v es ∙ ap (put R (key k) (value v)) (sym (entries-seen es h)) ∙ sym (entries-insert o (seen R key value es) (key k) (value v)))
+  pub seen-insert : (k : K) (v : X) (es new : List (K × X)) → IsStrictlySortedBy by_key (keys_of es) → IsStrictlySortedBy by_key (keys_of new) → new ≡ insert_entry by_key es k v
+      → seen R key value new ≡ insert (seen R key value es) (key k) (value v)
+  seen-insert k v es new h after is = same_entries_map _ _
+      (entries-seen new after ∙ ap (seen_entries key value) is ∙ put-seen k v es ∙ ap (put R (key k) (value v)) (sym (entries-seen es h))
+      ∙ sym (entries-insert o (seen R key value es) (key k) (value v)))
 
   -- whether the key of an entry is the one asked for
   abbrev at : L → K → Bool
@@ -116,7 +124,8 @@ module _ {K X L Y : Type 0} {R : L → L → Ordering} (o : IsTotalOrder R) (key
     | inr other ↦ other
   ]
 
-  find-set : (q p : L) (w : X) (es : List (K × X)) → IsSome (lookup (at q) es) → find R p (seen_entries key value (set_value (at q) es w)) ≡ cond (eq_by_cmp R p q) (Some (value w)) (find R p (seen_entries key value es))
+  find-set : (q p : L) (w : X) (es : List (K × X)) → IsSome (lookup (at q) es)
+      → find R p (seen_entries key value (set_value (at q) es w)) ≡ cond (eq_by_cmp R p q) (Some (value w)) (find R p (seen_entries key value es))
   find-set q p w [] there = absurd (true≢false (sym there))
   find-set q p w (e ∷ es) there = elim (cases_Bool (at q e.0)) [
     | inl t ↦ ap (λ b. find R p (seen_entries key value (cond b ((e.0, w) ∷ es) (e ∷ set_value (at q) es w)))) t
@@ -129,12 +138,15 @@ module _ {K X L Y : Type 0} {R : L → L → Ordering} (o : IsTotalOrder R) (key
   ]
 
   -- To write a value in its place is to insert into the map that is seen.
-  pub seen-set : (q : L) (w : X) (es new : List (K × X)) → IsAntisymmetric R → IsStrictlySortedBy by_key (keys_of es) → IsStrictlySortedBy by_key (keys_of new) → IsSome (lookup (at q) es) → new ≡ set_value (at q) es w → seen R key value new ≡ insert (seen R key value es) q (value w)
+  pub seen-set : (q : L) (w : X) (es new : List (K × X)) → IsAntisymmetric R → IsStrictlySortedBy by_key (keys_of es) → IsStrictlySortedBy by_key (keys_of new) → IsSome (lookup (at q) es)
+      → new ≡ set_value (at q) es w → seen R key value new ≡ insert (seen R key value es) q (value w)
   unfolding seen
-  seen-set q w es new same h after there is = same_map o same _ _ (λ p. get-from_sorted R (seen_entries key value new) p (seen_sorted new after) ∙ ap (λ xs. find R p (seen_entries key value xs)) is ∙ find-set q p w es there
+  seen-set q w es new same h after there is = same_map o same _ _
+      (λ p. get-from_sorted R (seen_entries key value new) p (seen_sorted new after) ∙ ap (λ xs. find R p (seen_entries key value xs)) is ∙ find-set q p w es there
       ∙ ap (cond (eq_by_cmp R p q) (Some (value w))) (sym (get-from_sorted R (seen_entries key value es) p (seen_sorted es h))) ∙ sym (get-insert o (seen R key value es) q (value w) p))
 
-  find-removed : (q p : L) (es : List (K × X)) → T (is_sorted R (seen_entries key value es)) → find R p (seen_entries key value (remove_entry (at q) es)) ≡ cond (eq_by_cmp R p q) None (find R p (seen_entries key value es))
+  find-removed : (q p : L) (es : List (K × X)) → T (is_sorted R (seen_entries key value es))
+      → find R p (seen_entries key value (remove_entry (at q) es)) ≡ cond (eq_by_cmp R p q) None (find R p (seen_entries key value es))
   find-removed q p [] h = elim (eq_by_cmp R p q) as (λ b. ◌≡◌ {A = Option Y} None (cond b None None)) [ true ↦ refl | false ↦ refl ]
   find-removed q p (e ∷ es) h = elim (cases_Bool (at q e.0)) [
     | inl t ↦ ap (λ b. find R p (seen_entries key value (cond b es (e ∷ remove_entry (at q) es)))) t
@@ -149,7 +161,9 @@ module _ {K X L Y : Type 0} {R : L → L → Ordering} (o : IsTotalOrder R) (key
   ]
 
   -- To remove is to remove from the map that is seen.
-  pub seen-remove : (q : L) (es new : List (K × X)) → IsAntisymmetric R → IsStrictlySortedBy by_key (keys_of es) → IsStrictlySortedBy by_key (keys_of new) → new ≡ remove_entry (at q) es → seen R key value new ≡ remove (seen R key value es) q
+  pub seen-remove : (q : L) (es new : List (K × X)) → IsAntisymmetric R → IsStrictlySortedBy by_key (keys_of es) → IsStrictlySortedBy by_key (keys_of new) → new ≡ remove_entry (at q) es
+      → seen R key value new ≡ remove (seen R key value es) q
   unfolding seen
-  seen-remove q es new same h after is = same_map o same _ _ (λ p. get-from_sorted R (seen_entries key value new) p (seen_sorted new after) ∙ ap (λ xs. find R p (seen_entries key value xs)) is ∙ find-removed q p es (seen_sorted es h)
+  seen-remove q es new same h after is = same_map o same _ _
+      (λ p. get-from_sorted R (seen_entries key value new) p (seen_sorted new after) ∙ ap (λ xs. find R p (seen_entries key value xs)) is ∙ find-removed q p es (seen_sorted es h)
       ∙ ap (cond (eq_by_cmp R p q) None) (sym (get-from_sorted R (seen_entries key value es) p (seen_sorted es h))) ∙ sym (get-remove o (seen R key value es) q p))

@@ -18,13 +18,15 @@ owned-none consumers pending none id entry is = absurd (apart (map.get pending i
 
 -- They stay so where a consumer is added.
 pub owned-added : (consumers : Names) (pending : Pendings) (name : List ℕ) → AreOwned consumers pending → AreOwned (map.insert consumers name tt) pending
-owned-added consumers pending name owned id entry is = ap is_some (map.get-insert name_total consumers name tt entry.consumer) ∙ elim (eq_by_cmp name_cmp entry.consumer name) as (λ b. is_some (cond b (Some tt) (map.get consumers entry.consumer)) ≡ true) [
-  | true ↦ refl
-  | false ↦ owned id entry is
-]
+owned-added consumers pending name owned id entry is = ap is_some (map.get-insert name_total consumers name tt entry.consumer)
+    ∙ elim (eq_by_cmp name_cmp entry.consumer name) as (λ b. is_some (cond b (Some tt) (map.get consumers entry.consumer)) ≡ true) [
+      | true ↦ refl
+      | false ↦ owned id entry is
+    ]
 
 -- They stay so where an id becomes pending for a consumer.
-pub owned-put : (consumers : Names) (pending : Pendings) (id : Id) (e : Pending) → AreOwned consumers pending → map.contains_key consumers e.consumer ≡ true → AreOwned consumers (map.insert pending id e)
+pub owned-put : (consumers : Names) (pending : Pendings) (id : Id) (e : Pending) → AreOwned consumers pending → map.contains_key consumers e.consumer ≡ true
+    → AreOwned consumers (map.insert pending id e)
 owned-put consumers pending id e owned known q entry is = by (eq_by_cmp id_cmp q id) (sym (map.get-insert id_total pending id e q) ∙ is)
   where
     same : (x : Pending) → Some e ≡ Some x → e ≡ x
@@ -43,7 +45,8 @@ owned-without consumers pending id owned q entry is = by (eq_by_cmp id_cmp q id)
     by false h = owned q entry h
 
 -- They stay so where ids become pending for a consumer.
-pub owned-placed : (consumers : Names) (pending : Pendings) (ids : List Id) (e : Pending) → AreOwned consumers pending → map.contains_key consumers e.consumer ≡ true → AreOwned consumers (placed pending ids e)
+pub owned-placed : (consumers : Names) (pending : Pendings) (ids : List Id) (e : Pending) → AreOwned consumers pending → map.contains_key consumers e.consumer ≡ true
+    → AreOwned consumers (placed pending ids e)
 owned-placed consumers pending [] e owned known = owned
 owned-placed consumers pending (id ∷ ids) e owned known = owned-placed consumers (map.insert pending id e) ids e (owned-put consumers pending id e owned known) known
 

@@ -27,7 +27,8 @@ module _ {K X : Type 0} where
   -- the n-th item of an iterator over all entries, which wasn't there
   pub nth-none : (all : List (K × X)) (s u : List (K × X)) (n : ℕ) → s ≡ all → SkipsThenYields (TakesFirst deref_pair) s n None u → slice_get all n ≡ None
   nth-none all s u n start ran =
-      place-past (list_map deref_pair ran.0) all n (sym start ∙ rest_so_far deref_pair ran.0 s ran.1.0 ran.1.1 ∙ ap (λ t. list_map deref_pair ran.0 ++ t) ran.1.2.0) (omega (arith, ran.2, length-map ran.0 deref_pair))
+      place-past (list_map deref_pair ran.0) all n (sym start ∙ rest_so_far deref_pair ran.0 s ran.1.0 ran.1.1 ∙ ap (λ t. list_map deref_pair ran.0 ++ t) ran.1.2.0)
+      (omega (arith, ran.2, length-map ran.0 deref_pair))
 
   -- the n-th item of an iterator over all entries
   pub nth-some : (all : List (K × X)) (s u : List (K × X)) (n : ℕ) (x : Bor K × Bor X) → s ≡ all → SkipsThenYields (TakesFirst deref_pair) s n (Some x) u → slice_get all n ≡ Some (x.0.now, x.1.now)
@@ -49,12 +50,15 @@ module _ (es : List (Name × Group)) (groups : Groups) (rising : NamesRise es) (
 
   -- The group at a place.
   pub value-at : (k : ℕ) → slice_get (map.values groups) k ≡ option_map (λ (e : Name × Group). e.1) (slice_get es k)
-  value-at k = ap (λ m. slice_get (map.values m) k) (sym view) ∙ ap (λ xs. slice_get (list_map (λ (e : List ℕ × Group). e.1) xs) k) (named-entries (λ (g : Group). g) es rising) ∙ ap (λ xs. slice_get xs k) (named-values es) ∙ slice_get-map (λ (e : Name × Group). e.1) es k
+  value-at k = ap (λ m. slice_get (map.values m) k) (sym view) ∙ ap (λ xs. slice_get (list_map (λ (e : List ℕ × Group). e.1) xs) k) (named-entries (λ (g : Group). g) es rising)
+      ∙ ap (λ xs. slice_get xs k) (named-values es) ∙ slice_get-map (λ (e : Name × Group). e.1) es k
 
   -- The name at a place.
   pub name-at : (k : ℕ) → slice_get (map.keys groups) k ≡ option_map (λ (e : Name × Group). e.0.items) (slice_get es k)
-  name-at k = ap (λ m. slice_get (map.keys m) k) (sym view) ∙ ap (λ xs. slice_get (list_map (λ (e : List ℕ × Group). e.0) xs) k) (named-entries (λ (g : Group). g) es rising) ∙ ap (λ xs. slice_get xs k) (named-keys es) ∙ slice_get-map (λ (e : Name × Group). e.0.items) es k
+  name-at k = ap (λ m. slice_get (map.keys m) k) (sym view) ∙ ap (λ xs. slice_get (list_map (λ (e : List ℕ × Group). e.0) xs) k) (named-entries (λ (g : Group). g) es rising)
+      ∙ ap (λ xs. slice_get xs k) (named-keys es) ∙ slice_get-map (λ (e : Name × Group). e.0.items) es k
 
   -- How many groups there are.
   pub groups-len : length es ≡ map.len groups
-  groups-len = sym (length-map es (λ (e : Name × Group). (e.0.items, e.1))) ∙ ap length (sym (named-entries (λ (g : Group). g) es rising)) ∙ sym (map.len-entries (named (λ (g : Group). g) es)) ∙ ap map.len view
+  groups-len = sym (length-map es (λ (e : Name × Group). (e.0.items, e.1))) ∙ ap length (sym (named-entries (λ (g : Group). g) es rising))
+      ∙ sym (map.len-entries (named (λ (g : Group). g) es)) ∙ ap map.len view

@@ -69,9 +69,11 @@ tally-step counts new e rest all small t is = record { sums = λ q. (at q).0; so
           (let one : q ≡ e.1.consumer = name_same q e.1.consumer (equal _ same) in
           let get : map.get new q ≡ Some (one_more (map.get counts q)) = got q ∙ cond-true _ _ _ same ∙ ap (λ n. Some (one_more (map.get counts n))) (sym one) in
           let hit : is_of q e ≡ true = (eq_by_cmp_equiv name_total).symm e.1.consumer q ∙ same in
-          let whole : number counts q + (1 + count_by (is_of q) rest) ≡ count_by (is_of q) all = ap (λ k. number counts q + k) (ap (λ b. cond b 1 0 + count_by (is_of q) rest) (sym hit) ∙ sym (count-cons q e rest)) ∙ t.sums q in
+          let whole : number counts q + (1 + count_by (is_of q) rest) ≡ count_by (is_of q) all =
+          ap (λ k. number counts q + k) (ap (λ b. cond b 1 0 + count_by (is_of q) rest) (sym hit) ∙ sym (count-cons q e rest)) ∙ t.sums q in
           let bound : count_by (is_of q) all < 2 ^ 63 = omega (arith, count_by-le-length (is_of q) all) in
-          let both : (one_more (map.get counts q) + count_by (is_of q) rest ≡ count_by (is_of q) all) × (0 < one_more (map.get counts q)) = more (map.get counts q) (count_by (is_of q) rest) (count_by (is_of q) all) whole bound in
+          let both : (one_more (map.get counts q) + count_by (is_of q) rest ≡ count_by (is_of q) all)
+          × (0 < one_more (map.get counts q)) = more (map.get counts q) (count_by (is_of q) rest) (count_by (is_of q) all) whole bound in
           (ap (λ o. unwrap_or o 0 + count_by (is_of q) rest) get ∙ both.0, get ∙ some-any (one_more (map.get counts q)) both.1 ∙ ap (λ o. some_if_any (unwrap_or o 0)) (sym get)))
       | inr other ↦
           (let get : map.get new q ≡ map.get counts q = got q ∙ cond-false _ _ _ other in

@@ -19,17 +19,19 @@ same_pending = map.same_map id_total id_same
 
 -- What was put in the place of nothing is removed.
 remove-insert : (p : Pendings) (id : Id) (e : Pending) → map.get p id ≡ None → map.remove (map.insert p id e) id ≡ p
-remove-insert p id e none = same_pending _ _ (λ q. map.get-remove id_total (map.insert p id e) id q ∙ ap (cond (eq_by_cmp id_cmp q id) None) (map.get-insert id_total p id e q) ∙ elim (cases_Bool (eq_by_cmp id_cmp q id)) [
-  | inl same ↦ cond-true _ _ _ same ∙ sym none ∙ ap (map.get p) (sym (id_same q id (equal _ same)))
-  | inr other ↦ cond-false _ _ _ other ∙ cond-false _ _ _ other
-])
+remove-insert p id e none = same_pending _ _
+    (λ q. map.get-remove id_total (map.insert p id e) id q ∙ ap (cond (eq_by_cmp id_cmp q id) None) (map.get-insert id_total p id e q) ∙ elim (cases_Bool (eq_by_cmp id_cmp q id)) [
+      | inl same ↦ cond-true _ _ _ same ∙ sym none ∙ ap (map.get p) (sym (id_same q id (equal _ same)))
+      | inr other ↦ cond-false _ _ _ other ∙ cond-false _ _ _ other
+    ])
 
 -- What was put in the place of an entry is put back.
 insert-insert : (p : Pendings) (id : Id) (e f : Pending) → map.get p id ≡ Some f → map.insert (map.insert p id e) id f ≡ p
-insert-insert p id e f was = same_pending _ _ (λ q. map.get-insert id_total (map.insert p id e) id f q ∙ ap (cond (eq_by_cmp id_cmp q id) (Some f)) (map.get-insert id_total p id e q) ∙ elim (cases_Bool (eq_by_cmp id_cmp q id)) [
-  | inl same ↦ cond-true _ _ _ same ∙ sym was ∙ ap (map.get p) (sym (id_same q id (equal _ same)))
-  | inr other ↦ cond-false _ _ _ other ∙ cond-false _ _ _ other
-])
+insert-insert p id e f was = same_pending _ _
+    (λ q. map.get-insert id_total (map.insert p id e) id f q ∙ ap (cond (eq_by_cmp id_cmp q id) (Some f)) (map.get-insert id_total p id e q) ∙ elim (cases_Bool (eq_by_cmp id_cmp q id)) [
+      | inl same ↦ cond-true _ _ _ same ∙ sym was ∙ ap (map.get p) (sym (id_same q id (equal _ same)))
+      | inr other ↦ cond-false _ _ _ other ∙ cond-false _ _ _ other
+    ])
 
 -- What was put is pending.
 pub put-there : (p : Pendings) (id : Id) (e : Pending) → map.contains_key (map.insert p id e) id ≡ true
@@ -41,7 +43,8 @@ restored-put p id e None is = remove-insert p id e (sym is)
 restored-put p id e (Some f) is = cond-true _ _ _ (put-there p id e) ∙ insert-insert p id e f (sym is)
 
 -- The last of the ids is put back first.
-pub undone-push : (p : Pendings) (ids : List Id) (id : Id) (log : List (Option Pending)) (was : Option Pending) → length ids ≡ length log → undone p (ids ++ id ∷ []) (log ++ was ∷ []) ≡ undone (restored p id was) ids log
+pub undone-push : (p : Pendings) (ids : List Id) (id : Id) (log : List (Option Pending)) (was : Option Pending) → length ids ≡ length log
+    → undone p (ids ++ id ∷ []) (log ++ was ∷ []) ≡ undone (restored p id was) ids log
 undone-push p [] id [] was same = refl
 undone-push p [] id (w ∷ log) was same = absurd (omega arith)
 undone-push p (x ∷ ids) id [] was same = absurd (omega arith)
@@ -59,10 +62,12 @@ pub undo-step : (p : Pendings) (ids : List Id) (ws : List (Option Handed)) (was 
 undo-step p ids ws was d within =
     ap (λ xs. undone p xs (logged (ws ++ was ∷ []))) (more_of ids (length ws) d within)
     ∙ ap (undone p (take (length ws) ids ++ get_or ids (length ws) d ∷ [])) (more_log ws was)
-    ∙ undone-push p (take (length ws) ids) (get_or ids (length ws) d) (logged ws) (option_map pending_of was) (length-take-le (length ws) ids (omega arith) ∙ sym (length-map ws (option_map pending_of)))
+    ∙ undone-push p (take (length ws) ids) (get_or ids (length ws) d) (logged ws) (option_map pending_of was)
+    (length-take-le (length ws) ids (omega arith) ∙ sym (length-map ws (option_map pending_of)))
 
 -- One more id is put, and its log grows.
-pub put-step : (p : Pendings) (ids : List Id) (ws : List (Option Handed)) (was : Option Handed) (d : Id) (e : Pending) → length ws < length ids → option_map pending_of was ≡ map.get p (get_or ids (length ws) d)
+pub put-step : (p : Pendings) (ids : List Id) (ws : List (Option Handed)) (was : Option Handed) (d : Id) (e : Pending) → length ws < length ids
+    → option_map pending_of was ≡ map.get p (get_or ids (length ws) d)
     → undone (map.insert p (get_or ids (length ws) d) e) (take (length ws + 1) ids) (logged (ws ++ was ∷ [])) ≡ undone p (take (length ws) ids) (logged ws)
 put-step p ids ws was d e within is =
     undo-step (map.insert p (get_or ids (length ws) d) e) ids ws was d within

@@ -33,7 +33,8 @@ module _ {X Y : Type 0} (value : X → Y) where
         pub named-remove : (q : List ℕ) → new ≡ remove_entry (λ k. eq_by_cmp name_cmp q k.items) es → named value new ≡ remove (named value es) q
         named-remove q is = seen-remove name_total bytes_of value q es new name_same rising after is
 
-        pub named-set : (q : List ℕ) (w : X) → IsSome (lookup (λ k. eq_by_cmp name_cmp q k.items) es) → new ≡ set_value (λ k. eq_by_cmp name_cmp q k.items) es w → named value new ≡ insert (named value es) q (value w)
+        pub named-set : (q : List ℕ) (w : X) → IsSome (lookup (λ k. eq_by_cmp name_cmp q k.items) es) → new ≡ set_value (λ k. eq_by_cmp name_cmp q k.items) es w
+            → named value new ≡ insert (named value es) q (value w)
         named-set q w there is = seen-set name_total bytes_of value q w es new name_same rising after there is
 
   module _ (es : List (Id × X)) where

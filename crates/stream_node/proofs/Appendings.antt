@@ -28,7 +28,8 @@ written_end ss elements =
     written_entries : Texts → List ℕ
     written_entries elements = entries (map spelling elements)
 
-pub behind_room : (old mid : List ℕ) (first : List ℕ) (elements : Texts) → Replaces old mid 0 first → pack_len (slice_set (spellings_of old) 0 (spelling first) ++ map spelling elements) < 2 ^ 32 → HasRoom mid elements
+pub behind_room : (old mid : List ℕ) (first : List ℕ) (elements : Texts) → Replaces old mid 0 first
+    → pack_len (slice_set (spellings_of old) 0 (spelling first) ++ map spelling elements) < 2 ^ 32 → HasRoom mid elements
 behind_room old mid first elements r room =
     omega (arith, room, written_end (slice_set (spellings_of old) 0 (spelling first)) elements, length-pack mid r.pack, ap (λ (x : Texts). length (entries x)) r.spelled)
 
@@ -102,7 +103,8 @@ from_node key id old new pairs live same es n ids after some few short p e =
     let there = ap (λ (k : ℕ). slice_set list 0 (number (k + 1)) ++ entry_texts key id same pairs) lives ∙ sym e in
     subst (λ (x : Texts). Node key x (es ++ record { id = id; deleted = false; pairs = pairs } ∷ [])) there made
 
-pub appended_behind : (key id : Id) (old new : List ℕ) (pairs : List Pair) (live : ℕ) (same : Bool) → AreIds key id → IsOpen key (texts old) → IsAfter (last_id None (held key (texts old))) id → 0 < length pairs
+pub appended_behind : (key id : Id) (old new : List ℕ) (pairs : List Pair) (live : ℕ) (same : Bool) → AreIds key id → IsOpen key (texts old)
+    → IsAfter (last_id None (held key (texts old))) id → 0 < length pairs
     → length (texts old) < 2 ^ 32 → pack_len (appended key old id pairs) < 2 ^ 32 → IsPlan (texts old) pairs live same → IsBehind old new (number (live + 1)) (entry_texts key id same pairs)
     → IsAppended key old new id pairs
 appended_behind key id old new pairs live same ids open_list after some short room p b =
@@ -112,7 +114,8 @@ appended_behind key id old new pairs live same ids open_list after some short ro
     let holds = held_all key list there in
     let is = appended_is key id old pairs live same p in
     let few : length pairs < 2 ^ 32 = pairs_few key id same pairs (omega (arith, room, ap pack_len is, written_end ss (entry_texts key id same pairs))) in
-    let n = from_node key id old new pairs live same (entries_of key list) (the_node key list open_list there) ids (subst (λ (x : List Stored). IsAfter (last_id None x) id) holds after) some (omega (arith, few)) short p b.list in
+    let n = from_node key id old new pairs live same (entries_of key list) (the_node key list open_list there) ids (subst (λ (x : List Stored). IsAfter (last_id None x) id) holds after)
+    some (omega (arith, few)) short p b.list in
     record {
       pack = b.pack;
       node = is_node key (texts new) _ n;
@@ -137,7 +140,8 @@ first_is key id old pairs none =
     ap (λ (x : Texts). slice_set x 0 (spelling (more_live (texts old))) ++ map spelling (added key (texts old) id pairs)) (none_spelled old none)
     ∙ ap (λ (x : Texts). map spelling (added key x id pairs)) none
 
-pub first_room : (key id : Id) (old : List ℕ) (pairs : List Pair) → IsPack old → texts old ≡ [] → pack_len (appended key old id pairs) < 2 ^ 32 → HasRoom old (head_texts pairs ++ entry_texts key id true pairs)
+pub first_room : (key id : Id) (old : List ℕ) (pairs : List Pair) → IsPack old → texts old ≡ [] → pack_len (appended key old id pairs) < 2 ^ 32
+    → HasRoom old (head_texts pairs ++ entry_texts key id true pairs)
 first_room key id old pairs pack none room =
     omega (arith, room, ap pack_len (first_is key id old pairs none), length-pack old pack, ap (λ (x : Texts). length (entries x)) (none_spelled old none))
 

@@ -93,7 +93,8 @@ many_left old none one two at a b behind inside s i j =
       length-insert (texts one) 1 b (omega (arith, ap length i.list, length-insert (texts none) 0 a (omega arith))),
     )
 
-pub exchanges : (old none one two new : List ℕ) (at : ℕ) (a b f : List ℕ) → 2 ≤ at → at < length (spellings_of old) → at < length (texts old) → Steps old none at → Inserts none one 0 a → Inserts one two 1 b → Inserts two new at f
+pub exchanges : (old none one two new : List ℕ) (at : ℕ) (a b f : List ℕ) → 2 ≤ at → at < length (spellings_of old) → at < length (texts old) → Steps old none at → Inserts none one 0 a
+    → Inserts one two 1 b → Inserts two new at f
     → Exchanges old new at a b f
 exchanges old none one two new at a b f behind inside inside_texts s i j k = record {
   pack = k.pack;

@@ -28,7 +28,8 @@ at_place list rest behind i x e f =
       omega (arith, ap length (sym e ∙ f), length-drop i list),
     )
 
-pub one_field : (list rest behind : Texts) (pairs : List Pair) (i : ℕ) (test : Bool) (x field : List ℕ) → i < length pairs → take i list ≡ fields_of (take i pairs) → rest ≡ drop i list → i ≤ length list
+pub one_field : (list rest behind : Texts) (pairs : List Pair) (i : ℕ) (test : Bool) (x field : List ℕ) → i < length pairs → take i list ≡ fields_of (take i pairs) → rest ≡ drop i list
+    → i ≤ length list
     → rest ≡ x ∷ behind → field ≡ (pair_at pairs i).0 → (IsTrue test ↔ (x ≡ field)) → test ≡ true
     → (take (i + 1) list ≡ fields_of (take (i + 1) pairs)) × (behind ≡ drop (i + 1) list) × (i + 1 ≤ length list)
 one_field list rest behind pairs i test x field inside so_far e few f is both passed =

@@ -35,7 +35,8 @@ grow_entry key master list e rest more is =
       };
     }
 
-pub grow : (key : Id) (master list : Texts) (before : Option Id) (es : List Stored) (rest more : Texts) → Begins key master before list es rest → Begins key master before (list ++ more) es (rest ++ more)
+pub grow : (key : Id) (master list : Texts) (before : Option Id) (es : List Stored) (rest more : Texts) → Begins key master before list es rest
+    → Begins key master before (list ++ more) es (rest ++ more)
 unfolding Begins
 grow key master list before [] rest more b = ap (λ (x : Texts). x ++ more) b
 grow key master list before (e ∷ es) rest more b = (b.0 ++ more, grow_entry key master list e b.0 more b.1, b.2, grow key master b.0 (Some e.id) es rest more b.3)
@@ -113,7 +114,8 @@ first_node key id pairs a b c d some few =
     }
 
 -- the head with another number of live entries, and more behind it
-more_head : (list : Texts) (live deleted : ℕ) (master rest more : Texts) → IsHead list live deleted master rest → live + 1 < 2 ^ 63 → IsHead (slice_set list 0 (number (live + 1)) ++ more) (live + 1) deleted master (rest ++ more)
+more_head : (list : Texts) (live deleted : ℕ) (master rest more : Texts) → IsHead list live deleted master rest → live + 1 < 2 ^ 63
+    → IsHead (slice_set list 0 (number (live + 1)) ++ more) (live + 1) deleted master (rest ++ more)
 more_head list live deleted master rest more h fits = record {
   live_fits = fits;
   deleted_fits = h.deleted_fits;
@@ -141,7 +143,8 @@ more_node key id list same pairs es n a b c d fields after short =
       master = n.master;
       behind = n.behind ++ entry;
       head = more_head list n.live n.deleted n.master n.behind entry n.head (omega (arith, n.count, few, short, longer, all));
-      all_entries = begins_push key n.master (n.behind ++ entry) None es e entry [] (grow key n.master n.behind None es [] entry n.all_entries) (written_entry key id n.master same pairs a b c d fields) after;
+      all_entries = begins_push key n.master (n.behind ++ entry) None es e entry [] (grow key n.master n.behind None es [] entry n.all_entries)
+          (written_entry key id n.master same pairs a b c d fields) after;
       count = omega (arith, length_push es e, n.count);
       marks = marked_push es e ∙ omega (arith, n.marks);
     }

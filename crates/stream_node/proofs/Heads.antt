@@ -44,7 +44,8 @@ lacks_count list a b x y e f none live deleted master rest h =
     none (length master) (master ++ number 0 ∷ rest) h.fields_fit (ap behind (sym f ∙ ap behind (sym e ∙ h.elements)))
 
 -- what stands behind the counts, where there is a head
-same_count : (list fields : Texts) (l d n live deleted : ℕ) (master rest : Texts) → Counts list l d n fields → IsHead list live deleted master rest → (n ≡ length master) × (fields ≡ master ++ number 0 ∷ rest)
+same_count : (list fields : Texts) (l d n live deleted : ℕ) (master rest : Texts) → Counts list l d n fields → IsHead list live deleted master rest → (n ≡ length master)
+    × (fields ≡ master ++ number 0 ∷ rest)
 same_count list fields l d n live deleted master rest c h =
     let e : number n ∷ fields ≡ number (length master) ∷ (master ++ number 0 ∷ rest) = ap (λ (x : Texts). behind (behind x)) (sym c.elements ∙ h.elements) in
     (same_number n (length master) c.count_fits h.fields_fit (ap first e), ap behind e)

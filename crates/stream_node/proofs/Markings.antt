@@ -193,7 +193,8 @@ pub record NodeBehind (key : Id) (live : ℕ) (deleted : ℕ) (master : Texts) (
   pub marks : marked es ≡ deleted
 
 -- behind each head that is read of a node stand its entries, by the head's fields and counts
-pub node_behind : (key : Id) (list : Texts) (es : List Stored) (live deleted : ℕ) (master first : Texts) → Node key list es → IsHead list live deleted master first → NodeBehind key live deleted master first es
+pub node_behind : (key : Id) (list : Texts) (es : List Stored) (live deleted : ℕ) (master first : Texts) → Node key list es → IsHead list live deleted master first
+    → NodeBehind key live deleted master first es
 node_behind key list es live deleted master first n head =
     let same = one_head list n.live n.deleted live deleted n.master n.behind master first n.head head in
     record {
@@ -230,7 +231,8 @@ marked_head live deleted master first list h few other = record {
 }
 
 -- an entry whose flags have no mark is found in the whole list, and so is the node with its mark
-found_by : (key : Id) (list : Texts) (index live deleted : ℕ) (master first : Texts) (es : List Stored) → IsHead list live deleted master first → NodeBehind key live deleted master first es → length list < 2 ^ 32
+found_by : (key : Id) (list : Texts) (index live deleted : ℕ) (master first : Texts) (es : List Stored) → IsHead list live deleted master first
+    → NodeBehind key live deleted master first es → length list < 2 ^ 32
     → (m : HasMark key master None first es index) → m.deleted ≡ false → IsFound key list index live deleted master first es
 found_by key list index live deleted master first es head n short m unmarked =
     let f : Texts = number (flags false m.same) ∷ m.tail in
@@ -285,7 +287,8 @@ found key list index live deleted master first can head short =
     found_by key list index live deleted master first es head n short m unmarked
 
 -- the same for any other key of which the list is a node
-pub found_too : (key other : Id) (list : Texts) (index live deleted : ℕ) (master first : Texts) → CanMark key list index → IsNode other list → IsHead list live deleted master first → length list < 2 ^ 32
+pub found_too : (key other : Id) (list : Texts) (index live deleted : ℕ) (master first : Texts) → CanMark key list index → IsNode other list → IsHead list live deleted master first
+    → length list < 2 ^ 32
     → IsFound other list index live deleted master first (entries_of other list)
 found_too key other list index live deleted master first can node head short =
     let es = entries_of key list in
@@ -314,7 +317,8 @@ flags_marked true = refl
 flags_marked false = refl
 
 -- where the flags stand
-pub place_is : (key : Id) (list : Texts) (index live deleted : ℕ) (master first : Texts) (es : List Stored) → IsHead list live deleted master first → (f : IsFound key list index live deleted master first es)
+pub place_is : (key : Id) (list : Texts) (index live deleted : ℕ) (master first : Texts) (es : List Stored) → IsHead list live deleted master first
+    → (f : IsFound key list index live deleted master first es)
     → flags_at list index ≡ suc (suc (length f.second))
 place_is key list index live deleted master first es head f =
     let r = read_head list live deleted master first head in
@@ -327,10 +331,12 @@ flags_read : (key : Id) (list : Texts) (index live deleted : ℕ) (master first 
     → count (element list (suc (suc (length f.second)))) ≡ flags false f.same
 flags_read key list index live deleted master first es f =
     let front : Texts = number live ∷ number deleted ∷ f.second in
-    ap (λ (x : Texts). count (element x (suc (suc (length f.second))))) f.list_is ∙ ap count (element_at front f.tail (number (flags false f.same))) ∙ count_back (flags false f.same) (few_flags false f.same)
+    ap (λ (x : Texts). count (element x (suc (suc (length f.second))))) f.list_is ∙ ap count (element_at front f.tail (number (flags false f.same)))
+    ∙ count_back (flags false f.same) (few_flags false f.same)
 
 -- the place of the flags, the flags with the mark and the changed counts are what is to be written
-pub marks_are : (key : Id) (list rest more : Texts) (index live deleted n at : ℕ) (master first : Texts) (es : List Stored) → IsHead list live deleted master first → IsFound key list index live deleted master first es
+pub marks_are : (key : Id) (list rest more : Texts) (index live deleted n at : ℕ) (master first : Texts) (es : List Stored) → IsHead list live deleted master first
+    → IsFound key list index live deleted master first es
     → rest ≡ behind_entries master index first → rest ≡ number n ∷ more → n < 2 ^ 63 → at ≡ length list - length rest
     → AreMarks list index (record { at = at; flags = n + 1; live = live - 1; deleted = deleted + 1 })
 marks_are key list rest more index live deleted n at master first es head f is e fits there =
@@ -412,7 +418,8 @@ is_marked key old new index marks can short m e =
     }
 
 -- what stands behind the entries before the found one is no longer than the whole list
-pub rest_inside : (key : Id) (list rest : Texts) (index live deleted : ℕ) (master first : Texts) (es : List Stored) → IsFound key list index live deleted master first es → rest ≡ behind_entries master index first
+pub rest_inside : (key : Id) (list rest : Texts) (index live deleted : ℕ) (master first : Texts) (es : List Stored) → IsFound key list index live deleted master first es
+    → rest ≡ behind_entries master index first
     → length rest ≤ length list
 rest_inside key list rest index live deleted master first es f is =
     omega (arith, ap length (is ∙ f.place), ap length f.list_is, length-append f.second (number (flags false f.same) ∷ f.tail))

@@ -43,7 +43,8 @@ alternating_at (suc i) (suc n) (f ∷ (v ∷ list)) h k =
     alternating_at i n list (omega (arith, h)) (omega (arith, k)) ∙ λ j. (one j, two j)
 
 -- the first pair, and those behind it
-pub split_pairs : (same : Bool) (n : ℕ) (fields values more others : Texts) (pair : Pair) → 0 < n → IsSplit same fields values pair more others → pairs_at same n fields values ≡ pair ∷ pairs_at same (n - 1) more others
+pub split_pairs : (same : Bool) (n : ℕ) (fields values more others : Texts) (pair : Pair) → 0 < n → IsSplit same fields values pair more others → pairs_at same n fields values ≡ pair
+    ∷ pairs_at same (n - 1) more others
 unfolding alternating
 split_pairs true zero fields values more others pair some s = absurd (omega arith)
 split_pairs false zero fields values more others pair some s = absurd (omega arith)
@@ -77,7 +78,8 @@ at_true true n fields values i e f v inside =
 at_true false n fields values i e f v inside = let never : ⊥ = cc in absurd never
 
 -- and of one with its own
-pub at_false : (same : Bool) (n : ℕ) (fields values : Texts) (i : ℕ) → same ≡ false → fields_long same n ≤ length fields → values_long same n ≤ length values → i < length (pairs_at same n fields values)
+pub at_false : (same : Bool) (n : ℕ) (fields values : Texts) (i : ℕ) → same ≡ false → fields_long same n ≤ length fields → values_long same n ≤ length values
+    → i < length (pairs_at same n fields values)
     → (pair_at (pairs_at same n fields values) i ≡ (get_or fields (2 * i) [], get_or fields (2 * i + 1) [])) × (2 * i + 1 < length fields)
 at_false true n fields values i e f v inside = let never : ⊥ = cc in absurd never
 at_false false n fields values i e f v inside =

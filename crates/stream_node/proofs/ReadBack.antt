@@ -71,9 +71,11 @@ reads_pairs false master list pairs rest b =
 pub reads_entry : (key : Id) (master list : Texts) (e : Stored) (rest : Texts) → IsEntry key master list e rest → (entry_at key master list ≡ e) × (behind_entry master list ≡ rest)
 reads_entry key master list e rest is =
     let s = is.start in
-    let flag : count (Rattle.stream_node.specs.Entries.element list 0) ≡ flags e.deleted is.same = ap (λ (x : Texts). count (Rattle.stream_node.specs.Entries.element x 0)) s.elements ∙ count_back (flags e.deleted is.same) (few_flags e.deleted is.same) in
+    let flag : count (Rattle.stream_node.specs.Entries.element list 0) ≡ flags e.deleted is.same = ap (λ (x : Texts). count (Rattle.stream_node.specs.Entries.element x 0)) s.elements
+    ∙ count_back (flags e.deleted is.same) (few_flags e.deleted is.same) in
     let ms : integer (Rattle.stream_node.specs.Entries.element list 1) ≡ s.ms = ap (λ (x : Texts). integer (Rattle.stream_node.specs.Entries.element x 1)) s.elements ∙ integer_back s.ms s.ms_fits in
-    let seq : integer (Rattle.stream_node.specs.Entries.element list 2) ≡ s.seq = ap (λ (x : Texts). integer (Rattle.stream_node.specs.Entries.element x 2)) s.elements ∙ integer_back s.seq s.seq_fits in
+    let seq : integer (Rattle.stream_node.specs.Entries.element list 2) ≡ s.seq = ap (λ (x : Texts). integer (Rattle.stream_node.specs.Entries.element x 2)) s.elements
+    ∙ integer_back s.seq s.seq_fits in
     let same : has_same (count (Rattle.stream_node.specs.Entries.element list 0)) ≡ is.same = ap has_same flag ∙ same_back e.deleted is.same in
     let back : drop 3 list ≡ is.behind = ap (drop 3) s.elements in
     let pairs = reads_pairs is.same master is.behind e.pairs rest is.pairs in (

@@ -48,7 +48,8 @@ number_short n =
     let b = low_bytes_are 0xF2 3 (low_bytes w64 3 n) in
     let c = low_bytes_are 0xF3 4 (low_bytes w64 4 n) in
     let d = low_bytes_are 0xF4 8 (low_bytes w64 8 n) in
-    by_tests (is_small n) (has_bits 12 n) (has_bits 15 n) (has_bits 23 n) (has_bits 31 n) (magnitude n ∷ []) ((0xC0 + thirteen_low n / 256) ∷ thirteen_low n % 256 ∷ []) (0xF1 ∷ little_bytes 2 (low_bytes w64 2 n)) (0xF2 ∷ little_bytes 3 (low_bytes w64 3 n)) (0xF3 ∷ little_bytes 4 (low_bytes w64 4 n)) (0xF4 ∷ little_bytes 8 (low_bytes w64 8 n))
+    by_tests (is_small n) (has_bits 12 n) (has_bits 15 n) (has_bits 23 n) (has_bits 31 n) (magnitude n ∷ []) ((0xC0 + thirteen_low n / 256) ∷ thirteen_low n % 256 ∷ [])
+    (0xF1 ∷ little_bytes 2 (low_bytes w64 2 n)) (0xF2 ∷ little_bytes 3 (low_bytes w64 3 n)) (0xF3 ∷ little_bytes 4 (low_bytes w64 4 n)) (0xF4 ∷ little_bytes 8 (low_bytes w64 8 n))
     (omega arith) (omega arith) (omega (arith, a)) (omega (arith, b)) (omega (arith, c)) (omega (arith, d))
   where
     by_tests : (p q r s t : Bool) (u v w x y z : List ℕ) → length u ≤ 9 → length v ≤ 9 → length w ≤ 9 → length x ≤ 9 → length y ≤ 9 → length z ≤ 9
@@ -76,7 +77,9 @@ entry_most text =
     let whole = length-append s (back_length (length s)) in
     elim (number_cases text) [
       | inl none ↦ omega (arith, whole, back_short (length s), ap length (spelling_as text None none), head_short (length text), length-append (text_head (length text)) text)
-      | inr some ↦ (let same = ap length (spelling_as text (Some some.0) some.1) in let few : length s ≤ 9 = omega (arith, same, number_short some.0) in omega (arith, whole, back_one_byte (length s) few))
+      | inr some ↦
+          (let same = ap length (spelling_as text (Some some.0) some.1) in let few : length s ≤ 9 = omega (arith, same, number_short some.0) in
+          omega (arith, whole, back_one_byte (length s) few))
     ]
 
 -- as an entry of a listpack, a number below 2^64 takes at most 34 bytes

@@ -35,7 +35,8 @@ one_read key master list n e rest some is =
     ap (λ (k : ℕ). entries_from key master k list) same ∙ reads_first key master list (n - 1) e rest is
 
 -- the entry that a walk with some left begins with
-walk_first : (key : Id) (master list : Texts) (before : Option Id) (es : List Stored) → Begins key master before list es [] → 0 < length es → (e : Stored) × (rest : Texts) × IsEntry key master list e rest
+walk_first : (key : Id) (master list : Texts) (before : Option Id) (es : List Stored) → Begins key master before list es [] → 0 < length es → (e : Stored) × (rest : Texts)
+    × IsEntry key master list e rest
 unfolding Begins
 walk_first key master list before [] b some = absurd (omega arith)
 walk_first key master list before (e ∷ es) b some = (e, b.0, b.1)
@@ -48,7 +49,8 @@ no_fault key head left rest some faults.Count f w = f
 no_fault key head left rest some faults.Order f w = f.5 tt
 
 -- what is left behind an entry
-begins_behind : (key : Id) (master list : Texts) (before : Option Id) (es : List Stored) (e : Stored) (rest : Texts) → Begins key master before list es [] → 0 < length es → IsEntry key master list e rest
+begins_behind : (key : Id) (master list : Texts) (before : Option Id) (es : List Stored) (e : Stored) (rest : Texts) → Begins key master before list es [] → 0 < length es
+    → IsEntry key master list e rest
     → (more : List Stored) × Begins key master (Some e.id) rest more [] × (length es ≡ suc (length more))
 unfolding Begins
 begins_behind key master list before [] e rest b some is = absurd (omega arith)
@@ -56,13 +58,15 @@ begins_behind key master list before (d ∷ es) e rest b some is =
     let one = one_entry key master list d e b.0 rest b.1 is in
     (es, subst (λ (x : Stored). Begins key master (Some x.id) rest es []) one.0 (subst (λ (x : Texts). Begins key master (Some d.id) x es []) one.1 b.3), refl)
 
-pub walk_on : (key : Id) (head : Head) (left : ℕ) (rest behind : Rest) (e : Stored) → 0 < left → IsEntry key (master_of head) (rest_of rest) e (rest_of behind) → IsWalk key head left rest → IsWalk key head (left - 1) behind
+pub walk_on : (key : Id) (head : Head) (left : ℕ) (rest behind : Rest) (e : Stored) → 0 < left → IsEntry key (master_of head) (rest_of rest) e (rest_of behind) → IsWalk key head left rest
+    → IsWalk key head (left - 1) behind
 walk_on key head left rest behind e some is w =
     let more = begins_behind key (master_of head) (rest_of rest) w.before w.entries e (rest_of behind) w.begins (omega (arith, some, w.count)) is in
     record { before = Some e.id; entries = more.0; begins = more.1; count = omega (arith, w.count, more.2) }
 
 -- the walk over all entries of a node, behind the head that was read
-pub node_walk : (key : Id) (list : Texts) (head : Head) (first : Rest) (es : List Stored) → Node key list es → IsHead list head.live head.deleted (master_of head) (rest_of first) → IsWalk key head (head.live + head.deleted) first
+pub node_walk : (key : Id) (list : Texts) (head : Head) (first : Rest) (es : List Stored) → Node key list es → IsHead list head.live head.deleted (master_of head) (rest_of first)
+    → IsWalk key head (head.live + head.deleted) first
 node_walk key list head first es n h =
     let same = one_head list n.live n.deleted head.live head.deleted n.master n.behind (master_of head) (rest_of first) n.head h in
     let here = subst (λ (x : Texts). Begins key x None n.behind es []) same.master_same n.all_entries in

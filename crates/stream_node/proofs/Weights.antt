@@ -89,7 +89,8 @@ flags_small true false = omega arith
 flags_small false true = omega arith
 flags_small false false = omega arith
 
-pub mark_weight : (key : Id) (pack : List ℕ) (index : ℕ) → IsPack pack → AllByRecursion IsWritten (spellings_of pack) → CanMark key (texts pack) index → length (entries_of key (texts pack)) ≤ 100 → length pack < 2 ^ 32
+pub mark_weight : (key : Id) (pack : List ℕ) (index : ℕ) → IsPack pack → AllByRecursion IsWritten (spellings_of pack) → CanMark key (texts pack) index
+    → length (entries_of key (texts pack)) ≤ 100 → length pack < 2 ^ 32
     → pack_len (marked_spellings pack index) ≡ length pack
 mark_weight key pack index p w can few short =
     let list = texts pack in
@@ -104,9 +105,12 @@ mark_weight key pack index p w can few short =
     ap (λ k. count (element list k)) at ∙ ap (λ (l : Texts). count (element l (suc (suc (length f.second))))) whole
     ∙ ap count (element_at (number n.live ∷ number n.deleted ∷ f.second) f.tail (number (flags false f.same))) ∙ count_back (flags false f.same) (few_flags false f.same) in
     let all = length-pack pack p in
-    let same : length (entries (exchanged ss (suc (suc (length f.second))) (spelling (less_live list)) (spelling (more_deleted list)) (spelling (marked_flags list (flags_at list index))))) ≡ length (entries ss) =
-    weights ss n.live n.deleted (flags false f.same) (length f.second) (count (element list 0) - 1) (count (element list 1) + 1) (count (element list (flags_at list index)) + 1) f.second f.tail w (omega (arith, all, short)) whole refl
-    (omega (arith, few, n.count)) (omega (arith, few, n.count)) (omega (arith, flags_small false f.same)) (omega (arith, live, few, n.count)) (omega (arith, deleted, few, n.count)) (omega (arith, flag, flags_small false f.same)) in
+    let same : length (entries (exchanged ss (suc (suc (length f.second))) (spelling (less_live list)) (spelling (more_deleted list)) (spelling (marked_flags list (flags_at list index)))))
+    ≡ length (entries ss) =
+    weights ss n.live n.deleted (flags false f.same) (length f.second) (count (element list 0) - 1) (count (element list 1) + 1) (count (element list (flags_at list index)) + 1) f.second
+    f.tail w (omega (arith, all, short)) whole refl
+    (omega (arith, few, n.count)) (omega (arith, few, n.count)) (omega (arith, flags_small false f.same)) (omega (arith, live, few, n.count)) (omega (arith, deleted, few, n.count))
+    (omega (arith, flag, flags_small false f.same)) in
     ap (λ k. pack_len (exchanged ss k (spelling (less_live list)) (spelling (more_deleted list)) (spelling (marked_flags list (flags_at list index))))) at ∙ ap (λ n. 7 + n) same ∙ sym all
 
 -- the writer's spellings stay the writer's

@@ -84,7 +84,8 @@ fn put_marks(pack: &mut Vec<u8>, marks: &Marks) -> Result<(), Memory>
     requires packed { IsPack pack.old.items }
     requires behind_two { 2 ≤ marks.now.at }
     requires inside { marks.now.at < length (texts pack.old.items) }
-    requires room { pack_len (exchanged (spellings_of pack.old.items) marks.now.at (spelling (number marks.now.live)) (spelling (number marks.now.deleted)) (spelling (number marks.now.flags))) < 2 ^ 32 }
+    requires room { pack_len (exchanged (spellings_of pack.old.items) marks.now.at (spelling (number marks.now.live)) (spelling (number marks.now.deleted)) (spelling (number marks.now.flags))) < 2 ^
+        32 }
     ensures { OnOk result (Exchanges pack.old.items pack.new.items marks.now.at (number marks.now.live) (number marks.now.deleted) (number marks.now.flags)) }
 {
     remove(pack, marks.at);

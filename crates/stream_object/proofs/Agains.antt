@@ -59,7 +59,8 @@ module _ (id : Id) (fits : IsId id) where
   range_one es h = ap (take 1) (filter_same (is_between id id) (has_id (pair_of id)) es (tests es h)) ∙ first_found (has_id (pair_of id)) es
 
 -- the last of one
-pub popped : (items new : List Owned) (r : Option Owned) (o : Option StreamEntry) → items ≡ new ++ option_to_list r → (0 < length items → is_some r ≡ true) → map taken items ≡ option_to_list o → option_map taken r ≡ o
+pub popped : (items new : List Owned) (r : Option Owned) (o : Option StreamEntry) → items ≡ new ++ option_to_list r → (0 < length items → is_some r ≡ true)
+    → map taken items ≡ option_to_list o → option_map taken r ≡ o
 popped items new None None is some has = refl
 popped items new None (Some e) is some has =
     let one : 0 < length items = omega (arith, ap length has, length-map items taken) in
@@ -84,7 +85,8 @@ changed_twice groups name f h = by (fin.get groups name) refl
     by : (o : Option Group) → fin.get groups name ≡ o → changed (changed_from groups name f o) name h ≡ changed_from groups name (λ group. h (f group)) o
     by None is = ap (changed_from groups name h) is
     by (Some group) is =
-        ap (changed_from (fin.insert groups name (f group)) name h) (fin.get-insert name_total groups name (f group) name ∙ cond-true _ _ _ (ap is_eq (tied_itself name_total name))) ∙ insert_twice groups name (f group) (h (f group))
+        ap (changed_from (fin.insert groups name (f group)) name h) (fin.get-insert name_total groups name (f group) name ∙ cond-true _ _ _ (ap is_eq (tied_itself name_total name)))
+        ∙ insert_twice groups name (f group) (h (f group))
 
 pub unchanged : (groups : Groups) (name : List ℕ) → groups ≡ changed groups name (λ group. group)
 unchanged groups name = by (fin.get groups name) refl
@@ -98,14 +100,16 @@ pub none_once : (groups : Groups) (name : List ℕ) (moment : ℕ) (id : Pair) (
 none_once groups name moment id None is = unchanged groups name
 none_once groups name moment id (Some x) is = cc
 
-pub some_once : (groups now : Groups) (name : List ℕ) (moment : ℕ) (id : Pair) (pairs : Option Owned) → is_some pairs ≡ true → now ≡ changed groups name (with_again id moment) → now ≡ changed groups name (once_more moment id (option_map taken pairs))
+pub some_once : (groups now : Groups) (name : List ℕ) (moment : ℕ) (id : Pair) (pairs : Option Owned) → is_some pairs ≡ true → now ≡ changed groups name (with_again id moment)
+    → now ≡ changed groups name (once_more moment id (option_map taken pairs))
 some_once groups now name moment id None is h = cc
 some_once groups now name moment id (Some x) is h = h
 
 pub map_more : {X Y : Type 0} (f : X → Y) (xs : List X) (i : ℕ) (x : X) → i < length xs → x ≡ get_or xs i x → map f (take (i + 1) xs) ≡ map f (take i xs) ++ f x ∷ []
 map_more f xs i x inside is = ap (map f) (take_more xs i x inside) ∙ map-append f (take i xs) (get_or xs i x ∷ []) ∙ ap (λ y. map f (take i xs) ++ f y ∷ []) (sym is)
 
-again-append : (moment : ℕ) (ts : List (Pair × Option StreamEntry)) (t : Pair × Option StreamEntry) (group : Group) → all_again moment (ts ++ t ∷ []) group ≡ once_more moment t.0 t.1 (all_again moment ts group)
+again-append : (moment : ℕ) (ts : List (Pair × Option StreamEntry)) (t : Pair × Option StreamEntry) (group : Group)
+    → all_again moment (ts ++ t ∷ []) group ≡ once_more moment t.0 t.1 (all_again moment ts group)
 again-append moment [] t group = refl
 again-append moment (s ∷ ts) t group = again-append moment ts t (once_more moment s.0 s.1 group)
 
@@ -141,19 +145,22 @@ module _ (es : List StreamEntry) (consumer : List ℕ) (above : Pair) (limit mom
           ap (λ ts. fin.insert groups name (all_again moment ts (with_consumer consumer group))) (has ∙ ap (with_entries es) same)
 
 -- nothing changes where there is no such group
-pub none_again : (groups : Groups) (name consumer : List ℕ) (above : Pair) (limit : ℕ) (change : Group → Group) → None ≡ option_map (λ g. ids_of g.pending consumer above limit) (fin.get groups name) → groups ≡ changed groups name change
+pub none_again : (groups : Groups) (name consumer : List ℕ) (above : Pair) (limit : ℕ) (change : Group → Group)
+    → None ≡ option_map (λ g. ids_of g.pending consumer above limit) (fin.get groups name) → groups ≡ changed groups name change
 none_again groups name consumer above limit change h = by (fin.get groups name) h
   where
     by : (group : Option Group) → None ≡ option_map (λ g. ids_of g.pending consumer above limit) group → groups ≡ changed_from groups name change group
     by None h = refl
     by (Some group) h = cc
 
-pub none_waiting : (es : List StreamEntry) (consumer : List ℕ) (above : Pair) (limit : ℕ) (group : Option Group) → None ≡ option_map (λ g. ids_of g.pending consumer above limit) group → None ≡ option_map (waiting es consumer above limit) group
+pub none_waiting : (es : List StreamEntry) (consumer : List ℕ) (above : Pair) (limit : ℕ) (group : Option Group) → None ≡ option_map (λ g. ids_of g.pending consumer above limit) group
+    → None ≡ option_map (waiting es consumer above limit) group
 none_waiting es consumer above limit None h = refl
 none_waiting es consumer above limit (Some group) h = cc
 
 -- one id more with its entry
-pub entries_more : (es : List StreamEntry) (ids : List Pair) (i : ℕ) (id : Pair) (found now : List Again) (a : Again) → map told found ≡ with_entries es (take i ids) → now ≡ found ++ a ∷ [] → pair_of a.id ≡ id → option_map taken a.pairs ≡ find (has_id (pair_of a.id)) es
+pub entries_more : (es : List StreamEntry) (ids : List Pair) (i : ℕ) (id : Pair) (found now : List Again) (a : Again) → map told found ≡ with_entries es (take i ids) → now ≡ found ++ a
+    ∷ [] → pair_of a.id ≡ id → option_map taken a.pairs ≡ find (has_id (pair_of a.id)) es
     → i < length ids → id ≡ get_or ids i id → map told now ≡ with_entries es (take (i + 1) ids)
 entries_more es ids i id found now a has more same is inside at =
     ap (map told) more ∙ map-append told found (a ∷ [])

@@ -193,7 +193,8 @@ some_pairs : (same : Bool) (master list : Texts) (pairs : List Pair) (rest : Tex
 some_pairs true master list pairs rest is some = omega (arith, some, ap length is.fields, length-map pairs (λ (p : Pair). p.0))
 some_pairs false master list pairs rest is some = is.fields.0
 
-all_some : (key : Id) (master list : Texts) (before : Option Id) (es : List Stored) (rest : Texts) → Begins key master before list es rest → 0 < length master → AllByRecursion (λ e. 0 < length e.pairs) es
+all_some : (key : Id) (master list : Texts) (before : Option Id) (es : List Stored) (rest : Texts) → Begins key master before list es rest → 0 < length master
+    → AllByRecursion (λ e. 0 < length e.pairs) es
 unfolding Begins
 all_some key master list before [] rest b some = tt
 all_some key master list before (e ∷ es) rest b some =
@@ -214,11 +215,13 @@ pack_shortest : (pack : List ℕ) → IsPack pack → Bytes pack → 7 + written
 pack_shortest pack p all =
     omega (arith, length-pack pack p, written_shortest (spellings_of pack) p.each (subst Bytes p.all_entries (region_bytes pack all)))
 
-lifted : (limit size : ℕ) (es : List Stored) → AllByRecursion (λ e. IsId e.id) es → AllByRecursion (λ e. 6 + cost e.pairs ≤ limit) es → 13 + limit ≤ size → AllByRecursion (λ e. alone_len e.id e.pairs ≤ size) es
+lifted : (limit size : ℕ) (es : List Stored) → AllByRecursion (λ e. IsId e.id) es → AllByRecursion (λ e. 6 + cost e.pairs ≤ limit) es → 13 + limit ≤ size
+    → AllByRecursion (λ e. alone_len e.id e.pairs ≤ size) es
 lifted limit size [] ids few fits = tt
 lifted limit size (e ∷ es) ids few fits = (omega (arith, few.0, fits, alone_is e.id e.pairs ids.0), lifted limit size es ids.1 few.1 fits)
 
-pub alone_short : (key : Id) (pack : List ℕ) → IsPack pack → Bytes pack → IsNode key (texts pack) → length pack ≤ 536870000 → AllByRecursion (λ e. alone_len e.id e.pairs ≤ length pack) (entries_of key (texts pack))
+pub alone_short : (key : Id) (pack : List ℕ) → IsPack pack → Bytes pack → IsNode key (texts pack) → length pack ≤ 536870000
+    → AllByRecursion (λ e. alone_len e.id e.pairs ≤ length pack) (entries_of key (texts pack))
 alone_short key pack p all n short =
     let list = texts pack in
     let live = number n.live in

@@ -82,7 +82,8 @@ module _ (a b : Blocks) (s : Log) (same : (r : BlockRef) → IsIn r (refs a s) �
         named = tree_same.entries_are ∙ h.named;
         each = each;
         rising = h.rising;
-        owned = subst (λ rs. Owned (rs ++ refs_of ps) b) (sym tree_same.refs_are) (still_owned a b (rax.refs_of a s.tree ++ refs_of ps) (λ r isin. same r (omega (arith, isin, ap (times r) all))) h.owned);
+        owned = subst (λ rs. Owned (rs ++ refs_of ps) b) (sym tree_same.refs_are)
+            (still_owned a b (rax.refs_of a s.tree ++ refs_of ps) (λ r isin. same r (omega (arith, isin, ap (times r) all))) h.owned);
       } in
       record {
         parts = its_own b s.tree ps now;

@@ -96,15 +96,26 @@ module _ (m : Blocks) (s : Log) (is : IsStream m s) (at : Id) (p : Part) (n : Is
   pub behind_here : filter (is_behind at) (nodes m s) ≡ n.before
   behind_here =
       ap (filter (is_behind at)) n.place ∙ filter-append (is_behind at) n.before (p ∷ n.after)
-      ∙ (λ i. behind_all at n.before n.passes i ++ filter_none (is_behind at) (p ∷ n.after) (behind_no at p n.reaches, all-weaker (λ (q : Part). id_number p.key < id_number q.key) (λ q. is_behind at q ≡ false) n.after (λ q more. behind_no at q (omega (arith, more, n.reaches))) (keys_after m n.before n.after p all_parts rising)) i)
+      ∙
+      (λ i. behind_all at n.before n.passes i ++ filter_none (is_behind at) (p ∷ n.after) (
+        behind_no at p n.reaches,
+        all-weaker (λ (q : Part). id_number p.key < id_number q.key) (λ q. is_behind at q ≡ false) n.after
+            (λ q more. behind_no at q (omega (arith, more, n.reaches))) (keys_after m n.before n.after p all_parts rising),
+      ) i)
       ∙ append-nil n.before
 
   pub behind_next : (next : Id) → id_number next ≡ id_number p.key + 1 → filter (is_behind next) (nodes m s) ≡ n.before ++ p ∷ []
   behind_next next follows =
       ap (filter (is_behind next)) n.place ∙ filter-append (is_behind next) n.before (p ∷ n.after)
-      ∙ (λ i. filter_all (is_behind next) n.before (all-weaker (λ (q : Part). id_number q.key < id_number p.key) (λ q. is_behind next q ≡ true) n.before (λ q less. behind_yes next q (omega (arith, less, follows))) (keys_before m n.before n.after p all_parts rising)) i ++ filter (is_behind next) (p ∷ n.after))
+      ∙
+      (λ i. filter_all (is_behind next) n.before
+      (all-weaker (λ (q : Part). id_number q.key < id_number p.key) (λ q. is_behind next q ≡ true) n.before (λ q less. behind_yes next q (omega (arith, less, follows)))
+      (keys_before m n.before n.after p all_parts rising)) i ++ filter (is_behind next) (p ∷ n.after))
       ∙ ap (λ qs. n.before ++ qs) (cond-true (is_behind next p) (p ∷ filter (is_behind next) n.after) (filter (is_behind next) n.after) (behind_yes next p (omega (arith, follows)))
-      ∙ ap (λ qs. p ∷ qs) (filter_none (is_behind next) n.after (all-weaker (λ (q : Part). id_number p.key < id_number q.key) (λ q. is_behind next q ≡ false) n.after (λ q more. behind_no next q (omega (arith, more, follows))) (keys_after m n.before n.after p all_parts rising))))
+      ∙ ap (λ qs. p ∷ qs)
+      (filter_none (is_behind next) n.after
+      (all-weaker (λ (q : Part). id_number p.key < id_number q.key) (λ q. is_behind next q ≡ false) n.after (λ q more. behind_no next q (omega (arith, more, follows)))
+      (keys_after m n.before n.after p all_parts rising))))
 
   -- the greatest key is that of the last node
   pub last_place : id_number p.key + 1 ≡ 2 ^ 128 → nodes m s ≡ n.before ++ p ∷ []
@@ -134,7 +145,8 @@ module _ (m mid : Blocks) (s : Log) (is : IsStream m s) (old new : PackedTree) (
   nodes_still = parts_same m mid s kept
 
   -- one more is copied
-  module _ (at : Id) (p : Part) (n : IsNear true (nodes m s) at p) (same : AreSame (filter (is_behind at) (nodes m s)) qs) (after : Blocks) (now : PackedTree) (key : Id) (bytes : List ℕ) (is_key : key ≡ p.key) (is_bytes : bytes ≡ p.bytes) (here : parts_of mid new ≡ qs) (block : BlockRef) (comes : Comes mid after new now key bytes block) where
+  module _ (at : Id) (p : Part) (n : IsNear true (nodes m s) at p) (same : AreSame (filter (is_behind at) (nodes m s)) qs) (after : Blocks) (now : PackedTree) (key : Id) (bytes : List ℕ)
+      (is_key : key ≡ p.key) (is_bytes : bytes ≡ p.bytes) (here : parts_of mid new ≡ qs) (block : BlockRef) (comes : Comes mid after new now key bytes block) where
     before_same : AreSame n.before qs
     before_same = subst (λ ps. AreSame ps qs) (behind_here m s is at p n) same
 
@@ -161,7 +173,8 @@ module _ (m mid : Blocks) (s : Log) (is : IsStream m s) (old new : PackedTree) (
         (same_push n.before qs p (part key block bytes) before_same is_key is_bytes)
 
 -- the copy as a whole
-module _ (m after : Blocks) (s copy : Log) (is : IsStream m s) (old : PackedTree) (none : all_refs m old ≡ []) (x : Exchanges m after old copy.tree (parts_of after copy.tree)) (same : AreSame (nodes m s) (parts_of after copy.tree)) (len : copy.len ≡ s.len) (last : copy.last ≡ s.last) (tail : copy.tail ≡ None) where
+module _ (m after : Blocks) (s copy : Log) (is : IsStream m s) (old : PackedTree) (none : all_refs m old ≡ []) (x : Exchanges m after old copy.tree (parts_of after copy.tree))
+    (same : AreSame (nodes m s) (parts_of after copy.tree)) (len : copy.len ≡ s.len) (last : copy.last ≡ s.last) (tail : copy.tail ≡ None) where
   pub copy_stream : IsStream after copy
   copy_stream = record {
     parts = x.parts;

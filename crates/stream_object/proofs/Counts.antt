@@ -72,7 +72,8 @@ passed_yes from (Some key) k low high = passed_here from (number key) k low (hig
 abbrev blocks_passed : ℕ → Option (List ℕ) → List Cost → ℕ
 blocks_passed from next cs = sum_by (λ (c : Cost). cond (is_passed from (next_mark next) (mark c)) c.blocks 0) cs
 
-blocks_cons : (from : ℕ) (next : Option (List ℕ)) (c : Cost) (cs : List Cost) → blocks_passed from next (c ∷ cs) ≡ cond (is_passed from (next_mark next) (mark c)) c.blocks 0 + blocks_passed from next cs
+blocks_cons : (from : ℕ) (next : Option (List ℕ)) (c : Cost) (cs : List Cost)
+    → blocks_passed from next (c ∷ cs) ≡ cond (is_passed from (next_mark next) (mark c)) c.blocks 0 + blocks_passed from next cs
 blocks_cons from next c cs = sum_by-cons (λ (c : Cost). cond (is_passed from (next_mark next) (mark c)) c.blocks 0) c cs
 
 blocks_none : (from : ℕ) (key : List ℕ) (cs : List Cost) → AllByRecursion (λ c. number key ≤ mark c) cs → blocks_passed from (Some key) cs ≡ 0
@@ -108,7 +109,8 @@ module _ (from : ℕ) (key : List ℕ) where
       record { all = omega (arith, counts.all, out, blocks_cons from end.next c cs); on = counts.on }
 
   -- a key is passed
-  takes : (low left : ℕ) (c : Cost) (cs : List Cost) (end : Going) → low ≤ mark c → from ≤ mark c → 18 ≤ left → c.blocks ≤ 18 → Counts from (suc (mark c)) (left - c.blocks) cs end → Counts from low left (c ∷ cs) end
+  takes : (low left : ℕ) (c : Cost) (cs : List Cost) (end : Going) → low ≤ mark c → from ≤ mark c → 18 ≤ left → c.blocks ≤ 18 → Counts from (suc (mark c)) (left - c.blocks) cs end
+      → Counts from low left (c ∷ cs) end
   takes low left c cs end upto reaches room few counts =
       let above : (k : List ℕ) → end.next ≡ Some k → mark c < number k = λ k is. omega (arith, (counts.on k is).0) in
       let here : cond (is_passed from (next_mark end.next) (mark c)) c.blocks 0 ≡ c.blocks = cond-true _ _ _ (passed_yes from end.next (mark c) reaches above) in
@@ -120,19 +122,26 @@ module _ (from : ℕ) (key : List ℕ) where
   -- a pass ends before a key
   ends : (low left : ℕ) (c : Cost) (cs : List Cost) → low ≤ mark c → left < 18 → AllByRecursion (λ d. mark c < mark d) cs → Counts from low left (c ∷ cs) (record { left = left; next = Some c.key })
   ends low left c cs upto full rises =
-      let none : blocks_passed from (Some c.key) (c ∷ cs) ≡ 0 = blocks_none from c.key (c ∷ cs) (omega arith, all-weaker (λ d. mark c < mark d) (λ d. mark c ≤ mark d) cs (λ d less. omega arith) rises) in
+      let none : blocks_passed from (Some c.key) (c ∷ cs) ≡ 0 = blocks_none from c.key (c ∷ cs)
+      (omega arith, all-weaker (λ d. mark c < mark d) (λ d. mark c ≤ mark d) cs (λ d less. omega arith) rises) in
       record { all = omega (arith, none); on = λ k is. (let same : c.key ≡ k = cc in (subst (λ j. low ≤ number j) same upto, full, λ some. absurd (omega arith))) }
 
   counts_all : (low left : ℕ) (cs : List Cost) → AllByRecursion (IsKnown from key) cs → AllByRecursion (λ c. low ≤ mark c) cs → Rise cs → Counts from low left cs (goes left cs)
   counts_all low left [] known upto rise = record { all = omega arith; on = λ k is. absurd (cc) }
   counts_all low left (c ∷ cs) known upto rise = elim (cases_lt (mark c) from) [
-    | inl less ↦ (let same : costs_from (c ∷ cs) key ≡ costs_from cs key = cond-false _ (c ∷ costs_from cs key) (costs_from cs key) (ap (λ o. not (is_lt o)) known.0.0 ∙ less_test (mark c) from less) in
-        subst (λ xs. Counts from low left (c ∷ cs) (pass_over (record { left = left; next = None }) xs)) (sym same) (skips low left c cs (goes left cs) less (counts_all low left cs known.1 upto.1 rise.1)))
-    | inr reaches ↦ (let same : costs_from (c ∷ cs) key ≡ c ∷ costs_from cs key = cond-true _ (c ∷ costs_from cs key) (costs_from cs key) (ap (λ o. not (is_lt o)) known.0.0 ∙ upto_test from (mark c) reaches) in
+    | inl less ↦
+        (let same : costs_from (c ∷ cs) key ≡ costs_from cs key = cond-false _ (c ∷ costs_from cs key) (costs_from cs key)
+        (ap (λ o. not (is_lt o)) known.0.0 ∙ less_test (mark c) from less) in
+        subst (λ xs. Counts from low left (c ∷ cs) (pass_over (record { left = left; next = None }) xs)) (sym same)
+        (skips low left c cs (goes left cs) less (counts_all low left cs known.1 upto.1 rise.1)))
+    | inr reaches ↦
+        (let same : costs_from (c ∷ cs) key ≡ c ∷ costs_from cs key =
+        cond-true _ (c ∷ costs_from cs key) (costs_from cs key) (ap (λ o. not (is_lt o)) known.0.0 ∙ upto_test from (mark c) reaches) in
         subst (λ xs. Counts from low left (c ∷ cs) (pass_over (record { left = left; next = None }) xs)) (sym same)
         (elim (cases_lt left 18) [
           | inl full ↦ (let stop : counted left None c ≡ record { left = left; next = Some c.key } = cond-true _ _ _ (lt-ltb left 18 full) in
-              subst (Counts from low left (c ∷ cs)) (sym (ap (λ p. pass_over p (costs_from cs key)) stop ∙ pass_ended (record { left = left; next = Some c.key }) (costs_from cs key) refl)) (ends low left c cs upto.0 full rise.0))
+              subst (Counts from low left (c ∷ cs)) (sym (ap (λ p. pass_over p (costs_from cs key)) stop ∙ pass_ended (record { left = left; next = Some c.key }) (costs_from cs key) refl))
+              (ends low left c cs upto.0 full rise.0))
           | inr room ↦ (let go : counted left None c ≡ record { left = left - c.blocks; next = None } = cond-false _ _ _ (le-ltb left 18 room) in
               subst (Counts from low left (c ∷ cs)) (sym (ap (λ p. pass_over p (costs_from cs key)) go))
               (takes low left c cs (goes (left - c.blocks) cs) upto.0 reaches room known.0.1 (counts_all (suc (mark c)) (left - c.blocks) cs known.1 rise.0 rise.1)))
@@ -152,8 +161,11 @@ Up (n ∷ ns) = AllByRecursion (λ k. n < k) ns × Up ns
 
 parts_up : (m : Blocks) (ps : List Part) → AllByRecursion (IsPart m) ps → Rising ps → Up (map (λ (p : Part). id_number p.key) ps)
 parts_up m [] each rising = tt
-parts_up m (p ∷ ps) each rising =
-    (all_map (λ k. id_number p.key < k) (λ (q : Part). id_number q.key) ps (all-weaker (EndsBefore p) (λ q. id_number p.key < id_number q.key) ps (λ q ends. keys_rise m p q each.0 ends) rising.0), parts_up m ps each.1 rising.1)
+parts_up m (p ∷ ps) each rising = (
+  all_map (λ k. id_number p.key < k) (λ (q : Part). id_number q.key) ps
+      (all-weaker (EndsBefore p) (λ q. id_number p.key < id_number q.key) ps (λ q ends. keys_rise m p q each.0 ends) rising.0),
+  parts_up m ps each.1 rising.1,
+)
 
 all_told : {X : Type 0} (Q : ℕ → Type 0) (f : X → ℕ) (xs : List X) → AllByRecursion Q (map f xs) → AllByRecursion (λ x. Q (f x)) xs
 all_told Q f [] all = tt
@@ -180,7 +192,10 @@ module _ (m : Blocks) (tree : PackedTree) (h : HasParts m tree (parts_of m tree)
   unfolding number
   rises =
       up_rise (costs_of m tree) (
-      subst Up (sym (map_both (λ (c : Cost). c.key) (costs_of m tree) ∙ ap (map number) keys ∙ sym (map_both (λ (e : Entry). e.key) (rax.entries_of m tree)) ∙ ap (map entry_mark) h.named ∙ part_marks m (parts_of m tree) h.each))
+      subst Up
+      (sym
+      (map_both (λ (c : Cost). c.key) (costs_of m tree) ∙ ap (map number) keys ∙ sym (map_both (λ (e : Entry). e.key) (rax.entries_of m tree)) ∙ ap (map entry_mark) h.named
+      ∙ part_marks m (parts_of m tree) h.each))
       (parts_up m (parts_of m tree) h.each h.rising)
       )
 
@@ -189,7 +204,8 @@ module _ (m : Blocks) (tree : PackedTree) (h : HasParts m tree (parts_of m tree)
   unfolding number
   known at is =
       let stands : List ℕ → Type 0 = λ k. order k (id_key at) ≡ nat_cmp (number k) (id_number at) in
-      let each = all-weaker (IsPart m) (λ (p : Part). stands (id_key p.key)) (parts_of m tree) (λ p part. id_laws.bytes p.key at part.id is ∙ ap (λ n. nat_cmp n (id_number at)) (sym (ap id_number (id_laws.back p.key part.id)))) h.each in
+      let each = all-weaker (IsPart m) (λ (p : Part). stands (id_key p.key)) (parts_of m tree)
+      (λ p part. id_laws.bytes p.key at part.id is ∙ ap (λ n. nat_cmp n (id_number at)) (sym (ap id_number (id_laws.back p.key part.id)))) h.each in
       let entries = subst (AllByRecursion (λ (e : Entry). stands e.key)) (sym h.named) (all_map (λ (e : Entry). stands e.key) entry_of (parts_of m tree) each) in
       all_both (λ (c : Cost). stands c.key) (λ (c : Cost). c.blocks ≤ 18) (IsKnown (id_number at) (id_key at)) (costs_of m tree) (λ c order few. (order, few))
       (by_names (λ (e : Entry). e.key) (λ (c : Cost). c.key) stands (rax.entries_of m tree) (costs_of m tree) (sym keys) entries) (packed_laws_hold.few m tree h.stands)
@@ -212,7 +228,8 @@ module _ (m : Blocks) (tree : PackedTree) (h : HasParts m tree (parts_of m tree)
     all = counts_all (id_number at) (id_key at) 0 room (costs_of m tree) (known at is) (all_upto (costs_of m tree)) rises
 
     -- what the pass answers is bounded
-    pub bounded : (answer : Passed) (moved : Moved) → answer ≡ passed room (costs_from (costs_of m tree) (id_key at)) → moved.used ≡ answer.used → moved.next ≡ next_mark answer.next → IsBounded (tree_marks m tree) (id_number at) room moved
+    pub bounded : (answer : Passed) (moved : Moved) → answer ≡ passed room (costs_from (costs_of m tree) (id_key at)) → moved.used ≡ answer.used → moved.next ≡ next_mark answer.next
+        → IsBounded (tree_marks m tree) (id_number at) room moved
     bounded answer moved made used next =
         let last = pass_over (begun room) (costs_from (costs_of m tree) (id_key at)) in
         let left : moved.used ≡ room - last.left = used ∙ ap (λ (a : Passed). a.used) made in
@@ -221,7 +238,8 @@ module _ (m : Blocks) (tree : PackedTree) (h : HasParts m tree (parts_of m tree)
         record {
           used = left ∙ sum ∙ marks_passed (id_number at) last.next ∙ ap (λ o. count_by (is_passed (id_number at) o) (tree_marks m tree)) (sym goes);
           within = omega (arith, left);
-          on = subst (λ o. IfSome o (λ n. (id_number at < n) × (room ≤ moved.used + 17))) (sym goes) (by_next last.next (λ k told. (let stops = all.on k told in (stops.2 (omega arith), omega (arith, left, stops.1)))));
+          on = subst (λ o. IfSome o (λ n. (id_number at < n) × (room ≤ moved.used + 17))) (sym goes)
+              (by_next last.next (λ k told. (let stops = all.on k told in (stops.2 (omega arith), omega (arith, left, stops.1)))));
         }
       where
         by_next : (o : Option (List ℕ)) → ((k : List ℕ) → o ≡ Some k → (id_number at < number k) × (room ≤ moved.used + 17)) → IfSome (next_mark o) (λ n. (id_number at < n) × (room ≤ moved.used + 17))

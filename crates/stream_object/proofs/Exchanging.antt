@@ -37,7 +37,8 @@ tree_stays a b tree xs ys own c = packed_laws_hold.others a b tree xs ys own c
 pub was_live : (m mid : Blocks) (tree : PackedTree) (old others : List BlockRef) (was : BlockRef) → Changes m mid old (was ∷ (rax.refs_of mid tree ++ others)) → IsSome (mid was)
 was_live m mid tree old others was c = live-is mid was (omega (arith, Changes-owned m mid old (was ∷ (rax.refs_of mid tree ++ others)) c was, counts_itself was))
 
-module _ (m mid after : Blocks) (tree : PackedTree) (old others : List BlockRef) (was : BlockRef) (c : Changes m mid old (was ∷ (rax.refs_of mid tree ++ others))) (is : after ≡ with_block mid was None) where
+module _ (m mid after : Blocks) (tree : PackedTree) (old others : List BlockRef) (was : BlockRef) (c : Changes m mid old (was ∷ (rax.refs_of mid tree ++ others)))
+    (is : after ≡ with_block mid was None) where
   own_mid : Owned (was ∷ (rax.refs_of mid tree ++ others)) mid
   own_mid = Changes-owned m mid old (was ∷ (rax.refs_of mid tree ++ others)) c
 
@@ -59,20 +60,24 @@ module _ (m mid after : Blocks) (tree : PackedTree) (old others : List BlockRef)
   pub ended_changes : Changes m after old (rax.refs_of after tree ++ others)
   ended_changes =
       let last : Changes mid after (was ∷ (rax.refs_of mid tree ++ others)) (rax.refs_of mid tree ++ others) =
-      Changes-beside mid after (was ∷ []) [] (was ∷ (rax.refs_of mid tree ++ others)) (rax.refs_of mid tree ++ others) only own_mid (λ r. times r (rax.refs_of mid tree ++ others)) (λ r. omega arith) (λ r. omega arith) in
+      Changes-beside mid after (was ∷ []) [] (was ∷ (rax.refs_of mid tree ++ others)) (rax.refs_of mid tree ++ others) only own_mid (λ r. times r (rax.refs_of mid tree ++ others))
+      (λ r. omega arith) (λ r. omega arith) in
       subst (λ rs. Changes m after old (rs ++ others)) (sym still.refs_are) (Changes-then m mid after old (was ∷ (rax.refs_of mid tree ++ others)) (rax.refs_of mid tree ++ others) c last)
 
 -- the tree changes beside some others' blocks
-pub beside_tree : (a b : Blocks) (old new : PackedTree) (xs : List BlockRef) → Owned (rax.refs_of a old ++ xs) a → Changes a b (rax.refs_of a old) (rax.refs_of b new) → Changes a b (rax.refs_of a old ++ xs) (rax.refs_of b new ++ xs)
+pub beside_tree : (a b : Blocks) (old new : PackedTree) (xs : List BlockRef) → Owned (rax.refs_of a old ++ xs) a → Changes a b (rax.refs_of a old) (rax.refs_of b new)
+    → Changes a b (rax.refs_of a old ++ xs) (rax.refs_of b new ++ xs)
 beside_tree a b old new xs own c =
-    Changes-beside a b (rax.refs_of a old) (rax.refs_of b new) (rax.refs_of a old ++ xs) (rax.refs_of b new ++ xs) c own (λ r. times r xs) (λ r. times-append r (rax.refs_of a old) xs) (λ r. times-append r (rax.refs_of b new) xs)
+    Changes-beside a b (rax.refs_of a old) (rax.refs_of b new) (rax.refs_of a old ++ xs) (rax.refs_of b new ++ xs) c own (λ r. times r xs) (λ r. times-append r (rax.refs_of a old) xs)
+    (λ r. times-append r (rax.refs_of b new) xs)
 
 -- the same references in another order
 reordered : (a b : Blocks) (xs ys us vs : List BlockRef) → Owned xs a → Changes a b xs ys → ((r : BlockRef) → times r us ≡ times r xs) → ((r : BlockRef) → times r vs ≡ times r ys) → Changes a b us vs
 reordered a b xs ys us vs own c old new = Changes-beside a b xs ys us vs c (λ r. omega (arith, own r, old r)) (λ r. 0) (λ r. omega (arith, old r)) (λ r. omega (arith, new r))
 
 -- a block is placed beside the tree
-module _ (m mid : Blocks) (tree : PackedTree) (xs : List BlockRef) (at : BlockRef) (bytes : List ℕ) (own : Owned (rax.refs_of m tree ++ xs) m) (sound : rax.IsSound m tree) (is : mid ≡ with_block m at (Some bytes)) (c : Changes m mid [] (at ∷ [])) where
+module _ (m mid : Blocks) (tree : PackedTree) (xs : List BlockRef) (at : BlockRef) (bytes : List ℕ) (own : Owned (rax.refs_of m tree ++ xs) m) (sound : rax.IsSound m tree)
+    (is : mid ≡ with_block m at (Some bytes)) (c : Changes m mid [] (at ∷ [])) where
   before_tree : Stays m mid tree
   before_tree = tree_stays m mid tree [] (at ∷ []) (λ r. omega (arith, sound.owned r, times-append r (rax.refs_of m tree) [])) c
 
@@ -92,7 +97,8 @@ module _ (m mid : Blocks) (tree : PackedTree) (xs : List BlockRef) (at : BlockRe
       (λ r. omega (arith, times-append r (rax.refs_of m tree) (at ∷ xs), times-append r (rax.refs_of m tree) xs)))
 
 -- a node comes behind all others
-module _ (m mid after : Blocks) (old new : PackedTree) (ps : List Part) (key : Id) (at : BlockRef) (bytes : List ℕ) (h : HasParts m old ps) (id : IsId key) (is : IsPut m mid at bytes) (c : Changes m mid [] (at ∷ [])) where
+module _ (m mid after : Blocks) (old new : PackedTree) (ps : List Part) (key : Id) (at : BlockRef) (bytes : List ℕ) (h : HasParts m old ps) (id : IsId key) (is : IsPut m mid at bytes)
+    (c : Changes m mid [] (at ∷ [])) where
   abbrev block : List ℕ
   block = bytes ++ is.spare
 
@@ -111,7 +117,8 @@ module _ (m mid after : Blocks) (old new : PackedTree) (ps : List Part) (key : I
       let own = Changes-owned m mid (rax.refs_of m old ++ []) (rax.refs_of mid old ++ (at ∷ [])) first in
       let second = beside_tree mid after old new (at ∷ []) own changes in
       let core = Changes-then m mid after (rax.refs_of m old ++ []) (rax.refs_of mid old ++ (at ∷ [])) (rax.refs_of after new ++ (at ∷ [])) first second in
-      let there : after at ≡ Some block = outside mid after (rax.refs_of mid old) (rax.refs_of after new) (at ∷ []) own changes at (omega (arith, counts_itself at)) ∙ placed_block m mid old [] at block own_tree h.stands is.put c in
+      let there : after at ≡ Some block = outside mid after (rax.refs_of mid old) (rax.refs_of after new) (at ∷ []) own changes at (omega (arith, counts_itself at))
+      ∙ placed_block m mid old [] at block own_tree h.stands is.put c in
       let held : Holds after at bytes = record { block = block; there = there; begins = pack_front bytes is.spare is_node.pack } in
       let before : HasParts m old (ps ++ ([] ++ [])) = subst (HasParts m old) (sym (append-nil ps)) h in
       let named = inserted ∙ ap (λ es. with_entry es (id_key key) at) (placed_entries m mid old [] at block own_tree h.stands is.put c ∙ h.named) ∙ with_last m ps key at bytes id h.each rising in
@@ -154,10 +161,12 @@ module _ (m : Blocks) (old : PackedTree) (ps : List Part) (key : Id) (was : Bloc
       )
 
   -- it goes
-  module _ (mid after : Blocks) (new : PackedTree) (sound : rax.IsSound mid new) (removed : rax.entries_of mid new ≡ without (rax.entries_of m old) (id_key key)) (c : Changes m mid (rax.refs_of m old) (rax.refs_of mid new)) where
+  module _ (mid after : Blocks) (new : PackedTree) (sound : rax.IsSound mid new) (removed : rax.entries_of mid new ≡ without (rax.entries_of m old) (id_key key))
+      (c : Changes m mid (rax.refs_of m old) (rax.refs_of mid new)) where
     leaves : Changes m mid (rax.refs_of m old ++ (was ∷ [])) (was ∷ (rax.refs_of mid new ++ []))
     leaves =
-        reordered m mid (rax.refs_of m old ++ (was ∷ [])) (rax.refs_of mid new ++ (was ∷ [])) (rax.refs_of m old ++ (was ∷ [])) (was ∷ (rax.refs_of mid new ++ [])) own_was (beside_tree m mid old new (was ∷ []) own_was c) (λ r. refl)
+        reordered m mid (rax.refs_of m old ++ (was ∷ [])) (rax.refs_of mid new ++ (was ∷ [])) (rax.refs_of m old ++ (was ∷ [])) (was ∷ (rax.refs_of mid new ++ [])) own_was
+        (beside_tree m mid old new (was ∷ []) own_was c) (λ r. refl)
         (λ r. omega (arith, times-append r (rax.refs_of mid new) [], times-append r (rax.refs_of mid new) (was ∷ [])))
 
     pub goes_live : IsSome (mid was)
@@ -167,7 +176,8 @@ module _ (m : Blocks) (old : PackedTree) (ps : List Part) (key : Id) (was : Bloc
     goes is =
         exchanged m after old new s.before (part key was s.bytes ∷ []) [] s.after parts (ended_changes m mid after new (rax.refs_of m old ++ (was ∷ [])) [] was leaves is)
         (ended_tree m mid after new (rax.refs_of m old ++ (was ∷ [])) [] was leaves is sound)
-        (ended_entries m mid after new (rax.refs_of m old ++ (was ∷ [])) [] was leaves is ∙ removed ∙ ap (λ es. without es (id_key key)) parts.named ∙ without_there m s.before s.after (part key was s.bytes) back.0 front back.1 parts.rising)
+        (ended_entries m mid after new (rax.refs_of m old ++ (was ∷ [])) [] was leaves is ∙ removed ∙ ap (λ es. without es (id_key key)) parts.named
+        ∙ without_there m s.before s.after (part key was s.bytes) back.0 front back.1 parts.rising)
         tt (rising_without s.before s.after (part key was s.bytes) parts.rising)
 
   -- it gets other bytes
@@ -184,14 +194,16 @@ module _ (m : Blocks) (old : PackedTree) (ps : List Part) (key : Id) (was : Bloc
     placing : Changes m mid (rax.refs_of m old ++ (was ∷ [])) (rax.refs_of mid old ++ (at ∷ (was ∷ [])))
     placing = placed_changes m mid old (was ∷ []) at whole own_was h.stands is.put c
 
-    module _ (sound : rax.IsSound later new) (set : rax.entries_of later new ≡ with_entry (rax.entries_of mid old) (id_key key) at) (change : Changes mid later (rax.refs_of mid old) (rax.refs_of later new)) where
+    module _ (sound : rax.IsSound later new) (set : rax.entries_of later new ≡ with_entry (rax.entries_of mid old) (id_key key) at)
+        (change : Changes mid later (rax.refs_of mid old) (rax.refs_of later new)) where
       own_placed : Owned (rax.refs_of mid old ++ (at ∷ (was ∷ []))) mid
       own_placed = Changes-owned m mid (rax.refs_of m old ++ (was ∷ [])) (rax.refs_of mid old ++ (at ∷ (was ∷ []))) placing
 
       setting : Changes m later (rax.refs_of m old ++ (was ∷ [])) (was ∷ (rax.refs_of later new ++ (at ∷ [])))
       setting =
           reordered m later (rax.refs_of m old ++ (was ∷ [])) (rax.refs_of later new ++ (at ∷ (was ∷ []))) (rax.refs_of m old ++ (was ∷ [])) (was ∷ (rax.refs_of later new ++ (at ∷ []))) own_was
-          (Changes-then m mid later (rax.refs_of m old ++ (was ∷ [])) (rax.refs_of mid old ++ (at ∷ (was ∷ []))) (rax.refs_of later new ++ (at ∷ (was ∷ []))) placing (beside_tree mid later old new (at ∷ (was ∷ [])) own_placed change))
+          (Changes-then m mid later (rax.refs_of m old ++ (was ∷ [])) (rax.refs_of mid old ++ (at ∷ (was ∷ []))) (rax.refs_of later new ++ (at ∷ (was ∷ []))) placing
+          (beside_tree mid later old new (at ∷ (was ∷ [])) own_placed change))
           (λ r. refl) (λ r. omega (arith, times-append r (rax.refs_of later new) (at ∷ []), times-append r (rax.refs_of later new) (at ∷ (was ∷ []))))
 
       pub set_live : IsSome (later was)
@@ -205,7 +217,8 @@ module _ (m : Blocks) (old : PackedTree) (ps : List Part) (key : Id) (was : Bloc
           ∙ outside mid later (rax.refs_of mid old) (rax.refs_of later new) (at ∷ (was ∷ [])) own_placed change at (omega (arith, counts_itself at))
           ∙ placed_block m mid old (was ∷ []) at whole own_was h.stands is.put c in
           let held : Holds after at bytes = record { block = whole; there = there; begins = pack_front bytes is.spare is_node.pack } in
-          exchanged m after old new s.before (part key was s.bytes ∷ []) (part key at bytes ∷ []) s.after parts (ended_changes m later after new (rax.refs_of m old ++ (was ∷ [])) (at ∷ []) was setting gone)
+          exchanged m after old new s.before (part key was s.bytes ∷ []) (part key at bytes ∷ []) s.after parts
+          (ended_changes m later after new (rax.refs_of m old ++ (was ∷ [])) (at ∷ []) was setting gone)
           (ended_tree m later after new (rax.refs_of m old ++ (was ∷ [])) (at ∷ []) was setting gone sound)
           (ended_entries m later after new (rax.refs_of m old ++ (was ∷ [])) (at ∷ []) was setting gone ∙ set
           ∙ ap (λ es. with_entry es (id_key key) at) (placed_entries m mid old (was ∷ []) at whole own_was h.stands is.put c ∙ parts.named)
@@ -230,10 +243,12 @@ module _ (m : Blocks) (old : PackedTree) (ps : List Part) (key : Id) (was : Bloc
     over : Changes m after (rax.refs_of m old ++ (was ∷ [])) (rax.refs_of after old ++ (was ∷ []))
     over =
         subst (λ rs. Changes m after (rax.refs_of m old ++ (was ∷ [])) (rs ++ (was ∷ []))) (sym settled.refs_are)
-        (Changes-beside m after (was ∷ []) (was ∷ []) (rax.refs_of m old ++ (was ∷ [])) (rax.refs_of m old ++ (was ∷ [])) written own_was (λ r. times r (rax.refs_of m old)) (λ r. omega (arith, times-append r (rax.refs_of m old) (was ∷ []))) (λ r. omega (arith, times-append r (rax.refs_of m old) (was ∷ []))))
+        (Changes-beside m after (was ∷ []) (was ∷ []) (rax.refs_of m old ++ (was ∷ [])) (rax.refs_of m old ++ (was ∷ [])) written own_was (λ r. times r (rax.refs_of m old))
+        (λ r. omega (arith, times-append r (rax.refs_of m old) (was ∷ []))) (λ r. omega (arith, times-append r (rax.refs_of m old) (was ∷ []))))
 
     pub rewritten : IsNodeOf key bytes → Rising (s.before ++ part key was bytes ∷ s.after) → Exchanges m after old old (s.before ++ part key was bytes ∷ s.after)
     rewritten is_node rising =
         let there : after was ≡ Some (bytes ++ is.spare) = ap (λ (b : Blocks). b was) is.put ∙ with_block-same m was (Some (bytes ++ is.spare)) in
         let held : Holds after was bytes = record { block = bytes ++ is.spare; there = there; begins = pack_front bytes is.spare is_node.pack } in
-        exchanged m after old old s.before (part key was s.bytes ∷ []) (part key was bytes ∷ []) s.after parts over (settled.sound h.stands) named (record { id = stands_id; block = held; is_node = is_node }, tt) rising
+        exchanged m after old old s.before (part key was s.bytes ∷ []) (part key was bytes ∷ []) s.after parts over (settled.sound h.stands) named
+        (record { id = stands_id; block = held; is_node = is_node }, tt) rising

@@ -49,7 +49,8 @@ below_upto id [] h = tt
 below_upto id (p ∷ ps) h = (all-weaker (λ (e : Stored). id_number e.id < id_number id) (λ e. id_number e.id ≤ id_number id) (stored_in p) (λ e less. omega arith) h.0, below_upto id ps h.1)
 
 module _ (m after : Blocks) (old new : PackedTree) (id : Id) (pairs : List Pair) (bytes : List ℕ) where
-  pub comes_grows : (at : BlockRef) → HasParts m old (parts_of m old) → AreBelow id (parts_of m old) → IsGrown id [] bytes id pairs → Comes m after old new id bytes at → Grows m after old new id pairs (record { key = id; at = at })
+  pub comes_grows : (at : BlockRef) → HasParts m old (parts_of m old) → AreBelow id (parts_of m old) → IsGrown id [] bytes id pairs → Comes m after old new id bytes at
+      → Grows m after old new id pairs (record { key = id; at = at })
   comes_grows at h below g comes =
       let ps = parts_of m old in
       let q = part id at bytes in
@@ -64,7 +65,8 @@ module _ (m after : Blocks) (old new : PackedTree) (id : Id) (pairs : List Pair)
         ends = (bytes, record { before = ps; place = refl });
       }
 
-  pub becomes_grows : (key : Id) (at new_at : BlockRef) (was : List ℕ) (before : List Part) → HasParts m old (parts_of m old) → AreBelow id (parts_of m old) → parts_of m old ≡ before ++ part key at was ∷ []
+  pub becomes_grows : (key : Id) (at new_at : BlockRef) (was : List ℕ) (before : List Part) → HasParts m old (parts_of m old) → AreBelow id (parts_of m old) → parts_of m old ≡ before
+      ++ part key at was ∷ []
       → IsGrown key (entries_of key (texts was)) bytes id pairs → Becomes m after old new key at bytes new_at → Grows m after old new id pairs (record { key = key; at = new_at })
   becomes_grows key at new_at was before h below place g becomes =
       let s : Stands (parts_of m old) key at = record { before = before; after = []; bytes = was; place = place } in
@@ -73,7 +75,8 @@ module _ (m after : Blocks) (old new : PackedTree) (id : Id) (pairs : List Pair)
       let under = subst (AreBelow id) place below in
       let q = part key new_at bytes in
       let now = becomes s g.is_node (rising_again before [] p q refl tt rising) in
-      let more : live_in q ≡ live_in p ++ plain (put id pairs) ∷ [] = ap live_of g.entries_are ∙ live-append (stored_in p) (put id pairs ∷ []) ∙ ap (λ xs. live_in p ++ xs) (live-one (put id pairs) refl) in
+      let more : live_in q ≡ live_in p ++ plain (put id pairs) ∷ [] = ap live_of g.entries_are ∙ live-append (stored_in p) (put id pairs ∷ [])
+      ∙ ap (λ xs. live_in p ++ xs) (live-one (put id pairs) refl) in
       let front = all-front (λ (x : Part). AllByRecursion (λ e. id_number e.id < id_number id) (stored_in x)) before (p ∷ []) under in
       let back = all-back (λ (x : Part). AllByRecursion (λ e. id_number e.id < id_number id) (stored_in x)) before (p ∷ []) under in
       record {
@@ -84,7 +87,8 @@ module _ (m after : Blocks) (old new : PackedTree) (id : Id) (pairs : List Pair)
             ∙ ap (λ xs. xs ++ plain (put id pairs) ∷ []) (sym (ap entries_in place ∙ entries-append before (p ∷ []) ∙ ap (λ xs. entries_in before ++ xs) (append-nil (live_in p))));
         upto = all-append (λ (x : Part). AllByRecursion (λ e. id_number e.id ≤ id_number id) (stored_in x)) before (q ∷ []) (below_upto id before front) (
           subst (AllByRecursion (λ e. id_number e.id ≤ id_number id)) (sym g.entries_are)
-              (all-append (λ e. id_number e.id ≤ id_number id) (stored_in p) (put id pairs ∷ []) (all-weaker (λ (e : Stored). id_number e.id < id_number id) (λ e. id_number e.id ≤ id_number id) (stored_in p) (λ e less. omega arith) back.0) (omega arith, tt)),
+              (all-append (λ e. id_number e.id ≤ id_number id) (stored_in p) (put id pairs ∷ [])
+              (all-weaker (λ (e : Stored). id_number e.id < id_number id) (λ e. id_number e.id ≤ id_number id) (stored_in p) (λ e less. omega arith) back.0) (omega arith, tt)),
           tt,
         );
         ends = (bytes, record { before = before; place = refl });
@@ -95,7 +99,8 @@ none_beyond : (m : Blocks) (top : Id) → top.ms ≡ 2 ^ 64 - 1 → top.seq ≡ 
 none_beyond m top a b [] each miss = refl
 none_beyond m top a b (p ∷ ps) each miss = absurd (omega (arith, a, b, miss.0, each.0.id.ms, each.0.id.seq))
 
-pub last_place : (m : Blocks) (tree : PackedTree) (top : Id) (p : Part) → top.ms ≡ 2 ^ 64 - 1 → top.seq ≡ 2 ^ 64 - 1 → HasParts m tree (parts_of m tree) → (n : IsNear false (parts_of m tree) top p) → parts_of m tree ≡ n.before ++ p ∷ []
+pub last_place : (m : Blocks) (tree : PackedTree) (top : Id) (p : Part) → top.ms ≡ 2 ^ 64 - 1 → top.seq ≡ 2 ^ 64 - 1 → HasParts m tree (parts_of m tree)
+    → (n : IsNear false (parts_of m tree) top p) → parts_of m tree ≡ n.before ++ p ∷ []
 last_place m tree top p a b h n =
     let each = subst (AllByRecursion (IsPart m)) n.place h.each in
     let after = none_beyond m top a b n.after (all-back (IsPart m) n.before (p ∷ n.after) each).1 n.passes in
@@ -110,7 +115,8 @@ near_below id ps before after p below place =
     (all-back (λ (x : Part). AllByRecursion (λ e. id_number e.id < id_number id) (stored_in x)) before (p ∷ after) (subst (AreBelow id) place below)).0
 
 -- the stream of such nodes
-module _ (m after : Blocks) (old new : Log) (id : Id) (pairs : List Pair) (tail : Tail) (is : IsStream m old) (fits : IsId id) (g : Grows m after old.tree new.tree id pairs tail) (len : new.len ≡ old.len + 1) (last : new.last ≡ id) (ends : new.tail ≡ Some tail) where
+module _ (m after : Blocks) (old new : Log) (id : Id) (pairs : List Pair) (tail : Tail) (is : IsStream m old) (fits : IsId id) (g : Grows m after old.tree new.tree id pairs tail)
+    (len : new.len ≡ old.len + 1) (last : new.last ≡ id) (ends : new.tail ≡ Some tail) where
   now : nodes after new ≡ g.parts
   now = parts_are after new.tree g.parts g.exchanges.parts
 
@@ -134,7 +140,8 @@ module _ (m after : Blocks) (old new : Log) (id : Id) (pairs : List Pair) (tail 
   }
 
 -- the same stream, counted as one more that was added
-pub counted_added : (m after : Blocks) (old mid new : Log) (id : Id) (pairs : List Pair) → IsChanged m after old mid (appended (stream_of m old) id pairs) → mid.added ≡ old.added → new.tree ≡ mid.tree → new.len ≡ mid.len → new.last ≡ mid.last → new.deleted ≡ mid.deleted → new.groups ≡ mid.groups → new.tail ≡ mid.tail
+pub counted_added : (m after : Blocks) (old mid new : Log) (id : Id) (pairs : List Pair) → IsChanged m after old mid (appended (stream_of m old) id pairs) → mid.added ≡ old.added
+    → new.tree ≡ mid.tree → new.len ≡ mid.len → new.last ≡ mid.last → new.deleted ≡ mid.deleted → new.groups ≡ mid.groups → new.tail ≡ mid.tail
     → new.added ≡ (old.added + 1) % 2 ^ 64 → IsChanged m after old new (added (stream_of m old) id pairs)
 counted_added m after old mid new id pairs c same tree len last deleted groups tail more =
     let v = c.value_is in
@@ -159,7 +166,8 @@ counted_added m after old mid new id pairs c same tree len last deleted groups t
 -- the last id is not below those of the entries, so an id above it is above them all
 pub all_below : (last id : Id) → id_number last < id_number id → (ps : List Part) → AreUpto last ps → AreBelow id ps
 all_below last id less [] h = tt
-all_below last id less (p ∷ ps) h = (all-weaker (λ (e : Stored). id_number e.id ≤ id_number last) (λ e. id_number e.id < id_number id) (stored_in p) (λ e upto. omega (arith, less)) h.0, all_below last id less ps h.1)
+all_below last id less (p ∷ ps) h =
+    (all-weaker (λ (e : Stored). id_number e.id ≤ id_number last) (λ e. id_number e.id < id_number id) (stored_in p) (λ e upto. omega (arith, less)) h.0, all_below last id less ps h.1)
 
 -- an entry that may be added is short enough alone
 told : (pairs : List Pair) → sum_by pair_bytes pairs ≡ sum_by (λ (p : Pair). length p.0 + length p.1) pairs + 20 * length pairs

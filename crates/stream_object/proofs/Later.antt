@@ -81,7 +81,8 @@ module _ (s : Stream) (consumer : List ℕ) (limit moment : ℕ) (last : ℕ × 
       ap (λ is. changed_from groups name (delivered consumer is moment) (Some group))
       (is ∙ ap (map (λ (e : StreamEntry). e.id)) (has ∙ ap (λ l. take limit (filter (is_later l) s.entries)) same))
 
-  pub handed_is : (groups : Groups) (name : List ℕ) (ids : List (ℕ × ℕ)) → ids ≡ map (λ (o : Owned). pair_of o.id) given → Some last ≡ last_of (get groups name) → changed groups name (delivered consumer ids moment) ≡ changed groups name (handed s consumer limit moment)
+  pub handed_is : (groups : Groups) (name : List ℕ) (ids : List (ℕ × ℕ)) → ids ≡ map (λ (o : Owned). pair_of o.id) given → Some last ≡ last_of (get groups name)
+      → changed groups name (delivered consumer ids moment) ≡ changed groups name (handed s consumer limit moment)
   handed_is groups name ids is h = changes_from groups name ids (get groups name) (is ∙ ids_taken given) h
 
 -- nothing changes where there is no such group

@@ -60,7 +60,8 @@ flags_small : (same : Bool) → flags false same < 4
 flags_small true = omega arith
 flags_small false = omega arith
 
-pub mark_lighter : (key : Id) (pack : List ℕ) (index : ℕ) → IsPack pack → CanMark key (texts pack) index → length (entries_of key (texts pack)) ≤ 100 → length pack < 2 ^ 32 → pack_len (marked_spellings pack index) ≤ length pack
+pub mark_lighter : (key : Id) (pack : List ℕ) (index : ℕ) → IsPack pack → CanMark key (texts pack) index → length (entries_of key (texts pack)) ≤ 100 → length pack < 2 ^ 32
+    → pack_len (marked_spellings pack index) ≤ length pack
 mark_lighter key pack index p can few short =
     let list = texts pack in
     let ss = spellings_of pack in
@@ -84,4 +85,11 @@ mark_lighter key pack index p can few short =
     let h = all_heavy ss p.each in
     let i = set_heavy ss 0 (spelling (number a)) one h in
     let j = set_heavy first 1 (spelling (number b)) two i in
-    omega (arith, length-pack pack p, set_lighter ss 0 (spelling (number a)) one h, set_lighter first 1 (spelling (number b)) two i, set_lighter second (flags_at list index) (spelling (number c)) three j)
+    omega (
+      arith,
+      length-pack pack p,
+      set_lighter ss 0 (spelling (number a)) one h,
+      set_lighter first 1 (spelling (number b)) two i,
+      set_lighter second (flags_at list index)
+          (spelling (number c)) three j,
+    )

@@ -52,7 +52,8 @@ loaded_none m s is = record {
   changes = subst (λ rs. Changes m m rs rs) (sym (refs_are m s.tree (nodes m s) is.parts)) (Changes-same m _ is.parts.owned);
 }
 
-pub loaded_then : (a b c : Blocks) (old mid new : Log) (es : List Stored) (e : Stored) → IsChanged a b old mid (loaded (stream_of a old) es) → IsChanged b c mid new (loaded (stream_of b mid) (e ∷ [])) → IsChanged a c old new (loaded (stream_of a old) (es ++ e ∷ []))
+pub loaded_then : (a b c : Blocks) (old mid new : Log) (es : List Stored) (e : Stored) → IsChanged a b old mid (loaded (stream_of a old) es)
+    → IsChanged b c mid new (loaded (stream_of b mid) (e ∷ [])) → IsChanged a c old new (loaded (stream_of a old) (es ++ e ∷ []))
 loaded_then a b c old mid new es e x y = record {
   is_stream = y.is_stream;
   value_is = y.value_is ∙ ap (λ s. loaded s (e ∷ [])) x.value_is ∙ loaded_more (stream_of a old) es e;
@@ -60,7 +61,8 @@ loaded_then a b c old mid new es e x y = record {
 }
 
 -- an entry that is marked deleted
-pub marked_loaded : (m : Blocks) (old new : Log) (e : Stored) → IsStream m old → IsId e.id → AreBelow e.id (nodes m old) → e.deleted ≡ true → new ≡ record old { last = e.id } → IsChanged m m old new (loaded (stream_of m old) (e ∷ []))
+pub marked_loaded : (m : Blocks) (old new : Log) (e : Stored) → IsStream m old → IsId e.id → AreBelow e.id (nodes m old) → e.deleted ≡ true → new ≡ record old { last = e.id }
+    → IsChanged m m old new (loaded (stream_of m old) (e ∷ []))
 marked_loaded m old new e is fits below gone now =
     subst (λ s. IsChanged m m old s (loaded (stream_of m old) (e ∷ []))) (sym now) (record {
       is_stream = record { parts = is.parts; counted = is.counted; fits = fits; upto = upto (nodes m old) below; kept = is.kept };
@@ -76,7 +78,8 @@ marked_loaded m old new e is fits below gone now =
     upto (p ∷ ps) h = (all-weaker (λ (x : Stored). id_number x.id < id_number e.id) (λ x. id_number x.id ≤ id_number e.id) (stored_in p) (λ x less. omega (arith, less)) h.0, upto ps h.1)
 
 -- an entry that is live
-pub live_loaded : (m after : Blocks) (old new : Log) (e : Stored) (id : Id) (pairs : List Pair) → e.deleted ≡ false → id ≡ e.id → pairs ≡ e.pairs → IsChanged m after old new (appended (stream_of m old) id pairs) → IsChanged m after old new (loaded (stream_of m old) (e ∷ []))
+pub live_loaded : (m after : Blocks) (old new : Log) (e : Stored) (id : Id) (pairs : List Pair) → e.deleted ≡ false → id ≡ e.id → pairs ≡ e.pairs
+    → IsChanged m after old new (appended (stream_of m old) id pairs) → IsChanged m after old new (loaded (stream_of m old) (e ∷ []))
 live_loaded m after old new e id pairs live same are c =
     let one : plain (put id pairs) ∷ [] ≡ live_of (e ∷ []) = (λ i. plain (put (same i) (are i)) ∷ []) ∙ sym (live-one e live) in
     record {
@@ -99,7 +102,8 @@ above_more m s id is last (e ∷ es) h = (all_below s.last e.id (omega (arith, h
 pub behind_one : (P : Stored → Type 0) (xs : List Entry) (x : Entry) (left rest all : List Stored) → map stored xs ++ left ≡ all → left ≡ stored x ∷ rest → AllByRecursion P all → P (stored x)
 behind_one P xs x left rest all is next each = (all-back P (map stored xs) (stored x ∷ rest) (subst (AllByRecursion P) (sym is ∙ ap (λ ys. map stored xs ++ ys) next) each)).0
 
-pub behind_above : (xs : List Entry) (x : Entry) (left rest all : List Stored) → map stored xs ++ left ≡ all → left ≡ stored x ∷ rest → Sorted all → AllByRecursion (λ e. id_number (stored x).id < id_number e.id) rest
+pub behind_above : (xs : List Entry) (x : Entry) (left rest all : List Stored) → map stored xs ++ left ≡ all → left ≡ stored x ∷ rest → Sorted all
+    → AllByRecursion (λ e. id_number (stored x).id < id_number e.id) rest
 behind_above xs x left rest all is next sorted = (sorted_split (map stored xs) rest (stored x) (subst Sorted (sym is ∙ ap (λ ys. map stored xs ++ ys) next) sorted)).1
 
 -- those that were put in are the first of them
@@ -115,17 +119,20 @@ below_then a b c (inr x) (inl y) = inl (omega (arith, x.0, y))
 below_then a b c (inr x) (inr y) = inr (x.0 ∙ y.0, omega (arith, x.1, y.1))
 
 -- ids that rise from one on are above what it is above
-rise_above : (key : Id) (master list : List (List ℕ)) (last id : Id) (es : List Stored) (rest : List (List ℕ)) → Begins key master (Some id) list es rest → IsBelow last id → AllByRecursion (λ e. IsBelow last e.id) es
+rise_above : (key : Id) (master list : List (List ℕ)) (last id : Id) (es : List Stored) (rest : List (List ℕ)) → Begins key master (Some id) list es rest → IsBelow last id
+    → AllByRecursion (λ e. IsBelow last e.id) es
 unfolding Begins
 rise_above key master list last id [] rest b low = tt
 rise_above key master list last id (e ∷ es) rest b low = let here = below_then last id e.id low b.2 in (here, rise_above key master b.0 last e.id es rest b.3 here)
 
-first_above : (key : Id) (master list : List (List ℕ)) (last : Id) (e : Stored) (es : List Stored) (rest : List (List ℕ)) → Begins key master None list (e ∷ es) rest → IsBelow last e.id → AllByRecursion (λ f. IsBelow last f.id) es
+first_above : (key : Id) (master list : List (List ℕ)) (last : Id) (e : Stored) (es : List Stored) (rest : List (List ℕ)) → Begins key master None list (e ∷ es) rest → IsBelow last e.id
+    → AllByRecursion (λ f. IsBelow last f.id) es
 unfolding Begins
 first_above key master list last e es rest b low = rise_above key master b.0 last e.id es rest b.3 low
 
 -- the ids of a node are above another where its first one is
-pub all_above : (key : Id) (list : List (List ℕ)) (last : Id) (e : Stored) (es : List Stored) → IsNode key list → entries_of key list ≡ e ∷ es → IsBelow last e.id ↔ AllByRecursion (λ f. IsBelow last f.id) (entries_of key list)
+pub all_above : (key : Id) (list : List (List ℕ)) (last : Id) (e : Stored) (es : List Stored) → IsNode key list → entries_of key list ≡ e ∷ es → IsBelow last e.id
+    ↔ AllByRecursion (λ f. IsBelow last f.id) (entries_of key list)
 all_above key list last e es n is =
     let P : List Stored → Type 0 = AllByRecursion (λ f. IsBelow last f.id) in
     let begins = subst (λ xs. Begins key n.master None n.behind xs []) is n.all_entries in
@@ -136,7 +143,8 @@ above_last : (m : Blocks) (s : Log) (es : List Stored) → IsStream m s → AllB
 above_last m s [] is ids low = tt
 above_last m s (e ∷ es) is ids low = (all_below s.last e.id ((id_laws.below s.last e.id is.fits ids.0).0 low.0) (nodes m s) is.upto, above_last m s es is ids.1 low.1)
 
-pub enough : (m : Blocks) (s : Log) (key : Id) (list : List (List ℕ)) → IsNode key list → AllByRecursion (λ e. IsBelow s.last e.id) (entries_of key list) → IsStream m s → AreAbove (nodes m s) (entries_of key list)
+pub enough : (m : Blocks) (s : Log) (key : Id) (list : List (List ℕ)) → IsNode key list → AllByRecursion (λ e. IsBelow s.last e.id) (entries_of key list) → IsStream m s
+    → AreAbove (nodes m s) (entries_of key list)
 enough m s key list n low is = above_last m s (entries_of key list) is (node_ids key list n) low
 
 pub none_above : (key : Id) (list : List (List ℕ)) (last : Id) → entries_of key list ≡ [] → AllByRecursion (λ e. IsBelow last e.id) (entries_of key list)
@@ -147,7 +155,8 @@ pub stopped : (a b c : Blocks) (old mid new : Log) (es : List Stored) → IsChan
 stopped a b c old mid new es h same still = subst (λ n. IsChanged a c old n (loaded (stream_of a old) es)) (sym same) (subst (λ x. IsChanged a x old mid (loaded (stream_of a old) es)) (sym still) h)
 
 -- what a test of the first id tells of all
-pub followed : (key : Id) (list : List (List ℕ)) (last : Id) (e : Stored) (es : List Stored) (id : Id) (b : Bool) → IsNode key list → entries_of key list ≡ e ∷ es → id ≡ e.id → (IsTrue b ↔ IsBelow last id) → IsTrue b ↔ AllByRecursion (λ f. IsBelow last f.id) (entries_of key list)
+pub followed : (key : Id) (list : List (List ℕ)) (last : Id) (e : Stored) (es : List Stored) (id : Id) (b : Bool) → IsNode key list → entries_of key list ≡ e ∷ es → id ≡ e.id
+    → (IsTrue b ↔ IsBelow last id) → IsTrue b ↔ AllByRecursion (λ f. IsBelow last f.id) (entries_of key list)
 followed key list last e es id b n is same test =
     let all = all_above key list last e es n is in
     (λ first. all.0 (subst (IsBelow last) same (test.0 first)), λ every. test.1 (subst (IsBelow last) (sym same) (all.1 every)))
@@ -155,4 +164,8 @@ followed key list last e es id b n is same test =
 -- what is up to an id is up to a later one
 pub upto_later : (id last : Id) (ps : List Part) → id_number last ≤ id_number id → AreUpto last ps → AreUpto id ps
 upto_later id last [] less h = tt
-upto_later id last (p ∷ ps) less h = (all-weaker (λ (e : Stored). id_number e.id ≤ id_number last) (λ e. id_number e.id ≤ id_number id) (stored_in p) (λ e upto. omega (arith, upto, less)) h.0, upto_later id last ps less h.1)
+upto_later id last (p ∷ ps) less h = (
+  all-weaker (λ (e : Stored). id_number e.id ≤ id_number last) (λ e. id_number e.id ≤ id_number id) (stored_in p) (λ e upto. omega (arith, upto, less)) h.0,
+  upto_later id last ps less
+      h.1,
+)

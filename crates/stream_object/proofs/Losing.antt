@@ -1,5 +1,6 @@
 -- An entry among the nodes that goes.
-use Rattle.std.proofs.Common.{◌≡◌, ◌≢◌, ◌∙◌, ◌⊎◌, ℕ, suc, ◌+◌, ◌<◌, ◌≤◌, ◌^◌, Bool, true, false, List, [], ◌∷◌, ◌++◌, length, map, Option, Some, None, refl, sym, ap, subst, inl, inr, arith, length-append}
+use Rattle.std.proofs.Common.{◌≡◌, ◌≢◌, ◌∙◌, ◌⊎◌, ℕ, suc, ◌+◌, ◌<◌, ◌≤◌, ◌^◌, Bool, true, false, List, [], ◌∷◌, ◌++◌, length, map, Option, Some, None, refl, sym, ap, subst, inl, inr}
+use Rattle.std.proofs.Common.{arith, length-append}
 use Rattle.std.specs.Prelude.{not, ◌||◌}
 use Rattle.std.specs.List.{AllByRecursion, filter, list_any}
 use Rattle.std.specs.Ordering.{nat_cmp, ordering_then, is_lt, is_eq}
@@ -77,7 +78,8 @@ above_more (Some b) e es fits id after all =
     let less : id_number b < id_number e.id = (id_laws.below b e.id fits id).0 after in
     (less, all-weaker (λ (f : Stored). id_number e.id < id_number f.id) (λ f. id_number b < id_number f.id) es (λ f more. omega (arith, less)) all)
 
-begins_sorted : (key : Id) (master list : List (List ℕ)) (before : Option Id) (es : List Stored) (rest : List (List ℕ)) → Begins key master before list es rest → Fits before → AllByRecursion (λ e. IsId e.id) es → Sorted es × Above before es
+begins_sorted : (key : Id) (master list : List (List ℕ)) (before : Option Id) (es : List Stored) (rest : List (List ℕ)) → Begins key master before list es rest → Fits before
+    → AllByRecursion (λ e. IsId e.id) es → Sorted es × Above before es
 unfolding Begins
 begins_sorted key master list None [] rest b fits ids = (tt, tt)
 begins_sorted key master list (Some x) [] rest b fits ids = (tt, tt)
@@ -171,14 +173,16 @@ module _ (id : Id) (fits : IsId id) where
   parts_lower m (q ∷ ps) after p each r upto =
       let ends = (all-back (EndsBefore q) ps (p ∷ after) r.0).0 in
       all-append (λ e. test e ≡ false) (live_in q) (entries_in ps)
-      (lower_other (stored_in q) (part_ids m q each.0) (all-weaker (λ (e : Stored). id_number e.id < id_number p.key) (λ e. id_number e.id < id_number id) (stored_in q) (λ e less. omega (arith, upto)) ends))
+      (lower_other (stored_in q) (part_ids m q each.0)
+      (all-weaker (λ (e : Stored). id_number e.id < id_number p.key) (λ e. id_number e.id < id_number id) (stored_in q) (λ e less. omega (arith, upto)) ends))
       (parts_lower m ps after p each.1 r.1 upto)
 
   parts_higher : (m : Blocks) (ps : List Part) → AllByRecursion (IsPart m) ps → AllByRecursion (Misses false id) ps → AreOther (entries_in ps)
   parts_higher m [] each more = tt
   parts_higher m (q ∷ ps) each more =
       all-append (λ e. test e ≡ false) (live_in q) (entries_in ps)
-      (higher_other (stored_in q) (part_ids m q each.0) (all-weaker (λ (e : Stored). id_number q.key ≤ id_number e.id) (λ e. id_number id < id_number e.id) (stored_in q) (λ e upto. omega (arith, more.0)) each.0.is_node.from))
+      (higher_other (stored_in q) (part_ids m q each.0)
+      (all-weaker (λ (e : Stored). id_number q.key ≤ id_number e.id) (λ e. id_number id < id_number e.id) (stored_in q) (λ e upto. omega (arith, more.0)) each.0.is_node.from))
       (parts_higher m ps each.1 more.1)
 
   -- the nodes around the one in which the id may stand
@@ -272,7 +276,8 @@ module _ (m after : Blocks) (old new : PackedTree) (key : Id) (at : BlockRef) (s
       }
 
   -- the node stays with an entry marked
-  pub stays_marked : (bytes : List ℕ) (new_at : BlockRef) → HasParts m old (parts_of m old) → IsNodeOf key bytes → entries_of key (texts bytes) ≡ a.before ++ record { id = e.id; deleted = true; pairs = e.pairs } ∷ a.after → Becomes m after old new key at bytes new_at
+  pub stays_marked : (bytes : List ℕ) (new_at : BlockRef) → HasParts m old (parts_of m old) → IsNodeOf key bytes → entries_of key (texts bytes) ≡ a.before
+      ++ record { id = e.id; deleted = true; pairs = e.pairs } ∷ a.after → Becomes m after old new key at bytes new_at
       → TakesOut m after old new s.before s.after (live_of (a.before ++ a.after))
   stays_marked bytes new_at h is_node now becomes =
       let gone : Stored = record { id = e.id; deleted = true; pairs = e.pairs } in
@@ -293,23 +298,28 @@ module _ (m after : Blocks) (old new : PackedTree) (key : Id) (at : BlockRef) (s
         stays = sym (append_assoc s.before (q ∷ []) s.after);
       }
     where
-      same_ids : (P : Id → Type 0) (es : List Stored) → es ≡ a.before ++ record { id = e.id; deleted = true; pairs = e.pairs } ∷ a.after → AllByRecursion (λ f. P f.id) (entries_of key (texts s.bytes)) → AllByRecursion (λ f. P f.id) es
+      same_ids : (P : Id → Type 0) (es : List Stored) → es ≡ a.before ++ record { id = e.id; deleted = true; pairs = e.pairs } ∷ a.after
+          → AllByRecursion (λ f. P f.id) (entries_of key (texts s.bytes)) → AllByRecursion (λ f. P f.id) es
       same_ids P es is all =
           let split = subst (AllByRecursion (λ (f : Stored). P f.id)) a.place all in
           let front = all-front (λ (f : Stored). P f.id) a.before (e ∷ a.after) split in
           let back = all-back (λ (f : Stored). P f.id) a.before (e ∷ a.after) split in
-          subst (AllByRecursion (λ (f : Stored). P f.id)) (sym is) (all-append (λ (f : Stored). P f.id) a.before (record { id = e.id; deleted = true; pairs = e.pairs } ∷ a.after) front (back.0, back.1))
+          subst (AllByRecursion (λ (f : Stored). P f.id)) (sym is)
+          (all-append (λ (f : Stored). P f.id) a.before (record { id = e.id; deleted = true; pairs = e.pairs } ∷ a.after) front (back.0, back.1))
 
-      ends_too : (qs : List Part) (q : Part) → stored_in q ≡ a.before ++ record { id = e.id; deleted = true; pairs = e.pairs } ∷ a.after → AllByRecursion (EndsBefore (part key at s.bytes)) qs → AllByRecursion (EndsBefore q) qs
+      ends_too : (qs : List Part) (q : Part) → stored_in q ≡ a.before ++ record { id = e.id; deleted = true; pairs = e.pairs } ∷ a.after
+          → AllByRecursion (EndsBefore (part key at s.bytes)) qs → AllByRecursion (EndsBefore q) qs
       ends_too [] q is all = tt
       ends_too (x ∷ qs) q is all = (same_ids (λ i. id_number i < id_number x.key) (stored_in q) is all.0, ends_too qs q is all.1)
 
 -- the bytes of a node that stands
-pub stands_bytes : (m : Blocks) (tree : PackedTree) (key : Id) (at : BlockRef) (s : Stands (parts_of m tree) key at) → HasParts m tree (parts_of m tree) → (bytes : List ℕ) → Holds m at bytes → bytes ≡ s.bytes
+pub stands_bytes : (m : Blocks) (tree : PackedTree) (key : Id) (at : BlockRef) (s : Stands (parts_of m tree) key at) → HasParts m tree (parts_of m tree) → (bytes : List ℕ)
+    → Holds m at bytes → bytes ≡ s.bytes
 stands_bytes m tree key at s h bytes is = holds_one m at bytes s.bytes is (stands_block m tree (parts_of m tree) key at h s)
 
 -- there is an entry
-pub some_there : (m : Blocks) (s : Log) (id : Id) (fits : IsId id) (is : IsStream m s) (p : Part) (n : IsNear false (nodes m s) id p) (index : ℕ) (e : Stored) → IsAt (stored_in p) index e → 0 < length (entries m s)
+pub some_there : (m : Blocks) (s : Log) (id : Id) (fits : IsId id) (is : IsStream m s) (p : Part) (n : IsNear false (nodes m s) id p) (index : ℕ) (e : Stored) → IsAt (stored_in p) index e
+    → 0 < length (entries m s)
 some_there m s id fits is p n index e a =
     omega (
       arith,
@@ -320,7 +330,8 @@ some_there m s id fits is p n index e a =
     )
 
 -- the stream without an entry
-module _ (m after : Blocks) (old new : Log) (id : Id) (fits : IsId id) (is : IsStream m old) (p : Part) (n : IsNear false (nodes m old) id p) (index : ℕ) (e : Stored) (a : IsAt (stored_in p) index e) (same : e.id ≡ id) (t : TakesOut m after old.tree new.tree n.before n.after (live_of (a.before ++ a.after))) where
+module _ (m after : Blocks) (old new : Log) (id : Id) (fits : IsId id) (is : IsStream m old) (p : Part) (n : IsNear false (nodes m old) id p) (index : ℕ) (e : Stored)
+    (a : IsAt (stored_in p) index e) (same : e.id ≡ id) (t : TakesOut m after old.tree new.tree n.before n.after (live_of (a.before ++ a.after))) where
   now : nodes after new ≡ t.parts
   now = parts_are after new.tree t.parts t.exchanges.parts
 
@@ -341,7 +352,8 @@ module _ (m after : Blocks) (old new : Log) (id : Id) (fits : IsId id) (is : IsS
         length-append (live_in p) (entries_in n.after),
       )
 
-  pub lost : new.len + 1 ≡ old.len → new.last ≡ old.last → (new.deleted.ms, new.deleted.seq) ≡ greater (old.deleted.ms, old.deleted.seq) (id.ms, id.seq) → new.added ≡ old.added → new.groups ≡ old.groups → IsLeft old.tail new.tail p.key → IsChanged m after old new (without (stream_of m old) id)
+  pub lost : new.len + 1 ≡ old.len → new.last ≡ old.last → (new.deleted.ms, new.deleted.seq) ≡ greater (old.deleted.ms, old.deleted.seq) (id.ms, id.seq) → new.added ≡ old.added
+      → new.groups ≡ old.groups → IsLeft old.tail new.tail p.key → IsChanged m after old new (without (stream_of m old) id)
   lost len last deleted added groups tail = record {
     is_stream = record {
       parts = its_own after new.tree t.parts t.exchanges.parts;

@@ -39,7 +39,8 @@ pub node_ids : (key : Id) (list : List (List ℕ)) → IsNode key list → AllBy
 node_ids key list n = ids_fit key n.master n.behind None (entries_of key list) [] n.all_entries
 
 -- an id above all others is above the last of them
-after_all : (id : Id) → IsId id → (es : List Stored) (before : Option Id) → AllByRecursion (λ e. IsId e.id) es → AllByRecursion (λ e. id_number e.id < id_number id) es → IsAfter before id → IsAfter (last_id before es) id
+after_all : (id : Id) → IsId id → (es : List Stored) (before : Option Id) → AllByRecursion (λ e. IsId e.id) es → AllByRecursion (λ e. id_number e.id < id_number id) es → IsAfter before id
+    → IsAfter (last_id before es) id
 unfolding last_id
 after_all id fits [] before ids less h = h
 after_all id fits (e ∷ es) before ids less h = after_all id fits es (Some e.id) ids.1 less.1 ((id_laws.below e.id id ids.0 fits).1 less.0)
@@ -48,7 +49,8 @@ held_is : (key : Id) (list : List (List ℕ)) → IsNode key list → held key l
 held_is key [] n = absurd (omega (arith, ap length n.head.elements))
 held_is key (x ∷ list) n = refl
 
-pub above_held : (key id : Id) (bytes : List ℕ) → IsId id → IsNodeOf key bytes → AllByRecursion (λ e. id_number e.id < id_number id) (entries_of key (texts bytes)) → IsAfter (last_id None (held key (texts bytes))) id
+pub above_held : (key id : Id) (bytes : List ℕ) → IsId id → IsNodeOf key bytes → AllByRecursion (λ e. id_number e.id < id_number id) (entries_of key (texts bytes))
+    → IsAfter (last_id None (held key (texts bytes))) id
 above_held key id bytes fits n less =
     subst (λ es. IsAfter (last_id None es) id) (sym (held_is key (texts bytes) n.node)) (after_all id fits (entries_of key (texts bytes)) None (node_ids key (texts bytes) n.node) less tt)
 
@@ -63,7 +65,8 @@ pub live-none : (e : Stored) → e.deleted ≡ true → live_of (e ∷ []) ≡ [
 live-none e h = ap (map plain) (cond-false _ (e ∷ []) [] (ap not h))
 
 -- an entry put in
-module _ (key id : Id) (old new : List ℕ) (pairs : List Pair) (es : List Stored) (app : IsAppended key old new id pairs) (was : held key (texts old) ≡ es) (from : AllByRecursion (λ e. id_number key ≤ id_number e.id) es) (low : id_number key ≤ id_number id) (few : length es < 100) (short : length new ≤ 536870000) where
+module _ (key id : Id) (old new : List ℕ) (pairs : List Pair) (es : List Stored) (app : IsAppended key old new id pairs) (was : held key (texts old) ≡ es)
+    (from : AllByRecursion (λ e. id_number key ≤ id_number e.id) es) (low : id_number key ≤ id_number id) (few : length es < 100) (short : length new ≤ 536870000) where
   entries_now : entries_of key (texts new) ≡ es ++ put id pairs ∷ []
   entries_now = app.entries ∙ ap (λ xs. xs ++ put id pairs ∷ []) was
 
@@ -80,7 +83,8 @@ module _ (key id : Id) (old new : List ℕ) (pairs : List Pair) (es : List Store
     entries_are = entries_now;
   }
 
-pub joined_grown : (key id : Id) (old new : List ℕ) (pairs : List Pair) → IsNodeOf key old → AllByRecursion (λ e. id_number e.id < id_number id) (entries_of key (texts old)) → IsAppended key old new id pairs
+pub joined_grown : (key id : Id) (old new : List ℕ) (pairs : List Pair) → IsNodeOf key old → AllByRecursion (λ e. id_number e.id < id_number id) (entries_of key (texts old))
+    → IsAppended key old new id pairs
     → length (entries_of key (texts old)) < 100 → length new ≤ 536870000 → IsGrown key (entries_of key (texts old)) new id pairs
 joined_grown key id old new pairs n less app few short =
     let above : id_number key < id_number id = between (entries_of key (texts old)) (id_number key) (id_number id) n.some n.from less in
@@ -114,7 +118,13 @@ mark_there (x ∷ xs) ys e = ap (λ es. x ∷ es) (mark_there xs ys e)
 
 pub can_mark : (key : Id) (bytes : List ℕ) (index : ℕ) (e : Stored) → IsNodeOf key bytes → IsAt (entries_of key (texts bytes)) index e → CanMark key (texts bytes) index
 can_mark key bytes index e n at =
-    record { node = n.node; entry = e; there = ap (λ k. slice_get (entries_of key (texts bytes)) k) (sym at.count) ∙ ap (λ es. slice_get es (length at.before)) at.place ∙ get_at at.before at.after e; live = at.live }
+    record {
+      node = n.node;
+      entry = e;
+      there = ap (λ k. slice_get (entries_of key (texts bytes)) k) (sym at.count) ∙ ap (λ es. slice_get es (length at.before)) at.place
+          ∙ get_at at.before at.after e;
+      live = at.live;
+    }
 
 pub mark_room : (key : Id) (bytes : List ℕ) (index : ℕ) (e : Stored) → IsNodeOf key bytes → IsAt (entries_of key (texts bytes)) index e → pack_len (marked_spellings bytes index) < 2 ^ 32
 mark_room key bytes index e n at = omega (arith, n.short, mark_lighter key bytes index n.pack (can_mark key bytes index e n at) n.few (omega (arith, n.short)))
@@ -143,7 +153,8 @@ is_marked old new index m key e at n many =
     let es = entries_of key (texts old) in
     let gone : Stored = record { id = e.id; deleted = true; pairs = e.pairs } in
     let can = can_mark key old index e n at in
-    let now : entries_of key (texts new) ≡ at.before ++ gone ∷ at.after = m.entries key n.node ∙ ap (mark_at es) (sym at.count) ∙ ap (λ xs. mark_at xs (length at.before)) at.place ∙ mark_there at.before at.after e in
+    let now : entries_of key (texts new) ≡ at.before ++ gone ∷ at.after = m.entries key n.node ∙ ap (mark_at es) (sym at.count) ∙ ap (λ xs. mark_at xs (length at.before)) at.place
+    ∙ mark_there at.before at.after e in
     let size : length new ≤ length old = omega (arith, length-pack new m.pack, ap pack_len m.spelled, mark_lighter key old index n.pack can n.few (omega (arith, n.short))) in
     let left : length (live_of es) ≡ suc (length (live_of (at.before ++ at.after))) = ap (λ xs. length (live_of xs)) at.place ∙ live_around at.before at.after e at.live in
     let split = subst (AllByRecursion (λ x. id_number key ≤ id_number x.id)) at.place n.from in
@@ -172,7 +183,8 @@ length-stored (x ∷ xs) = ap suc (length-stored xs)
 pub walked_inside : (xs : List Entry) (x : Entry) (left rest all : List Stored) → map stored xs ++ left ≡ all → left ≡ stored x ∷ rest → length xs < length all
 walked_inside xs x left rest all is next = omega (arith, ap length is, ap length next, length-append (map stored xs) left, length-stored xs)
 
-pub walked_at : (xs : List Entry) (x : Entry) (left rest all : List Stored) (index : ℕ) → map stored xs ++ left ≡ all → left ≡ stored x ∷ rest → length xs ≡ index → (stored x).deleted ≡ false → IsAt all index (stored x)
+pub walked_at : (xs : List Entry) (x : Entry) (left rest all : List Stored) (index : ℕ) → map stored xs ++ left ≡ all → left ≡ stored x ∷ rest → length xs ≡ index
+    → (stored x).deleted ≡ false → IsAt all index (stored x)
 walked_at xs x left rest all index is next count live =
     record { before = map stored xs; after = rest; place = sym is ∙ ap (λ ys. map stored xs ++ ys) next; count = length-stored xs ∙ count; live = live }
 
@@ -189,8 +201,18 @@ abbrev First : List Stored → ℕ → Type 0
 First es index = (e : Stored) × (at : IsAt es index e) × (live_of at.before ≡ [])
 
 first_stays : (es : List Stored) (x : Stored) (index now : ℕ) → now ≡ index → First es index → First (es ++ x ∷ []) now
-first_stays es x index now same f =
-    (f.0, record { before = f.1.before; after = f.1.after ++ x ∷ []; place = ap (λ ys. ys ++ x ∷ []) f.1.place ∙ append_assoc f.1.before (f.0 ∷ f.1.after) (x ∷ []); count = f.1.count ∙ sym same; live = f.1.live }, f.2)
+first_stays es x index now same f = (
+  f.0,
+  record {
+    before = f.1.before;
+    after = f.1.after ++ x ∷ [];
+    place = ap (λ ys. ys ++ x ∷ []) f.1.place ∙ append_assoc f.1.before (f.0 ∷ f.1.after) (x ∷ []);
+    count = f.1.count
+        ∙ sym same;
+    live = f.1.live;
+  },
+  f.2,
+)
 
 pub live_skips : (es : List Stored) (e : Stored) (live : Live) → IsLive es live → e.deleted ≡ true → IsLive (es ++ e ∷ []) live
 live_skips es e live is gone = record {
@@ -198,7 +220,8 @@ live_skips es e live is gone = record {
   first = λ some. first_stays es e live.first live.first refl (is.first some);
 }
 
-pub live_begins : (es : List Stored) (e : Stored) (live now : Live) (index : ℕ) → IsLive es live → live.count ≡ 0 → length es ≡ index → e.deleted ≡ false → now.count ≡ 1 → now.first ≡ index → IsLive (es ++ e ∷ []) now
+pub live_begins : (es : List Stored) (e : Stored) (live now : Live) (index : ℕ) → IsLive es live → live.count ≡ 0 → length es ≡ index → e.deleted ≡ false → now.count ≡ 1
+    → now.first ≡ index → IsLive (es ++ e ∷ []) now
 live_begins es e live now index is none at here' one first =
     let empty : live_of es ≡ [] = no_length (live_of es) (omega (arith, is.count, none)) in
     record {
@@ -210,7 +233,8 @@ live_begins es e live now index is none at here' one first =
     no_length [] h = refl
     no_length (x ∷ xs) h = absurd (omega arith)
 
-pub live_grows : (es : List Stored) (e : Stored) (live now : Live) → IsLive es live → (live.count ≡ 0 → ⊥) → e.deleted ≡ false → now.count ≡ live.count + 1 → now.first ≡ live.first → IsLive (es ++ e ∷ []) now
+pub live_grows : (es : List Stored) (e : Stored) (live now : Live) → IsLive es live → (live.count ≡ 0 → ⊥) → e.deleted ≡ false → now.count ≡ live.count + 1 → now.first ≡ live.first
+    → IsLive (es ++ e ∷ []) now
 live_grows es e live now is some here' more first = record {
   count = omega (arith, more, is.count, ap length (live-append es (e ∷ [])), ap length (live-one e here'), length-append (live_of es) (live_of (e ∷ [])));
   first = λ _. first_stays es e live.first now.first first (is.first (omega (arith, some)));

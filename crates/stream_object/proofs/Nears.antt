@@ -85,22 +85,26 @@ module _ (m : Blocks) (id : Id) (a : IsId id) where
   last_found key [] each h = cc
   last_found key (p ∷ ps) each h = elim (tested false id p a each.0.id) [
     | inl miss ↦ behind (last_found key ps each.1 (h ∙ ap (λ es. option_map (λ e. e.key) (last_of es)) (cond-false _ (entry_of p ∷ tests false id ps) (tests false id ps) miss.1)))
-    | inr hit ↦ here hit.0 (last_found key ps each.1) (last_of (tests false id ps)) refl (h ∙ ap (λ es. option_map (λ e. e.key) (last_of es)) (cond-true _ (entry_of p ∷ tests false id ps) (tests false id ps) hit.1))
+    | inr hit ↦ here hit.0 (last_found key ps each.1) (last_of (tests false id ps)) refl
+        (h ∙ ap (λ es. option_map (λ e. e.key) (last_of es)) (cond-true _ (entry_of p ∷ tests false id ps) (tests false id ps) hit.1))
   ]
     where
       behind : Finds false ps id key → Finds false (p ∷ ps) id key
       behind more = (more.0, record { before = p ∷ more.1.before; after = more.1.after; place = ap (λ xs. p ∷ xs) more.1.place; reaches = more.1.reaches; passes = more.1.passes }, more.2)
 
-      here : Reaches false id p → (Some key ≡ option_map (λ e. e.key) (last_of (tests false id ps)) → Finds false ps id key) → (o : Option Entry) → o ≡ last_of (tests false id ps) → Some key ≡ option_map (λ e. e.key) (or_else o (Some (entry_of p))) → Finds false (p ∷ ps) id key
+      here : Reaches false id p → (Some key ≡ option_map (λ e. e.key) (last_of (tests false id ps)) → Finds false ps id key) → (o : Option Entry) → o ≡ last_of (tests false id ps)
+          → Some key ≡ option_map (λ e. e.key) (or_else o (Some (entry_of p))) → Finds false (p ∷ ps) id key
       here hit more None same is = (p, record { before = []; after = ps; place = refl; reaches = hit; passes = last_none ps each.1 (ap (option_map (λ e. e.key)) same) }, cc)
       here hit more (Some e) same is = behind (more (is ∙ ap (option_map (λ e. e.key)) same))
 
-  pub near_none : (up : Bool) (tree : PackedTree) (ps : List Part) → HasParts m tree ps → None ≡ option_map (λ e. e.key) (nearest up (rax.entries_of m tree) (id_key id)) → AllByRecursion (Misses up id) ps
+  pub near_none : (up : Bool) (tree : PackedTree) (ps : List Part) → HasParts m tree ps → None ≡ option_map (λ e. e.key) (nearest up (rax.entries_of m tree) (id_key id))
+      → AllByRecursion (Misses up id) ps
   unfolding nearest
   near_none true tree ps h is = first_none ps h.each (is ∙ ap (λ es. option_map (λ e. e.key) (first_of (filter (test true id) es))) h.named)
   near_none false tree ps h is = last_none ps h.each (is ∙ ap (λ es. option_map (λ e. e.key) (last_of (filter (test false id) es))) h.named)
 
-  pub near_found : (up : Bool) (key : List ℕ) (tree : PackedTree) (ps : List Part) → HasParts m tree ps → Some key ≡ option_map (λ e. e.key) (nearest up (rax.entries_of m tree) (id_key id)) → Finds up ps id key
+  pub near_found : (up : Bool) (key : List ℕ) (tree : PackedTree) (ps : List Part) → HasParts m tree ps
+      → Some key ≡ option_map (λ e. e.key) (nearest up (rax.entries_of m tree) (id_key id)) → Finds up ps id key
   unfolding nearest
   near_found true key tree ps h is = first_found key ps h.each (is ∙ ap (λ es. option_map (λ e. e.key) (first_of (filter (test true id) es))) h.named)
   near_found false key tree ps h is = last_found key ps h.each (is ∙ ap (λ es. option_map (λ e. e.key) (last_of (filter (test false id) es))) h.named)

@@ -83,7 +83,8 @@ unfolding value_at
 one_value key was = ap (option_map (λ (e : Entry). e.value)) (cond-true _ _ _ (ap is_eq (order-same key)))
 
 -- what the tree says at the key of one node among others
-module _ (m : Blocks) (before after : List Part) (p : Part) (is : IsPart m p) (front : AllByRecursion (IsPart m) before) (back : AllByRecursion (IsPart m) after) (rising : Rising (before ++ p ∷ after)) where
+module _ (m : Blocks) (before after : List Part) (p : Part) (is : IsPart m p) (front : AllByRecursion (IsPart m) before) (back : AllByRecursion (IsPart m) after)
+    (rising : Rising (before ++ p ∷ after)) where
   less : All Less (id_key p.key) (map entry_of before)
   less = less_before m p before after is.id front rising
 
@@ -111,7 +112,8 @@ module _ (m : Blocks) (before after : List Part) (p : Part) (is : IsPart m p) (f
       ∙ ap (λ es. map entry_of before ++ (es ++ map entry_of after)) (one_without (id_key p.key) p.at) ∙ sym (joined [])
 
 -- a node behind all others
-pub with_last : (m : Blocks) (ps : List Part) (key : Id) (at : BlockRef) (bytes : List ℕ) → IsId key → AllByRecursion (IsPart m) ps → Rising (ps ++ part key at bytes ∷ []) → with_entry (map entry_of ps) (id_key key) at ≡ map entry_of (ps ++ part key at bytes ∷ [])
+pub with_last : (m : Blocks) (ps : List Part) (key : Id) (at : BlockRef) (bytes : List ℕ) → IsId key → AllByRecursion (IsPart m) ps → Rising (ps ++ part key at bytes ∷ [])
+    → with_entry (map entry_of ps) (id_key key) at ≡ map entry_of (ps ++ part key at bytes ∷ [])
 with_last m ps key at bytes id each rising =
     let whole : map entry_of ps ≡ map entry_of ps ++ ([] ++ []) = sym (append-nil (map entry_of ps)) in
     ap (λ es. with_entry es (id_key key) at) whole
@@ -147,33 +149,52 @@ times-refs r xs ys = ap (times r) (map-append (λ (p : Part). p.at) xs ys) ∙ t
 pub parts_stay : (a b : Blocks) (ps : List Part) → ((r : BlockRef) → IsIn r (refs_of ps) → b r ≡ a r) → AllByRecursion (IsPart a) ps → AllByRecursion (IsPart b) ps
 parts_stay a b [] same each = tt
 parts_stay a b (p ∷ ps) same each =
-    let here : one p.at p.at ≡ 1 = ap one_if (ref_eq-refl p.at) in
-    (record { id = each.0.id; block = holds_there a b p.at p.at p.bytes (same p.at (omega (arith, here))) each.0.block; is_node = each.0.is_node }, parts_stay a b ps (λ r isin. same r (omega (arith, isin))) each.1)
+    let here : one p.at p.at ≡ 1 = ap one_if (ref_eq-refl p.at) in (
+      record { id = each.0.id; block = holds_there a b p.at p.at p.bytes (same p.at (omega (arith, here))) each.0.block; is_node = each.0.is_node },
+      parts_stay a b ps
+          (λ r isin. same r (omega (arith, isin))) each.1,
+    )
 
 -- some nodes among others give way to others
-module _ (m after : Blocks) (old new : PackedTree) (before gone come behind : List Part) (h : HasParts m old (before ++ (gone ++ behind))) (changes : Changes m after (rax.refs_of m old ++ refs_of gone) (rax.refs_of after new ++ refs_of come)) where
+module _ (m after : Blocks) (old new : PackedTree) (before gone come behind : List Part) (h : HasParts m old (before ++ (gone ++ behind)))
+    (changes : Changes m after (rax.refs_of m old ++ refs_of gone) (rax.refs_of after new ++ refs_of come)) where
   beside : BlockRef → ℕ
   beside r = times r (refs_of before) + times r (refs_of behind)
 
   counted_old : (r : BlockRef) → times r (rax.refs_of m old ++ refs_of (before ++ (gone ++ behind))) ≡ times r (rax.refs_of m old ++ refs_of gone) + beside r
   unfolding beside
   counted_old r =
-      omega (arith, times-append r (rax.refs_of m old) (refs_of (before ++ (gone ++ behind))), times-append r (rax.refs_of m old) (refs_of gone), times-refs r before (gone ++ behind), times-refs r gone behind)
+      omega (
+        arith,
+        times-append r (rax.refs_of m old) (refs_of (before ++ (gone ++ behind))),
+        times-append r (rax.refs_of m old) (refs_of gone),
+        times-refs r before (gone ++ behind),
+        times-refs r gone behind,
+      )
 
   counted_new : (r : BlockRef) → times r (rax.refs_of after new ++ refs_of (before ++ (come ++ behind))) ≡ times r (rax.refs_of after new ++ refs_of come) + beside r
   unfolding beside
   counted_new r =
-      omega (arith, times-append r (rax.refs_of after new) (refs_of (before ++ (come ++ behind))), times-append r (rax.refs_of after new) (refs_of come), times-refs r before (come ++ behind), times-refs r come behind)
+      omega (
+        arith,
+        times-append r (rax.refs_of after new) (refs_of (before ++ (come ++ behind))),
+        times-append r (rax.refs_of after new) (refs_of come),
+        times-refs r before
+            (come ++ behind),
+        times-refs r come behind,
+      )
 
   whole : Changes m after (rax.refs_of m old ++ refs_of (before ++ (gone ++ behind))) (rax.refs_of after new ++ refs_of (before ++ (come ++ behind)))
-  whole = Changes-beside m after (rax.refs_of m old ++ refs_of gone) (rax.refs_of after new ++ refs_of come) (rax.refs_of m old ++ refs_of (before ++ (gone ++ behind))) (rax.refs_of after new ++ refs_of (before ++ (come ++ behind))) changes h.owned beside counted_old counted_new
+  whole = Changes-beside m after (rax.refs_of m old ++ refs_of gone) (rax.refs_of after new ++ refs_of come) (rax.refs_of m old ++ refs_of (before ++ (gone ++ behind)))
+      (rax.refs_of after new ++ refs_of (before ++ (come ++ behind))) changes h.owned beside counted_old counted_new
 
   kept : (r : BlockRef) → 0 < beside r → after r ≡ m r
   kept r isin =
       Owned-others m after (rax.refs_of m old ++ refs_of gone) (rax.refs_of after new ++ refs_of come) (rax.refs_of m old ++ refs_of (before ++ (gone ++ behind))) h.owned changes r
       (omega (arith, isin, counted_old r)) (omega (arith, isin, counted_old r, h.owned r, live-once m r))
 
-  pub exchanged : rax.IsSound after new → rax.entries_of after new ≡ map entry_of (before ++ (come ++ behind)) → AllByRecursion (IsPart after) come → Rising (before ++ (come ++ behind)) → Exchanges m after old new (before ++ (come ++ behind))
+  pub exchanged : rax.IsSound after new → rax.entries_of after new ≡ map entry_of (before ++ (come ++ behind)) → AllByRecursion (IsPart after) come → Rising (before ++ (come ++ behind))
+      → Exchanges m after old new (before ++ (come ++ behind))
   unfolding beside
   exchanged sound named each rising =
       let front = parts_stay m after before (λ r isin. kept r (omega (arith, isin))) (all-front (IsPart m) before (gone ++ behind) h.each) in
@@ -187,7 +208,8 @@ module _ (m after : Blocks) (old new : PackedTree) (before gone come behind : Li
       } in
       record {
         parts = now;
-        changes = subst (λ xs. Changes m after xs (all_refs after new)) (sym (refs_are m old (before ++ (gone ++ behind)) h)) (subst (Changes m after (rax.refs_of m old ++ refs_of (before ++ (gone ++ behind)))) (sym (refs_are after new (before ++ (come ++ behind)) now)) whole);
+        changes = subst (λ xs. Changes m after xs (all_refs after new)) (sym (refs_are m old (before ++ (gone ++ behind)) h))
+            (subst (Changes m after (rax.refs_of m old ++ refs_of (before ++ (gone ++ behind)))) (sym (refs_are after new (before ++ (come ++ behind)) now)) whole);
       }
 
 -- a tree of nothing

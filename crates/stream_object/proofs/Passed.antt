@@ -26,7 +26,8 @@ pub record IsSum (p q r : ℕ → Bool) (k : ℕ) : Type 0 where
   pub none : p k ≡ false → q k ≡ false → r k ≡ false
 
 -- one call after another
-pub passes_then : (h l : Heap) (p q r : ℕ → Bool) (ks : List ℕ) (us vs ws : List BlockRef) → Calmer h l → AllByRecursion (IsSum p q r) ks → PassesAll h p ks us vs → PassesAll l q ks vs ws → PassesAll l r ks us ws
+pub passes_then : (h l : Heap) (p q r : ℕ → Bool) (ks : List ℕ) (us vs ws : List BlockRef) → Calmer h l → AllByRecursion (IsSum p q r) ks → PassesAll h p ks us vs → PassesAll l q ks vs ws
+    → PassesAll l r ks us ws
 passes_then h l p q r [] [] [] [] calmer sum x y = tt
 passes_then h l p q r [] [] [] (c ∷ ws) calmer sum x y = absurd y
 passes_then h l p q r [] [] (b ∷ vs) ws calmer sum x y = absurd x
@@ -60,11 +61,14 @@ count_then p q r (k ∷ ks) sum = one (cases_Bool (p k)) (cases_Bool (q k)) (cou
     one : (p k ≡ true) ⊎ (p k ≡ false) → (q k ≡ true) ⊎ (q k ≡ false) → count_by r ks ≡ count_by p ks + count_by q ks → count_by r (k ∷ ks) ≡ count_by p (k ∷ ks) + count_by q (k ∷ ks)
     one (inl pt) (inl qt) rest = absurd (let bad : true ≡ false = sym qt ∙ (sum.0.first pt).0 in cc)
     one (inl pt) (inr qf) rest =
-        (let a : cond {A = ℕ} (p k) 1 0 ≡ 1 = cond-true _ _ _ pt in let b : cond {A = ℕ} (q k) 1 0 ≡ 0 = cond-false _ _ _ qf in let d : cond {A = ℕ} (r k) 1 0 ≡ 1 = cond-true _ _ _ (sum.0.first pt).1 in omega (arith, a, b, d, rest, count_cons p k ks, count_cons q k ks, count_cons r k ks))
+        (let a : cond {A = ℕ} (p k) 1 0 ≡ 1 = cond-true _ _ _ pt in let b : cond {A = ℕ} (q k) 1 0 ≡ 0 = cond-false _ _ _ qf in let d : cond {A = ℕ} (r k) 1 0 ≡ 1 =
+        cond-true _ _ _ (sum.0.first pt).1 in omega (arith, a, b, d, rest, count_cons p k ks, count_cons q k ks, count_cons r k ks))
     one (inr pf) (inl qt) rest =
-        (let a : cond {A = ℕ} (p k) 1 0 ≡ 0 = cond-false _ _ _ pf in let b : cond {A = ℕ} (q k) 1 0 ≡ 1 = cond-true _ _ _ qt in let d : cond {A = ℕ} (r k) 1 0 ≡ 1 = cond-true _ _ _ (sum.0.second qt).1 in omega (arith, a, b, d, rest, count_cons p k ks, count_cons q k ks, count_cons r k ks))
+        (let a : cond {A = ℕ} (p k) 1 0 ≡ 0 = cond-false _ _ _ pf in let b : cond {A = ℕ} (q k) 1 0 ≡ 1 = cond-true _ _ _ qt in let d : cond {A = ℕ} (r k) 1 0 ≡ 1 =
+        cond-true _ _ _ (sum.0.second qt).1 in omega (arith, a, b, d, rest, count_cons p k ks, count_cons q k ks, count_cons r k ks))
     one (inr pf) (inr qf) rest =
-        (let a : cond {A = ℕ} (p k) 1 0 ≡ 0 = cond-false _ _ _ pf in let b : cond {A = ℕ} (q k) 1 0 ≡ 0 = cond-false _ _ _ qf in let d : cond {A = ℕ} (r k) 1 0 ≡ 0 = cond-false _ _ _ (sum.0.none pf qf) in omega (arith, a, b, d, rest, count_cons p k ks, count_cons q k ks, count_cons r k ks))
+        (let a : cond {A = ℕ} (p k) 1 0 ≡ 0 = cond-false _ _ _ pf in let b : cond {A = ℕ} (q k) 1 0 ≡ 0 = cond-false _ _ _ qf in let d : cond {A = ℕ} (r k) 1 0 ≡ 0 =
+        cond-false _ _ _ (sum.0.none pf qf) in omega (arith, a, b, d, rest, count_cons p k ks, count_cons q k ks, count_cons r k ks))
 
 -- the same by another test that answers the same
 pub passes_same : (h : Heap) (p q : ℕ → Bool) (ks : List ℕ) (us vs : List BlockRef) → AllByRecursion (λ k. q k ≡ p k) ks → PassesAll h p ks us vs → PassesAll h q ks us vs
@@ -83,7 +87,8 @@ count_same p q (k ∷ ks) same = (let a : cond {A = ℕ} (q k) 1 0 ≡ cond (p k
 pub passes_indexed : (h : Heap) (p : ℕ → Bool) (ks : List ℕ) (us vs : List BlockRef) → PassesAll h p ks us vs → ArePassed h p ks us vs
 passes_indexed h p ks us vs x = record { calm = calm_at ks us vs x; stays = stay_at ks us vs x }
   where
-    calm_at : (ks : List ℕ) (us vs : List BlockRef) → PassesAll h p ks us vs → (index mark : ℕ) (r : BlockRef) → slice_get ks index ≡ Some mark → slice_get vs index ≡ Some r → p mark ≡ true → wants h r ≡ false
+    calm_at : (ks : List ℕ) (us vs : List BlockRef) → PassesAll h p ks us vs → (index mark : ℕ) (r : BlockRef) → slice_get ks index ≡ Some mark → slice_get vs index ≡ Some r
+        → p mark ≡ true → wants h r ≡ false
     calm_at [] [] [] x index mark r marked named is = cc
     calm_at [] [] (b ∷ vs) x index mark r marked named is = absurd x
     calm_at [] (a ∷ us) vs x index mark r marked named is = absurd x
@@ -122,8 +127,10 @@ IsBeside at n k = (k < at) ⊎ (n ≤ k)
 
 -- the marks to below one, and that one
 pub sum_beside : (from at n : ℕ) → from ≤ n → at ≤ n → (k : ℕ) → IsBeside at n k → IsSum (is_within from at) (λ m. m == n) (is_within from (n + 1)) k
-sum_beside from at n low order k (inl less) = record { first = λ h. (grind (arith, nat_tests), grind (arith, nat_tests)); second = λ h. (grind (arith, nat_tests), grind (arith, nat_tests)); none = λ a b. grind (arith, nat_tests) }
-sum_beside from at n low order k (inr more) = record { first = λ h. (grind (arith, nat_tests), grind (arith, nat_tests)); second = λ h. (grind (arith, nat_tests), grind (arith, nat_tests)); none = λ a b. grind (arith, nat_tests) }
+sum_beside from at n low order k (inl less) = record
+    { first = λ h. (grind (arith, nat_tests), grind (arith, nat_tests)); second = λ h. (grind (arith, nat_tests), grind (arith, nat_tests)); none = λ a b. grind (arith, nat_tests) }
+sum_beside from at n low order k (inr more) = record
+    { first = λ h. (grind (arith, nat_tests), grind (arith, nat_tests)); second = λ h. (grind (arith, nat_tests), grind (arith, nat_tests)); none = λ a b. grind (arith, nat_tests) }
 
 -- going on at the next mark is to have passed those below it
 pub next_same : (from at n : ℕ) → at ≤ n → (k : ℕ) → IsBeside at n k → is_passed from (Some n) k ≡ is_within from at k
@@ -141,13 +148,17 @@ count_zero p [] none = refl
 count_zero p (k ∷ ks) none = (let a : cond {A = ℕ} (p k) 1 0 ≡ 0 = cond-false _ _ _ none.0 in omega (arith, a, count_zero p ks none.1, count_cons p k ks))
 
 -- one key more
-pub step_all : (h l : Heap) (from at n : ℕ) (ks : List ℕ) (us vs ws : List BlockRef) → from ≤ n → at ≤ n → AllByRecursion (IsBeside at n) ks → Calmer h l → PassesAll h (is_within from at) ks us vs → PassesAll l (λ m. m == n) ks vs ws → PassesAll l (is_within from (n + 1)) ks us ws
+pub step_all : (h l : Heap) (from at n : ℕ) (ks : List ℕ) (us vs ws : List BlockRef) → from ≤ n → at ≤ n → AllByRecursion (IsBeside at n) ks → Calmer h l
+    → PassesAll h (is_within from at) ks us vs → PassesAll l (λ m. m == n) ks vs ws → PassesAll l (is_within from (n + 1)) ks us ws
 step_all h l from at n ks us vs ws low order beside calmer x y =
-    passes_then h l (is_within from at) (λ m. m == n) (is_within from (n + 1)) ks us vs ws calmer (all-weaker (IsBeside at n) (IsSum (is_within from at) (λ m. m == n) (is_within from (n + 1))) ks (sum_beside from at n low order) beside) x y
+    passes_then h l (is_within from at) (λ m. m == n) (is_within from (n + 1)) ks us vs ws calmer
+    (all-weaker (IsBeside at n) (IsSum (is_within from at) (λ m. m == n) (is_within from (n + 1))) ks (sum_beside from at n low order) beside) x y
 
-pub step_count : (from at n : ℕ) (ks : List ℕ) → from ≤ n → at ≤ n → AllByRecursion (IsBeside at n) ks → count_by (is_within from (n + 1)) ks ≡ count_by (is_within from at) ks + count_by (λ m. m == n) ks
+pub step_count : (from at n : ℕ) (ks : List ℕ) → from ≤ n → at ≤ n → AllByRecursion (IsBeside at n) ks
+    → count_by (is_within from (n + 1)) ks ≡ count_by (is_within from at) ks + count_by (λ m. m == n) ks
 step_count from at n ks low order beside =
-    count_then (is_within from at) (λ m. m == n) (is_within from (n + 1)) ks (all-weaker (IsBeside at n) (IsSum (is_within from at) (λ m. m == n) (is_within from (n + 1))) ks (sum_beside from at n low order) beside)
+    count_then (is_within from at) (λ m. m == n) (is_within from (n + 1)) ks
+    (all-weaker (IsBeside at n) (IsSum (is_within from at) (λ m. m == n) (is_within from (n + 1))) ks (sum_beside from at n low order) beside)
 
 -- the next mark is this one
 pub next_all : (from at n : ℕ) (ks : List ℕ) → at ≤ n → AllByRecursion (IsBeside at n) ks → AllByRecursion (λ k. is_passed from (Some n) k ≡ is_within from at k) ks

@@ -59,7 +59,8 @@ one_picked from to e b is = by_mark e.deleted refl
 abbrev pub picked_of : Id → Id → List Entry → List StreamEntry
 picked_of from to xs = filter (is_between from to) (live_of (map stored xs))
 
-pub picked_more : (from to : Id) (xs : List Entry) (x : Entry) (b : Bool) → b ≡ (is_live (stored x) && is_between from to (seen x)) → picked_of from to (xs ++ x ∷ []) ≡ picked_of from to xs ++ (if b then seen x ∷ [] else [])
+pub picked_more : (from to : Id) (xs : List Entry) (x : Entry) (b : Bool) → b ≡ (is_live (stored x) && is_between from to (seen x))
+    → picked_of from to (xs ++ x ∷ []) ≡ picked_of from to xs ++ (if b then seen x ∷ [] else [])
 picked_more from to xs x b is =
     ap (λ es. filter (is_between from to) (live_of es)) (map-append stored xs (x ∷ []))
     ∙ ap (filter (is_between from to)) (live-append (map stored xs) (stored x ∷ []))
@@ -121,7 +122,8 @@ one_more_taken back picked before found now o e index place is more same at turn
 -- taken in their order, of the entries that a walk has passed
 module _ (from to : Id) (xs : List Entry) (old now : List StreamEntry) (is : now ≡ old ++ picked_of from to xs) where
   -- with one more
-  pub forth_more : (found more : List Owned) (o : Owned) (x : Entry) (b : Bool) → map taken found ≡ now → more ≡ found ++ o ∷ [] → taken o ≡ seen x → b ≡ (is_live (stored x) && is_between from to (seen x)) → b ≡ true
+  pub forth_more : (found more : List Owned) (o : Owned) (x : Entry) (b : Bool) → map taken found ≡ now → more ≡ found ++ o ∷ [] → taken o ≡ seen x
+      → b ≡ (is_live (stored x) && is_between from to (seen x)) → b ≡ true
       → map taken more ≡ old ++ picked_of from to (xs ++ x ∷ [])
   forth_more found more o x b here one same test holds =
       ap (map taken) one ∙ map-append taken found (o ∷ [])
@@ -139,7 +141,8 @@ module _ (from to : Id) (xs : List Entry) (old now : List StreamEntry) (is : now
   forth_full left all limit joined full =
       let more = filter (is_between from to) (live_of left) in
       let split : filter (is_between from to) (live_of all) ≡ picked_of from to xs ++ more =
-      ap (λ es. filter (is_between from to) (live_of es)) (sym joined) ∙ ap (filter (is_between from to)) (live-append (map stored xs) left) ∙ filter-append (is_between from to) (live_of (map stored xs)) (live_of left) in
+      ap (λ es. filter (is_between from to) (live_of es)) (sym joined) ∙ ap (filter (is_between from to)) (live-append (map stored xs) left)
+      ∙ filter-append (is_between from to) (live_of (map stored xs)) (live_of left) in
       sym (ap (λ es. take limit (old ++ es)) split
       ∙ ap (take limit) (sym (append_assoc old (picked_of from to xs) more))
       ∙ take_at (old ++ picked_of from to xs) more limit (ap length (sym is) ∙ full)

@@ -57,17 +57,21 @@ module _ (m : Blocks) where
   above_keys id [] each h = tt
   above_keys id (q ∷ ps) each h =
       all-append (λ f. id_number id < id_number (id_of f)) (live_in q) (entries_in ps)
-      (all_live (λ f. id_number id < id_number (id_of f)) (stored_in q) (all-weaker (λ (e : Stored). id_number q.key ≤ id_number e.id) (λ e. id_number id < id_number e.id) (stored_in q) (λ e upto. omega (arith, upto, h.0)) each.0.is_node.from))
+      (all_live (λ f. id_number id < id_number (id_of f)) (stored_in q)
+      (all-weaker (λ (e : Stored). id_number q.key ≤ id_number e.id) (λ e. id_number id < id_number e.id) (stored_in q) (λ e upto. omega (arith, upto, h.0)) each.0.is_node.from))
       (above_keys id ps each.1 h.1)
 
-  across : (es : List Stored) (ps : List Part) → AllByRecursion (IsPart m) ps → AllByRecursion (λ q. AllByRecursion (λ e. id_number e.id < id_number q.key) es) ps → AllByRecursion (λ x. AllAbove (id_of x) (entries_in ps)) (live_of es)
+  across : (es : List Stored) (ps : List Part) → AllByRecursion (IsPart m) ps → AllByRecursion (λ q. AllByRecursion (λ e. id_number e.id < id_number q.key) es) ps
+      → AllByRecursion (λ x. AllAbove (id_of x) (entries_in ps)) (live_of es)
   across es ps each ends = all_live (λ x. AllAbove (id_of x) (entries_in ps)) es (one es ends)
     where
-      first : (e : Stored) (rest : List Stored) (qs : List Part) → AllByRecursion (λ q. AllByRecursion (λ f. id_number f.id < id_number q.key) (e ∷ rest)) qs → AllByRecursion (λ q. id_number e.id < id_number q.key) qs
+      first : (e : Stored) (rest : List Stored) (qs : List Part) → AllByRecursion (λ q. AllByRecursion (λ f. id_number f.id < id_number q.key) (e ∷ rest)) qs
+          → AllByRecursion (λ q. id_number e.id < id_number q.key) qs
       first e rest [] h = tt
       first e rest (q ∷ qs) h = (h.0.0, first e rest qs h.1)
 
-      others : (e : Stored) (rest : List Stored) (qs : List Part) → AllByRecursion (λ q. AllByRecursion (λ f. id_number f.id < id_number q.key) (e ∷ rest)) qs → AllByRecursion (λ q. AllByRecursion (λ f. id_number f.id < id_number q.key) rest) qs
+      others : (e : Stored) (rest : List Stored) (qs : List Part) → AllByRecursion (λ q. AllByRecursion (λ f. id_number f.id < id_number q.key) (e ∷ rest)) qs
+          → AllByRecursion (λ q. AllByRecursion (λ f. id_number f.id < id_number q.key) rest) qs
       others e rest [] h = tt
       others e rest (q ∷ qs) h = (h.0.1, others e rest qs h.1)
 
@@ -154,7 +158,8 @@ one_low least e b is = by_mark e.deleted refl
     by_mark false live =
         ap (filter (is_low least)) (live-one e live) ∙ ap (λ t. if t then plain e ∷ [] else []) (sym (is ∙ ap (λ d. not d && is_low least (plain e)) live))
 
-pub low_more : (least : Id) (xs : List Entry) (x : Entry) (b : Bool) → b ≡ (is_live (stored x) && is_low least (seen x)) → low_of least (xs ++ x ∷ []) ≡ low_of least xs ++ (if b then seen x ∷ [] else [])
+pub low_more : (least : Id) (xs : List Entry) (x : Entry) (b : Bool) → b ≡ (is_live (stored x) && is_low least (seen x)) → low_of least (xs ++ x ∷ []) ≡ low_of least xs
+    ++ (if b then seen x ∷ [] else [])
 low_more least xs x b is =
     ap (λ es. filter (is_low least) (live_of es)) (map-append stored xs (x ∷ []))
     ∙ ap (filter (is_low least)) (live-append (map stored xs) (stored x ∷ []))
@@ -195,6 +200,7 @@ module _ (a b : Blocks) (old new : Log) (n : ℕ) (is : IsStream a old) (x : IsC
     pub low_out : n ≡ count_low least (entries a old) → IsChanged a b old new (from_id (stream_of a old) least)
     low_out all = record {
       is_stream = x.is_stream;
-      value_is = x.value_is ∙ ap (λ es. record (stream_of a old) { entries = es }) (ap (λ k. drop k (entries a old)) all ∙ others_left least fits (entries a old) (stream_fits a old is) (stream_rises a old is));
+      value_is = x.value_is ∙ ap (λ es. record (stream_of a old) { entries = es })
+          (ap (λ k. drop k (entries a old)) all ∙ others_left least fits (entries a old) (stream_fits a old is) (stream_rises a old is));
       changes = x.changes;
     }

@@ -20,7 +20,8 @@ use Rattle.listpack.specs.Entry.{Signed, encoding_of, IsSpelling, text_of, thirt
 use Rattle.listpack.specs.Pack.{entries}
 use Rattle.listpack.specs.Writing.{magnitude, is_small, number_spelling, text_head, spelling}
 use Rattle.listpack.proofs.Backs.{back_one, back_two, back_three, back_four, back_five}
-use Rattle.listpack.proofs.Encodings.{needed_short_text, needed_thirteen_bits, needed_medium_text, needed_long_text, needed_signed, needed_no_encoding, text_by_encoding, text_small_number, text_short_text, text_thirteen_bits, text_medium_text, text_long_text}
+use Rattle.listpack.proofs.Encodings.{needed_short_text, needed_thirteen_bits, needed_medium_text, needed_long_text, needed_signed, needed_no_encoding, text_by_encoding, text_small_number}
+use Rattle.listpack.proofs.Encodings.{text_short_text, text_thirteen_bits, text_medium_text, text_long_text}
 use Rattle.listpack.proofs.Writings.{number_small, number_thirteen, number_two, number_three, number_four, number_eight, head_short, head_medium, head_long, number_cases, spelling_as}
 use Rattle.stream_node.proofs.Written.{written}
 use Rattle.rax_packed.proofs.Entries.{all-front, all-back}

@@ -25,7 +25,8 @@ behind_ends (y ∷ all) (x ∷ before) behind p last apart is = behind_ends all 
 abbrev pub IsLeft : Option Tail → Option Tail → Id → Type 0
 IsLeft old new key = IfSome new (λ tail. (old ≡ Some tail) × (tail.key ≢ key))
 
-pub kept_beside : (ps qs before front behind : List Part) (p : Part) (key : Id) (old new : Option Tail) → p.key ≡ key → ps ≡ before ++ p ∷ behind → qs ≡ front ++ behind → IsKept ps old → IsLeft old new key → IsKept qs new
+pub kept_beside : (ps qs before front behind : List Part) (p : Part) (key : Id) (old new : Option Tail) → p.key ≡ key → ps ≡ before ++ p ∷ behind → qs ≡ front ++ behind → IsKept ps old
+    → IsLeft old new key → IsKept qs new
 kept_beside ps qs before front behind p key old None name place stays kept left = tt
 kept_beside ps qs before front behind p key old (Some tail) name place stays kept left =
     let is : IsTail ps tail = subst (IsKept ps) left.0 kept in
@@ -41,11 +42,13 @@ kept_none ps tail none = subst (IsKept ps) (sym none) tt
 pub tail_part : (m : Blocks) (tree : PackedTree) (tail : Tail) → HasParts m tree (parts_of m tree) → (is : IsTail (parts_of m tree) tail) → IsPart m (part tail.key tail.at is.0)
 tail_part m tree tail h is = near_part m tree (parts_of m tree) is.1.before [] (part tail.key tail.at is.0) h is.1.place
 
-pub tail_read : (m : Blocks) (tree : PackedTree) (tail : Tail) → HasParts m tree (parts_of m tree) → IsTail (parts_of m tree) tail → (bytes : List ℕ) → Holds m tail.at bytes → IsEnd (parts_of m tree) (part tail.key tail.at bytes)
+pub tail_read : (m : Blocks) (tree : PackedTree) (tail : Tail) → HasParts m tree (parts_of m tree) → IsTail (parts_of m tree) tail → (bytes : List ℕ) → Holds m tail.at bytes
+    → IsEnd (parts_of m tree) (part tail.key tail.at bytes)
 tail_read m tree tail h is bytes block =
     let same : bytes ≡ is.0 = holds_one m tail.at bytes is.0 block (tail_part m tree tail h is).block in
     subst (λ b. IsEnd (parts_of m tree) (part tail.key tail.at b)) (sym same) is.1
 
 -- the node that is the nearest to the greatest id is the last one
-pub near_end : (m : Blocks) (tree : PackedTree) (top : Id) (p : Part) → top.ms ≡ 2 ^ 64 - 1 → top.seq ≡ 2 ^ 64 - 1 → HasParts m tree (parts_of m tree) → IsNear false (parts_of m tree) top p → IsEnd (parts_of m tree) p
+pub near_end : (m : Blocks) (tree : PackedTree) (top : Id) (p : Part) → top.ms ≡ 2 ^ 64 - 1 → top.seq ≡ 2 ^ 64 - 1 → HasParts m tree (parts_of m tree)
+    → IsNear false (parts_of m tree) top p → IsEnd (parts_of m tree) p
 near_end m tree top p a b h n = record { before = n.before; place = last_place m tree top p a b h n }

@@ -34,7 +34,8 @@ drop_more {X} (suc a) b [] = drop_none X b ∙ sym (drop_none X (suc a + b))
 drop_more (suc a) b (x ∷ xs) = let n : suc a + b ≡ suc (a + b) = omega arith in drop_more a b xs ∙ sym (ap (λ k. drop k (x ∷ xs)) n)
 
 -- the stream with these nodes
-pub dropped : (m after : Blocks) (old new : Log) (n : ℕ) (ps : List Part) → IsStream m old → Exchanges m after old.tree new.tree ps → entries_in ps ≡ drop n (entries m old) → AreUpto old.last ps → IsKept ps new.tail → new.len + n ≡ old.len → new.last ≡ old.last → new.deleted ≡ old.deleted → new.added ≡ old.added → new.groups ≡ old.groups
+pub dropped : (m after : Blocks) (old new : Log) (n : ℕ) (ps : List Part) → IsStream m old → Exchanges m after old.tree new.tree ps → entries_in ps ≡ drop n (entries m old)
+    → AreUpto old.last ps → IsKept ps new.tail → new.len + n ≡ old.len → new.last ≡ old.last → new.deleted ≡ old.deleted → new.added ≡ old.added → new.groups ≡ old.groups
     → IsChanged m after old new (dropping (stream_of m old) n)
 dropped m after old new n ps is ex left upto kept len last deleted added groups =
     let now = parts_are after new.tree ps ex.parts in
@@ -66,18 +67,23 @@ module _ (m : Blocks) (old : Log) (low : Id) (p : Part) (a : low.ms ≡ 0) (b : 
       all-append U n.before n.after (all-front U n.before (p ∷ n.after) split) (all-back U n.before (p ∷ n.after) split).1
 
   -- all of it goes
-  pub node_dropped : (after : Blocks) (new : Log) (count : ℕ) → count ≡ length (live_in p) → Exchanges m after old.tree new.tree (n.before ++ n.after) → IsLeft old.tail new.tail p.key → new.len + count ≡ old.len → new.last ≡ old.last → new.deleted ≡ old.deleted → new.added ≡ old.added → new.groups ≡ old.groups
+  pub node_dropped : (after : Blocks) (new : Log) (count : ℕ) → count ≡ length (live_in p) → Exchanges m after old.tree new.tree (n.before ++ n.after) → IsLeft old.tail new.tail p.key
+      → new.len + count ≡ old.len → new.last ≡ old.last → new.deleted ≡ old.deleted → new.added ≡ old.added → new.groups ≡ old.groups
       → IsChanged m after old new (dropping (stream_of m old) count)
   node_dropped after new count all ex left =
       dropped m after old new count (n.before ++ n.after) is ex
-      (entries-append n.before n.after ∙ ap (λ qs. entries_in qs ++ entries_in n.after) none_before ∙ sym (ap (drop count) first_split ∙ ap (λ k. drop k (live_in p ++ entries_in n.after)) all ∙ drop_front (live_in p) (entries_in n.after)))
+      (entries-append n.before n.after ∙ ap (λ qs. entries_in qs ++ entries_in n.after) none_before
+      ∙ sym (ap (drop count) first_split ∙ ap (λ k. drop k (live_in p ++ entries_in n.after)) all ∙ drop_front (live_in p) (entries_in n.after)))
       upto_after (kept_beside (nodes m old) (n.before ++ n.after) n.before n.before n.after p p.key old.tail new.tail refl n.place refl is.kept left)
 
   -- its first entry goes
-  pub first_dropped : (after : Blocks) (new : Log) (index : ℕ) (e : Stored) (at : IsAt (stored_in p) index e) → live_of at.before ≡ [] → TakesOut m after old.tree new.tree n.before n.after (live_of (at.before ++ at.after)) → IsLeft old.tail new.tail p.key → new.len + 1 ≡ old.len → new.last ≡ old.last → new.deleted ≡ old.deleted → new.added ≡ old.added → new.groups ≡ old.groups
+  pub first_dropped : (after : Blocks) (new : Log) (index : ℕ) (e : Stored) (at : IsAt (stored_in p) index e) → live_of at.before ≡ []
+      → TakesOut m after old.tree new.tree n.before n.after (live_of (at.before ++ at.after)) → IsLeft old.tail new.tail p.key → new.len + 1 ≡ old.len → new.last ≡ old.last
+      → new.deleted ≡ old.deleted → new.added ≡ old.added → new.groups ≡ old.groups
       → IsChanged m after old new (dropping (stream_of m old) 1)
   first_dropped after new index e at none t left =
-      let here : live_in p ≡ plain e ∷ live_of at.after = ap live_of at.place ∙ live-append at.before (e ∷ at.after) ∙ ap (λ xs. xs ++ live_of (e ∷ at.after)) none ∙ live-append (e ∷ []) at.after ∙ ap (λ xs. xs ++ live_of at.after) (live-one e at.live) in
+      let here : live_in p ≡ plain e ∷ live_of at.after = ap live_of at.place ∙ live-append at.before (e ∷ at.after) ∙ ap (λ xs. xs ++ live_of (e ∷ at.after)) none
+      ∙ live-append (e ∷ []) at.after ∙ ap (λ xs. xs ++ live_of at.after) (live-one e at.live) in
       let rest : live_of (at.before ++ at.after) ≡ live_of at.after = live-append at.before at.after ∙ ap (λ xs. xs ++ live_of at.after) none in
       dropped m after old new 1 t.parts is t.exchanges
       (t.entries_are ∙ (λ i. entries_in (none_before i) ++ (rest i ++ entries_in n.after)) ∙ sym (ap (drop 1) (first_split ∙ ap (λ xs. xs ++ entries_in n.after) here)))
@@ -90,7 +96,8 @@ module _ (m : Blocks) (old : Log) (low : Id) (p : Part) (a : low.ms ≡ 0) (b : 
 pub dropped_none : (m : Blocks) (s : Log) → IsStream m s → IsChanged m m s s (dropping (stream_of m s) 0)
 dropped_none m s is = record { is_stream = is; value_is = refl; changes = subst (λ rs. Changes m m rs rs) (sym (refs_are m s.tree (nodes m s) is.parts)) (Changes-same m _ is.parts.owned) }
 
-pub dropped_then : (a b c : Blocks) (old mid new : Log) (j k n : ℕ) → n ≡ j + k → IsChanged a b old mid (dropping (stream_of a old) j) → IsChanged b c mid new (dropping (stream_of b mid) k) → IsChanged a c old new (dropping (stream_of a old) n)
+pub dropped_then : (a b c : Blocks) (old mid new : Log) (j k n : ℕ) → n ≡ j + k → IsChanged a b old mid (dropping (stream_of a old) j)
+    → IsChanged b c mid new (dropping (stream_of b mid) k) → IsChanged a c old new (dropping (stream_of a old) n)
 dropped_then a b c old mid new j k n sum x y = record {
   is_stream = y.is_stream;
   value_is = y.value_is ∙ ap (λ s. dropping s k) x.value_is ∙ ap (λ es. record (stream_of a old) { entries = es }) (drop_more j k (entries a old) ∙ ap (λ i. drop i (entries a old)) (sym sum));

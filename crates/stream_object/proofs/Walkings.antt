@@ -59,7 +59,8 @@ marks_many m tree =
     )
 
 -- no mark lies between an id and the nearest key
-pub near_beside : (m : Blocks) (tree : PackedTree) (at : Id) (p : Part) → HasParts m tree (parts_of m tree) → IsNear true (parts_of m tree) at p → AllByRecursion (IsBeside (id_number at) (id_number p.key)) (tree_marks m tree)
+pub near_beside : (m : Blocks) (tree : PackedTree) (at : Id) (p : Part) → HasParts m tree (parts_of m tree) → IsNear true (parts_of m tree) at p
+    → AllByRecursion (IsBeside (id_number at) (id_number p.key)) (tree_marks m tree)
 near_beside m tree at p h near =
     let beside : Part → Type 0 = λ q. IsBeside (id_number at) (id_number p.key) (id_number q.key) in
     let each = subst (AllByRecursion (IsPart m)) near.place h.each in
@@ -70,7 +71,8 @@ near_beside m tree at p h near =
     tree_all m tree (parts_of m tree) (IsBeside (id_number at) (id_number p.key)) h (subst (AllByRecursion beside) (sym near.place) (all-append beside near.before (p ∷ near.after) front (mine, back)))
 
 -- all marks are below an id
-pub all_below : (m : Blocks) (tree : PackedTree) (at : Id) → HasParts m tree (parts_of m tree) → AllByRecursion (Misses true at) (parts_of m tree) → AllByRecursion (λ k. k < id_number at) (tree_marks m tree)
+pub all_below : (m : Blocks) (tree : PackedTree) (at : Id) → HasParts m tree (parts_of m tree) → AllByRecursion (Misses true at) (parts_of m tree)
+    → AllByRecursion (λ k. k < id_number at) (tree_marks m tree)
 all_below m tree at h none = tree_all m tree (parts_of m tree) (λ k. k < id_number at) h none
 
 -- no mark is above the greatest id's
@@ -79,7 +81,8 @@ all_small m tree n last h =
     tree_all m tree (parts_of m tree) (λ k. k < n + 1) h (all-weaker (IsPart m) (λ (p : Part). id_number p.key < n + 1) (parts_of m tree) (λ p is. omega (arith, last, is.id.ms, is.id.seq)) h.each)
 
 -- a stream over a tree whose blocks have moved
-pub relocated : (m after : Blocks) (old new : Log) → IsStream m old → Moves m after old.tree new.tree → new.len ≡ old.len → new.last ≡ old.last → new.deleted ≡ old.deleted → new.added ≡ old.added → new.groups ≡ old.groups → new.tail ≡ None → IsRelocated m after old new
+pub relocated : (m after : Blocks) (old new : Log) → IsStream m old → Moves m after old.tree new.tree → new.len ≡ old.len → new.last ≡ old.last → new.deleted ≡ old.deleted
+    → new.added ≡ old.added → new.groups ≡ old.groups → new.tail ≡ None → IsRelocated m after old new
 relocated m after old new is moves len last deleted added groups tail =
     let same = same_entries (parts_of m old.tree) (parts_of after new.tree) moves.same in
     record {

@@ -86,7 +86,8 @@ module _ (from to : Id) (ff : IsId from) (ft : IsId to) where
 
   low_none : (es : List Stored) → AllByRecursion (λ e. IsId e.id) es → AllByRecursion (λ e. id_number e.id < id_number from) es → filter test (live_of es) ≡ []
   low_none es ids less =
-      filter_none test (live_of es) (all_live (λ e. test e ≡ false) es (all_both (λ (e : Stored). IsId e.id) (λ e. id_number e.id < id_number from) (λ e. test (plain e) ≡ false) es below_from ids less))
+      filter_none test (live_of es)
+      (all_live (λ e. test e ≡ false) es (all_both (λ (e : Stored). IsId e.id) (λ e. id_number e.id < id_number from) (λ e. test (plain e) ≡ false) es below_from ids less))
 
   high_none : (es : List Stored) → AllByRecursion (λ e. IsId e.id) es → AllByRecursion (λ e. id_number to < id_number e.id) es → filter test (live_of es) ≡ []
   high_none es ids more =
@@ -109,7 +110,8 @@ module _ (from to : Id) (ff : IsId from) (ft : IsId to) where
     parts_low [] after p each r upto = refl
     parts_low (q ∷ ps) after p each r upto =
         let ends = (all-back (EndsBefore q) ps (p ∷ after) r.0).0 in
-        let here = low_none (stored_in q) (part_ids m q each.0) (all-weaker (λ (e : Stored). id_number e.id < id_number p.key) (λ e. id_number e.id < id_number from) (stored_in q) (λ e less. omega (arith, upto)) ends) in
+        let here = low_none (stored_in q) (part_ids m q each.0)
+        (all-weaker (λ (e : Stored). id_number e.id < id_number p.key) (λ e. id_number e.id < id_number from) (stored_in q) (λ e less. omega (arith, upto)) ends) in
         joined q ps ∙ (λ i. here i ++ parts_low ps after p each.1 r.1 upto i)
 
     -- nodes above the upper id have nothing that is wanted
@@ -143,29 +145,46 @@ module _ (m : Blocks) (before after : List Part) (p : Part) (each : AllByRecursi
   pub up_from : (at : Id) → AllByRecursion (λ q. id_number q.key < id_number at) before → id_number at ≤ id_number p.key → filter (is_ahead false at) (before ++ p ∷ after) ≡ p ∷ after
   up_from at less upto =
       filter-append (is_ahead false at) before (p ∷ after)
-      ∙ (λ i. filter_none (is_ahead false at) before (all-weaker (λ (q : Part). id_number q.key < id_number at) (λ q. is_ahead false at q ≡ false) before (λ q h. less_test (id_number q.key) (id_number at) h) less) i
-      ++ filter_all (is_ahead false at) (p ∷ after) (upto_test (id_number at) (id_number p.key) upto, all-weaker (λ (q : Part). id_number p.key < id_number q.key) (λ q. is_ahead false at q ≡ true) after (λ q h. upto_test (id_number at) (id_number q.key) (omega (arith, upto, h))) keys_after) i)
+      ∙
+      (λ i. filter_none (is_ahead false at) before
+      (all-weaker (λ (q : Part). id_number q.key < id_number at) (λ q. is_ahead false at q ≡ false) before (λ q h. less_test (id_number q.key) (id_number at) h) less) i
+      ++ filter_all (is_ahead false at) (p ∷ after) (
+        upto_test (id_number at) (id_number p.key) upto,
+        all-weaker (λ (q : Part). id_number p.key < id_number q.key) (λ q. is_ahead false at q ≡ true) after
+            (λ q h. upto_test (id_number at) (id_number q.key) (omega (arith, upto, h))) keys_after,
+      ) i)
 
   pub up_behind : (at : Id) → id_number at ≡ id_number p.key + 1 → filter (is_ahead false at) (before ++ p ∷ after) ≡ after
   up_behind at is =
       filter-append (is_ahead false at) before (p ∷ after)
-      ∙ (λ i. filter_none (is_ahead false at) before (all-weaker (λ (q : Part). id_number q.key < id_number p.key) (λ q. is_ahead false at q ≡ false) before (λ q h. less_test (id_number q.key) (id_number at) (omega (arith, is, h))) keys_before) i
+      ∙
+      (λ i. filter_none (is_ahead false at) before
+      (all-weaker (λ (q : Part). id_number q.key < id_number p.key) (λ q. is_ahead false at q ≡ false) before (λ q h. less_test (id_number q.key) (id_number at) (omega (arith, is, h)))
+      keys_before) i
       ++ filter (is_ahead false at) (p ∷ after))
       ∙ cond-false _ (p ∷ filter (is_ahead false at) after) (filter (is_ahead false at) after) (less_test (id_number p.key) (id_number at) (omega (arith, is)))
-      ∙ filter_all (is_ahead false at) after (all-weaker (λ (q : Part). id_number p.key < id_number q.key) (λ q. is_ahead false at q ≡ true) after (λ q h. upto_test (id_number at) (id_number q.key) (omega (arith, is, h))) keys_after)
+      ∙ filter_all (is_ahead false at) after
+      (all-weaker (λ (q : Part). id_number p.key < id_number q.key) (λ q. is_ahead false at q ≡ true) after (λ q h. upto_test (id_number at) (id_number q.key) (omega (arith, is, h)))
+      keys_after)
 
   none_after : (at : Id) → id_number at ≤ id_number p.key → filter (is_ahead true at) after ≡ []
-  none_after at upto = filter_none (is_ahead true at) after (all-weaker (λ (q : Part). id_number p.key < id_number q.key) (λ q. is_ahead true at q ≡ false) after (λ q h. less_test (id_number at) (id_number q.key) (omega (arith, upto, h))) keys_after)
+  none_after at upto = filter_none (is_ahead true at) after
+      (all-weaker (λ (q : Part). id_number p.key < id_number q.key) (λ q. is_ahead true at q ≡ false) after (λ q h. less_test (id_number at) (id_number q.key) (omega (arith, upto, h)))
+      keys_after)
 
   all_before : (at : Id) → id_number p.key ≤ id_number at + 1 → filter (is_ahead true at) before ≡ before
-  all_before at upto = filter_all (is_ahead true at) before (all-weaker (λ (q : Part). id_number q.key < id_number p.key) (λ q. is_ahead true at q ≡ true) before (λ q h. upto_test (id_number q.key) (id_number at) (omega (arith, upto, h))) keys_before)
+  all_before at upto = filter_all (is_ahead true at) before
+      (all-weaker (λ (q : Part). id_number q.key < id_number p.key) (λ q. is_ahead true at q ≡ true) before (λ q h. upto_test (id_number q.key) (id_number at) (omega (arith, upto, h)))
+      keys_before)
 
   down_from : (at : Id) → id_number p.key ≤ id_number at → AllByRecursion (λ q. id_number at < id_number q.key) after → filter (is_ahead true at) (before ++ p ∷ after) ≡ before ++ p ∷ []
   down_from at upto more =
       filter-append (is_ahead true at) before (p ∷ after)
       ∙ (λ i. all_before at (omega (arith, upto)) i ++ filter (is_ahead true at) (p ∷ after))
       ∙ ap (λ qs. before ++ qs) (cond-true _ (p ∷ filter (is_ahead true at) after) (filter (is_ahead true at) after) (upto_test (id_number p.key) (id_number at) upto)
-      ∙ ap (λ qs. p ∷ qs) (filter_none (is_ahead true at) after (all-weaker (λ (q : Part). id_number at < id_number q.key) (λ q. is_ahead true at q ≡ false) after (λ q h. less_test (id_number at) (id_number q.key) h) more)))
+      ∙ ap (λ qs. p ∷ qs)
+      (filter_none (is_ahead true at) after
+      (all-weaker (λ (q : Part). id_number at < id_number q.key) (λ q. is_ahead true at q ≡ false) after (λ q h. less_test (id_number at) (id_number q.key) h) more)))
 
   down_behind : (at : Id) → id_number at + 1 ≡ id_number p.key → filter (is_ahead true at) (before ++ p ∷ after) ≡ before
   down_behind at is =
@@ -191,19 +210,22 @@ module _ (m : Blocks) (from to : Id) (limit : ℕ) (ff : IsId from) (ft : IsId t
   -- no node comes any more
   pub goes_nowhere : (back : Bool) (found : List Owned) → length found ≤ limit → AllByRecursion (Misses (not back) at) ps → Goes (want from to back limit) ps at found found None
   goes_nowhere false found within miss = record {
-    same = ap (λ qs. take limit (map taken found ++ wanted_in (want from to false limit) qs)) (sym (filter_none (is_ahead false at) ps (all-weaker (Misses true at) (λ q. is_ahead false at q ≡ false) ps (λ q h. less_test (id_number q.key) (id_number at) h) miss)));
+    same = ap (λ qs. take limit (map taken found ++ wanted_in (want from to false limit) qs))
+        (sym (filter_none (is_ahead false at) ps (all-weaker (Misses true at) (λ q. is_ahead false at q ≡ false) ps (λ q h. less_test (id_number q.key) (id_number at) h) miss)));
     within = within;
     fewer = omega arith;
   }
   goes_nowhere true found within miss = record {
-    same = ap (λ qs. take limit (map taken found ++ wanted_in (want from to true limit) qs)) (sym (filter_none (is_ahead true at) ps (all-weaker (Misses false at) (λ q. is_ahead true at q ≡ false) ps (λ q h. less_test (id_number at) (id_number q.key) h) miss)));
+    same = ap (λ qs. take limit (map taken found ++ wanted_in (want from to true limit) qs))
+        (sym (filter_none (is_ahead true at) ps (all-weaker (Misses false at) (λ q. is_ahead true at q ≡ false) ps (λ q h. less_test (id_number at) (id_number q.key) h) miss)));
     within = within;
     fewer = omega arith;
   }
 
   module _ (p : Part) where
     -- the nodes that a walk has before it, and those behind the next one
-    from_here : (back : Bool) (n : IsNear (not back) ps at p) → wanted_in (want from to back limit) (ahead back (Some at) ps) ≡ wanted_of (want from to back limit) (live_in p) ++ wanted_in (want from to back limit) (rest back n.before n.after)
+    from_here : (back : Bool) (n : IsNear (not back) ps at p) → wanted_in (want from to back limit) (ahead back (Some at) ps) ≡ wanted_of (want from to back limit) (live_in p)
+        ++ wanted_in (want from to back limit) (rest back n.before n.after)
     from_here false n =
         ap (λ qs. wanted_in (want from to false limit) (filter (is_ahead false at) qs)) n.place
         ∙ ap (wanted_in (want from to false limit)) (up_from m n.before n.after p (subst (AllByRecursion (IsPart m)) n.place each) (subst Rising n.place rising) at n.passes n.reaches)
@@ -231,11 +253,13 @@ module _ (m : Blocks) (from to : Id) (limit : ℕ) (ff : IsId from) (ft : IsId t
     none_behind false n is =
         let all = subst (AllByRecursion (IsPart m)) n.place each in
         parts_high from to ff ft m n.after (all-back (IsPart m) n.before (p ∷ n.after) all).1
-        (all-weaker (λ (q : Part). id_number p.key < id_number q.key) (λ q. id_number to < id_number q.key) n.after (λ q h. omega (arith, is, h)) (keys_after m n.before n.after p all (subst Rising n.place rising)))
+        (all-weaker (λ (q : Part). id_number p.key < id_number q.key) (λ q. id_number to < id_number q.key) n.after (λ q h. omega (arith, is, h))
+        (keys_after m n.before n.after p all (subst Rising n.place rising)))
     none_behind true n is =
         ap reverse (parts_low from to ff ft m n.before n.after p (all-front (IsPart m) n.before (p ∷ n.after) (subst (AllByRecursion (IsPart m)) n.place each)) (subst Rising n.place rising) is)
 
-    module _ (back : Bool) (n : IsNear (not back) ps at p) (old new : List Owned) (has : map taken new ≡ take limit (map taken old ++ wanted_of (want from to back limit) (live_in p))) (within : length new ≤ limit) where
+    module _ (back : Bool) (n : IsNear (not back) ps at p) (old new : List Owned) (has : map taken new ≡ take limit (map taken old ++ wanted_of (want from to back limit) (live_in p)))
+        (within : length new ≤ limit) where
       abbrev pub w : Wanted
       w = want from to back limit
 
@@ -279,7 +303,9 @@ module _ (m : Blocks) (from to : Id) (limit : ℕ) (ff : IsId from) (ft : IsId t
 
   pub begins_first : AllByRecursion (Misses false from) ps → wanted_in (want from to false limit) (ahead false (Some from) ps) ≡ wanted_in (want from to false limit) ps
   begins_first miss =
-      ap (wanted_in (want from to false limit)) (filter_all (is_ahead false from) ps (all-weaker (Misses false from) (λ q. is_ahead false from q ≡ true) ps (λ q h. upto_test (id_number from) (id_number q.key) (omega (arith, h))) miss))
+      ap (wanted_in (want from to false limit))
+      (filter_all (is_ahead false from) ps
+      (all-weaker (Misses false from) (λ q. is_ahead false from q ≡ true) ps (λ q h. upto_test (id_number from) (id_number q.key) (omega (arith, h))) miss))
 
   pub begins_near : (p : Part) → IsNear false ps from p → wanted_in (want from to false limit) (ahead false (Some p.key) ps) ≡ wanted_in (want from to false limit) ps
   begins_near p n =
@@ -288,10 +314,13 @@ module _ (m : Blocks) (from to : Id) (limit : ℕ) (ff : IsId from) (ft : IsId t
       ap (λ qs. filter (is_between from to) (entries_in (filter (is_ahead false p.key) qs))) n.place
       ∙ ap (λ qs. filter (is_between from to) (entries_in qs)) (up_from m n.before n.after p all rises p.key (keys_before m n.before n.after p all rises) (omega arith))
       ∙ ap (λ es. es ++ filter (is_between from to) (entries_in (p ∷ n.after))) (sym (parts_low from to ff ft m n.before n.after p (all-front (IsPart m) n.before (p ∷ n.after) all) rises n.reaches))
-      ∙ sym (ap (λ qs. filter (is_between from to) (entries_in qs)) n.place ∙ ap (filter (is_between from to)) (entries-append n.before (p ∷ n.after)) ∙ filter-append (is_between from to) (entries_in n.before) (entries_in (p ∷ n.after)))
+      ∙ sym
+      (ap (λ qs. filter (is_between from to) (entries_in qs)) n.place ∙ ap (filter (is_between from to)) (entries-append n.before (p ∷ n.after))
+      ∙ filter-append (is_between from to) (entries_in n.before) (entries_in (p ∷ n.after)))
 
 -- a walk that has ended has found all
-pub ended : (w : Wanted) (ps : List Part) (found : List Owned) (all : List StreamEntry) (next : Option Id) → next ≡ None → length found ≤ w.limit → take w.limit (map taken found ++ wanted_in w (ahead w.back next ps)) ≡ all → map taken found ≡ all
+pub ended : (w : Wanted) (ps : List Part) (found : List Owned) (all : List StreamEntry) (next : Option Id) → next ≡ None → length found ≤ w.limit
+    → take w.limit (map taken found ++ wanted_in w (ahead w.back next ps)) ≡ all → map taken found ≡ all
 ended w ps found all next none within is =
     sym (take_all w.limit (map taken found) (omega (arith, within, length-map found taken)))
     ∙ ap (take w.limit) (sym (append-nil (map taken found)))

@@ -47,7 +47,8 @@ last_highest (e ∷ []) first last s is =
 last_highest (e ∷ f ∷ es) first last s is = let more = last_highest (f ∷ es) (pair_of e.id) last s.1 is in (omega (arith, s.0.0, more.0), more)
 
 -- the key isn't above the last of some entries that aren't below it
-from_last : (es : List Stored) (key last : Id) → 0 < length es → AllByRecursion (λ e. id_number key ≤ id_number e.id) es → AllByRecursion (λ e. id_number e.id ≤ id_number last) es → id_number key ≤ id_number last
+from_last : (es : List Stored) (key last : Id) → 0 < length es → AllByRecursion (λ e. id_number key ≤ id_number e.id) es → AllByRecursion (λ e. id_number e.id ≤ id_number last) es
+    → id_number key ≤ id_number last
 from_last [] key last some low high = absurd (omega arith)
 from_last (e ∷ es) key last some low high = omega (arith, low.0, high.0)
 
@@ -66,7 +67,8 @@ last_whatever a b [] some = absurd (omega arith)
 last_whatever a b (e ∷ es) some = refl
 
 -- what the tests tell of a node
-pub whole_node : (key : Id) (bytes : List ℕ) (last : Id) → IsFileNode key bytes → 0 < length (entries_of key (texts bytes)) → length (entries_of key (texts bytes)) ≤ 100 → AllByRecursion (MayStand key) (entries_of key (texts bytes))
+pub whole_node : (key : Id) (bytes : List ℕ) (last : Id) → IsFileNode key bytes → 0 < length (entries_of key (texts bytes)) → length (entries_of key (texts bytes)) ≤ 100
+    → AllByRecursion (MayStand key) (entries_of key (texts bytes))
     → pair_of last ≡ last_of (pair_of key) (entries_of key (texts bytes)) → IsWhole key bytes last
 whole_node key bytes last f some few stand end =
     let es = entries_of key (texts bytes) in
@@ -89,7 +91,8 @@ some_both (Some x) f p q = f x p q
 some_both None f p q = tt
 
 -- a node placed behind all others as it is
-module _ (m after : Blocks) (old new : Log) (key : Id) (bytes : List ℕ) (last : Id) (is : IsStream m old) (below : AreBelow key (nodes m old)) (w : IsWhole key bytes last) (at : BlockRef) (comes : Comes m after old.tree new.tree key bytes at) where
+module _ (m after : Blocks) (old new : Log) (key : Id) (bytes : List ℕ) (last : Id) (is : IsStream m old) (below : AreBelow key (nodes m old)) (w : IsWhole key bytes last) (at : BlockRef)
+    (comes : Comes m after old.tree new.tree key bytes at) where
   placed : Exchanges m after old.tree new.tree (nodes m old ++ part key at bytes ∷ [])
   placed = comes w.is_node (rising_push (nodes m old) (part key at bytes) is.parts.rising below)
 
@@ -110,7 +113,8 @@ module _ (m after : Blocks) (old new : Log) (key : Id) (bytes : List ℕ) (last 
       all-append (λ (p : Part). AllByRecursion (λ e. id_number e.id ≤ id_number last) (stored_in p)) (nodes m old) (part key at bytes ∷ [])
       (below_upto key last (nodes m old) (from_last (entries_of key (texts bytes)) key last some w.is_node.from high) below) (high, tt)
 
-  pub whole_loaded : IsId last → new.len ≡ old.len + length (entries_of key (texts bytes)) → new.last ≡ last → new.deleted ≡ old.deleted → new.added ≡ old.added → new.groups ≡ old.groups → new.tail ≡ Some (record { key = key; at = at }) → IsChanged m after old new (loaded (stream_of m old) (entries_of key (texts bytes)))
+  pub whole_loaded : IsId last → new.len ≡ old.len + length (entries_of key (texts bytes)) → new.last ≡ last → new.deleted ≡ old.deleted → new.added ≡ old.added → new.groups ≡ old.groups
+      → new.tail ≡ Some (record { key = key; at = at }) → IsChanged m after old new (loaded (stream_of m old) (entries_of key (texts bytes)))
   whole_loaded fits len end deleted count groups tail =
       let es = entries_of key (texts bytes) in
       let last_now : pair_of new.last ≡ last_of (pair_of old.last) es = ap pair_of end ∙ w.last_is ∙ last_whatever (pair_of key) (pair_of old.last) es some in
@@ -129,7 +133,8 @@ module _ (m after : Blocks) (old new : Log) (key : Id) (bytes : List ℕ) (last 
   pub whole_upto : (id : Id) → AreUpto id (nodes m old) → AreLiveUpto id (entries_of key (texts bytes)) → AreUpto id (nodes after new)
   whole_upto id before live =
       subst (AreUpto id) (sym now)
-      (all-append (λ (p : Part). AllByRecursion (λ e. id_number e.id ≤ id_number id) (stored_in p)) (nodes m old) (part key at bytes ∷ []) before (live_upto id (entries_of key (texts bytes)) w.live live, tt))
+      (all-append (λ (p : Part). AllByRecursion (λ e. id_number e.id ≤ id_number id) (stored_in p)) (nodes m old) (part key at bytes ∷ []) before
+      (live_upto id (entries_of key (texts bytes)) w.live live, tt))
 
 -- what two things that a refusal tells make together
 pub on_err : {A E P Q R : Type 0} (r : Result A E) → (P → Q → R) → OnErr r P → OnErr r Q → OnErr r R

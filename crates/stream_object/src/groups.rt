@@ -119,7 +119,8 @@ impl Stream {
     ) -> Result<Option<()>, Memory>
         requires { IfSome (get self.old.groups name.now) (λ group. IsTrue (has_consumer consumer.now group)) }
         ensures there { IfOk result (λ there. is_some there ≡ contains_key self.old.groups name.now) }
-        ensures ok { OnOk result (self.new ≡ record self.old { groups = changed self.old.groups name.now (with_pending (pair_of id) (record { consumer = consumer.now; moment = moment; count = count })) }) }
+        ensures ok { OnOk result
+            (self.new ≡ record self.old { groups = changed self.old.groups name.now (with_pending (pair_of id) (record { consumer = consumer.now; moment = moment; count = count })) }) }
         ensures err { OnErr result (self.new ≡ self.old) }
     {
         self.groups

@@ -70,9 +70,12 @@ impl Stream {
         requires is_node { IsFileNode key pack.now }
         requires above { AreAbove (nodes (B.blocks store.old) self.old) (entries_of key (texts pack.now)) }
         ensures loaded { OnOk result (IsChanged (B.blocks store.old) (B.blocks store.new) self.old self.new (loaded (stream_of (B.blocks store.old) self.old) (entries_of key (texts pack.now)))) }
-        ensures upto { OnOk result ((id : Id) → AreUpto id (nodes (B.blocks store.old) self.old) → AreLiveUpto id (entries_of key (texts pack.now)) → AreUpto id (nodes (B.blocks store.new) self.new)) }
+        ensures upto { OnOk result
+            ((id : Id) → AreUpto id (nodes (B.blocks store.old) self.old) → AreLiveUpto id (entries_of key (texts pack.now)) → AreUpto id (nodes (B.blocks store.new) self.new)) }
         ensures served { Served B.step store.old store.new }
-        ensures err_some { OnErr result ((n : ℕ) × (n ≤ length (entries_of key (texts pack.now))) × IsChanged (B.blocks store.old) (B.blocks store.new) self.old self.new (loaded (stream_of (B.blocks store.old) self.old) (take n (entries_of key (texts pack.now))))) }
+        ensures err_some { OnErr result
+            ((n : ℕ) × (n ≤ length (entries_of key (texts pack.now))) × IsChanged (B.blocks store.old) (B.blocks store.new) self.old self.new
+            (loaded (stream_of (B.blocks store.old) self.old) (take n (entries_of key (texts pack.now))))) }
     {
         for entry in listed(key, pack) {
             self.load_entry(store, &entry)?;
@@ -92,7 +95,8 @@ impl Stream {
         requires below { IsBelow self.old.last key }
         requires whole { IsWhole key pack.now last }
         ensures loaded { OnOk result (IsChanged (B.blocks store.old) (B.blocks store.new) self.old self.new (loaded (stream_of (B.blocks store.old) self.old) (entries_of key (texts pack.now)))) }
-        ensures upto { OnOk result ((id : Id) → AreUpto id (nodes (B.blocks store.old) self.old) → AreLiveUpto id (entries_of key (texts pack.now)) → AreUpto id (nodes (B.blocks store.new) self.new)) }
+        ensures upto { OnOk result
+            ((id : Id) → AreUpto id (nodes (B.blocks store.old) self.old) → AreLiveUpto id (entries_of key (texts pack.now)) → AreUpto id (nodes (B.blocks store.new) self.new)) }
         ensures served { Served B.step store.old store.new }
         ensures err_stream { OnErr result (self.new ≡ self.old) }
         ensures err_blocks { OnErr result (B.blocks store.new ≡ B.blocks store.old) }
@@ -141,9 +145,12 @@ impl Stream {
         requires is_node { IsFileNode key pack.now }
         requires above { AreAbove (nodes (B.blocks store.old) self.old) (entries_of key (texts pack.now)) }
         ensures loaded { OnOk result (IsChanged (B.blocks store.old) (B.blocks store.new) self.old self.new (loaded (stream_of (B.blocks store.old) self.old) (entries_of key (texts pack.now)))) }
-        ensures upto { OnOk result ((id : Id) → AreUpto id (nodes (B.blocks store.old) self.old) → AreLiveUpto id (entries_of key (texts pack.now)) → AreUpto id (nodes (B.blocks store.new) self.new)) }
+        ensures upto { OnOk result
+            ((id : Id) → AreUpto id (nodes (B.blocks store.old) self.old) → AreLiveUpto id (entries_of key (texts pack.now)) → AreUpto id (nodes (B.blocks store.new) self.new)) }
         ensures served { Served B.step store.old store.new }
-        ensures err_some { OnErr result ((n : ℕ) × (n ≤ length (entries_of key (texts pack.now))) × IsChanged (B.blocks store.old) (B.blocks store.new) self.old self.new (loaded (stream_of (B.blocks store.old) self.old) (take n (entries_of key (texts pack.now))))) }
+        ensures err_some { OnErr result
+            ((n : ℕ) × (n ≤ length (entries_of key (texts pack.now))) × IsChanged (B.blocks store.old) (B.blocks store.new) self.old self.new
+            (loaded (stream_of (B.blocks store.old) self.old) (take n (entries_of key (texts pack.now))))) }
     {
         match self.end_behind(key, pack) {
             Some(last) => self.load_whole(store, key, pack, last),

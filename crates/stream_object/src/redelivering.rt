@@ -75,8 +75,11 @@ impl Stream {
         moment: u64,
     ) -> Result<Option<Vec<Again>>, Memory>
         requires { IsStream (B.blocks store.now) self.old }
-        ensures given { IfOk result (λ given. option_map (λ found. map told found.items) given ≡ option_map (waiting (entries (B.blocks store.now) self.old) consumer.now (pair_of above) limit) (get self.old.groups name.now)) }
-        ensures ok { OnOk result (self.new ≡ record self.old { groups = changed self.old.groups name.now (handed_again (entries (B.blocks store.now) self.old) consumer.now (pair_of above) limit moment) }) }
+        ensures given { IfOk result
+            (λ given. option_map (λ found. map told found.items) given ≡ option_map (waiting (entries (B.blocks store.now) self.old) consumer.now (pair_of above) limit)
+            (get self.old.groups name.now)) }
+        ensures ok { OnOk result
+            (self.new ≡ record self.old { groups = changed self.old.groups name.now (handed_again (entries (B.blocks store.now) self.old) consumer.now (pair_of above) limit moment) }) }
         ensures err { OnErr result (self.new ≡ self.old) }
     {
         let Some(ids) = self.groups.pending_of(name, consumer, pair(above), limit)? else {

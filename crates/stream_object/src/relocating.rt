@@ -24,7 +24,8 @@ fn pass_key<B: BlockStore>(store: &mut B, tree: &mut PackedTree, key: Id, at: Bl
     requires parts { HasParts (B.blocks store.old) tree.old (parts_of (B.blocks store.old) tree.old) }
     requires stands { Stands (parts_of (B.blocks store.old) tree.old) key at }
     ensures moves { Moves (B.blocks store.old) (B.blocks store.new) tree.old tree.new }
-    ensures passed { PassesAll (B.heap store.new) (λ n. n == id_number key) (tree_marks (B.blocks store.old) tree.old) (all_refs (B.blocks store.old) tree.old) (all_refs (B.blocks store.new) tree.new) }
+    ensures passed { PassesAll (B.heap store.new) (λ n. n == id_number key) (tree_marks (B.blocks store.old) tree.old) (all_refs (B.blocks store.old) tree.old)
+        (all_refs (B.blocks store.new) tree.new) }
     ensures count { result ≡ count_by (λ n. n == id_number key) (tree_marks (B.blocks store.old) tree.old) }
     ensures few { result ≤ 18 }
     ensures calmer { Calmer (B.heap store.old) (B.heap store.new) }
@@ -60,7 +61,8 @@ fn pass_keys<B: BlockStore>(store: &mut B, tree: &mut PackedTree, from: u128, ro
     requires parts { HasParts (B.blocks store.old) tree.old (parts_of (B.blocks store.old) tree.old) }
     requires room { 32 ≤ room }
     ensures moves { Moves (B.blocks store.old) (B.blocks store.new) tree.old tree.new }
-    ensures passed { PassesAll (B.heap store.new) (is_passed from result.next) (tree_marks (B.blocks store.old) tree.old) (all_refs (B.blocks store.old) tree.old) (all_refs (B.blocks store.new) tree.new) }
+    ensures passed { PassesAll (B.heap store.new) (is_passed from result.next) (tree_marks (B.blocks store.old) tree.old) (all_refs (B.blocks store.old) tree.old)
+        (all_refs (B.blocks store.new) tree.new) }
     ensures bounded { IsBounded (tree_marks (B.blocks store.old) tree.old) from room result }
     ensures calmer { Calmer (B.heap store.old) (B.heap store.new) }
 {

@@ -69,9 +69,13 @@ impl Stream {
     pub fn trim_len<B: BlockStore>(&mut self, store: &mut B, keep: u64) -> Result<u64, Memory>
         requires { IsStream (B.blocks store.old) self.old }
         ensures count { IfOk result (λ n. n ≡ length (entries (B.blocks store.old) self.old) - keep) }
-        ensures trimmed { OnOk result (IsChanged (B.blocks store.old) (B.blocks store.new) self.old self.new (dropping (stream_of (B.blocks store.old) self.old) (length (entries (B.blocks store.old) self.old) - keep))) }
+        ensures trimmed { OnOk result
+            (IsChanged (B.blocks store.old) (B.blocks store.new) self.old self.new
+            (dropping (stream_of (B.blocks store.old) self.old) (length (entries (B.blocks store.old) self.old) - keep))) }
         ensures served { Served B.step store.old store.new }
-        ensures err_some { OnErr result ((n : ℕ) × (n ≤ length (entries (B.blocks store.old) self.old) - keep) × IsChanged (B.blocks store.old) (B.blocks store.new) self.old self.new (dropping (stream_of (B.blocks store.old) self.old) n)) }
+        ensures err_some { OnErr result
+            ((n : ℕ) × (n ≤ length (entries (B.blocks store.old) self.old) - keep)
+            × IsChanged (B.blocks store.old) (B.blocks store.new) self.old self.new (dropping (stream_of (B.blocks store.old) self.old) n)) }
     {
         let count = self.len.saturating_sub(keep);
         self.drop_front(store, count)?;
@@ -96,7 +100,9 @@ impl Stream {
         ensures count { IfOk result (λ n. n ≡ count_low least (entries (B.blocks store.old) self.old)) }
         ensures trimmed { OnOk result (IsChanged (B.blocks store.old) (B.blocks store.new) self.old self.new (from_id (stream_of (B.blocks store.old) self.old) least)) }
         ensures served { Served B.step store.old store.new }
-        ensures err_some { OnErr result ((n : ℕ) × (n ≤ count_low least (entries (B.blocks store.old) self.old)) × IsChanged (B.blocks store.old) (B.blocks store.new) self.old self.new (dropping (stream_of (B.blocks store.old) self.old) n)) }
+        ensures err_some { OnErr result
+            ((n : ℕ) × (n ≤ count_low least (entries (B.blocks store.old) self.old))
+            × IsChanged (B.blocks store.old) (B.blocks store.new) self.old self.new (dropping (stream_of (B.blocks store.old) self.old) n)) }
     {
         let len = self.len;
         'nodes: loop {

@@ -21,20 +21,30 @@ text-own a b (Number n) same = refl
 text-own a b (Whole slot slab) same = ap (λ o. unwrap_or o []) (same (block slot slab) (omega (arith, one_self (block slot slab))))
 text-own a b (Raw slot slab) same = ap (λ o. unwrap_or o []) (same (block slot slab) (omega (arith, one_self (block slot slab))))
 
-pub text-beside : (m n : Blocks) (at : BlockRef) (content : Option (List ℕ)) (text : Text) → Owned (text_refs text) m → m at ≡ None → n ≡ with_block m at content → text_bytes n text ≡ text_bytes m text
+pub text-beside : (m n : Blocks) (at : BlockRef) (content : Option (List ℕ)) (text : Text) → Owned (text_refs text) m → m at ≡ None → n ≡ with_block m at content
+    → text_bytes n text ≡ text_bytes m text
 text-beside m n at content text own fresh is = text-own m n text (λ r isin. ap (λ k. k r) is ∙ with_block-other m at r content (apart_live m r at (live-is m r (omega (arith, own r, isin))) fresh))
 
 text-others : (a b : Blocks) (text : Text) (old new : List BlockRef) → Owned (text_refs text ++ old) a → Changes a b old new → text_bytes b text ≡ text_bytes a text
-text-others a b text old new own p = text-own a b text (λ r isin. Owned-others a b old new (text_refs text ++ old) own p r (omega (arith, isin, times-append r (text_refs text) old)) (omega (arith, isin, own r, times-append r (text_refs text) old, live-once a r)))
+text-others a b text old new own p = text-own a b text
+    (λ r isin. Owned-others a b old new (text_refs text ++ old) own p r (omega (arith, isin, times-append r (text_refs text) old))
+    (omega (arith, isin, own r, times-append r (text_refs text) old, live-once a r)))
 
 text-stays : (a b : Blocks) (text : Text) (old new : List BlockRef) → Owned (text_refs text ++ old) a → Changes a b old new → Owned (text_refs text ++ new) b
-text-stays a b text old new own p r = omega (arith, own r, times-append r (text_refs text) old, times-append r (text_refs text) new, (Counts-changed a b old new (λ q. omega (arith, own q, times-append q (text_refs text) old)) p).balance r)
+text-stays a b text old new own p r = omega (
+  arith,
+  own r,
+  times-append r (text_refs text) old,
+  times-append r (text_refs text) new,
+  (Counts-changed a b old new (λ q. omega (arith, own q, times-append q (text_refs text) old)) p).balance r,
+)
 
 pub text_laws_hold : TextLaws
 text_laws_hold = record { own = text-own; others = text-others; stays = text-stays }
 
 -- the string that stands in a written block
-pub text_written : (m n : Blocks) (at : BlockRef) (start : ℕ) (piece whole : List ℕ) (text : Text) → text ≡ Raw at.slot at.slab → m at ≡ Some whole → n ≡ with_block m at (Some (overwritten (bytes_at m at) start piece)) → text_bytes n text ≡ overwritten whole start piece
+pub text_written : (m n : Blocks) (at : BlockRef) (start : ℕ) (piece whole : List ℕ) (text : Text) → text ≡ Raw at.slot at.slab → m at ≡ Some whole
+    → n ≡ with_block m at (Some (overwritten (bytes_at m at) start piece)) → text_bytes n text ≡ overwritten whole start piece
 text_written m n at start piece whole text here was is =
     ap (text_bytes n) here
     ∙ ap (λ k. bytes_at k at) is

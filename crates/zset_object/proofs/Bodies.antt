@@ -50,7 +50,8 @@ pack_len m limits seed body p is sound =
 
 -- ---- another body was placed, and the blocks of the old one were given back
 
-pub body_changed : (a b c : Blocks) (s : Scored) (body : Body) (map : ScoreMap) → IsScored a s → IsPlacedBody a b s.limits s.seed body map → Changes b c (refs s) [] → tables a s ≡ table.no_tables → IsChanged a c s (record s { body = body }) map
+pub body_changed : (a b c : Blocks) (s : Scored) (body : Body) (map : ScoreMap) → IsScored a s → IsPlacedBody a b s.limits s.seed body map → Changes b c (refs s) []
+    → tables a s ≡ table.no_tables → IsChanged a c s (record s { body = body }) map
 body_changed a b c s body map sound p q none =
     let kept = body_kept b c s.limits s.seed body p.sound (new_kept a b c (refs s) (refs_of_body body) sound.owned p.changes q) in
     let changes = replaced a b c (refs s) (refs_of_body body) sound.owned p.changes q in

@@ -16,7 +16,8 @@ use Rattle.zset_object.specs.Scored.{IsBody, IsMemberPack, IsPlacedBody, scores_
 use Rattle.zset_object.proofs.Bodies.{pack_len}
 use Rattle.zset_object.proofs.Placing.{pack_placed}
 
-pub pack_copied : (m n : Blocks) (limits : Limits) (seed : ℕ) (body : Body) (p : Packed) (at : BlockRef) → IsBody m limits seed body → n ≡ with_block m at (Some (bytes_at m p.at)) → Changes m n [] (at ∷ []) → body ≡ Pack p
+pub pack_copied : (m n : Blocks) (limits : Limits) (seed : ℕ) (body : Body) (p : Packed) (at : BlockRef) → IsBody m limits seed body → n ≡ with_block m at (Some (bytes_at m p.at))
+    → Changes m n [] (at ∷ []) → body ≡ Pack p
     → IsPlacedBody m n limits seed (Pack (record { at = at; len = p.len })) (scores_of m body)
 pack_copied m n limits seed body p at sound placed changes is =
     let old : IsMemberPack limits p.len (bytes_at m p.at) = subst (IsBody m limits seed) is sound in
@@ -30,7 +31,8 @@ empty_copied m limits seed body is = record {
   grown = Grown-same (hash_of seed) table.no_tables table.no_tables refl;
 }
 
-pub table_copied : (m n : Blocks) (limits : Limits) (seed : ℕ) (body : Body) (t copy : ScoreTable) → body ≡ Table t → IsCopied m n seed copy (table.scores m t) → IsPlacedBody m n limits seed (Table copy) (scores_of m body)
+pub table_copied : (m n : Blocks) (limits : Limits) (seed : ℕ) (body : Body) (t copy : ScoreTable) → body ≡ Table t → IsCopied m n seed copy (table.scores m t)
+    → IsPlacedBody m n limits seed (Table copy) (scores_of m body)
 table_copied m n limits seed body t copy is h = record {
   sound = record { sound = h.sound; seed_is = h.seed_is };
   scores_are = h.scores_are ∙ ap (scores_of m) (sym is);

@@ -89,7 +89,8 @@ module _ (limits : Limits) (count l long : ℕ) (shorter : l ≤ limits.zset_val
   pack_rises Stream h = absurd h.fitting
 
 -- a packed sorted set with a member's new score
-pub risen_put : (limits : Limits) (map : ScoreMap) (k : List ℕ) (v : ℤ) (count : ℕ) (f : Form) → count ≡ len (insert map k v) → longest_member (entries map) ≤ limits.zset_value → IsLeast (FitsZset limits count (length k)) f
+pub risen_put : (limits : Limits) (map : ScoreMap) (k : List ℕ) (v : ℤ) (count : ℕ) (f : Form) → count ≡ len (insert map k v) → longest_member (entries map) ≤ limits.zset_value
+    → IsLeast (FitsZset limits count (length k)) f
     → IsRisen limits Listpack (insert map k v) f
 risen_put limits map k v count f counted short h =
     let made = entries-insert nat_list_cmp_total map k v in

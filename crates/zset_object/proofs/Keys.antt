@@ -1,5 +1,6 @@
 -- The keys of a list of pairs.
-use Rattle.std.proofs.Common.{◌≡◌, ℕ, zero, suc, ◌+◌, ◌<◌, ◌≤◌, ℤ, pos, Result, Ok, Err, Bool, true, false, cond, List, [], ◌∷◌, map, length, take, get_or, Option, Some, None, is_some, max, unwrap_or, refl, sym, ap, ◌∙◌, subst, arith, inl, inr}
+use Rattle.std.proofs.Common.{◌≡◌, ℕ, zero, suc, ◌+◌, ◌<◌, ◌≤◌, ℤ, pos, Result, Ok, Err, Bool, true, false, cond, List, [], ◌∷◌, map, length, take, get_or, Option, Some, None, is_some}
+use Rattle.std.proofs.Common.{max, unwrap_or, refl, sym, ap, ◌∙◌, subst, arith, inl, inr}
 use Rattle.std.specs.Prelude.{slice_get, FitsSigned, IfOk, MatchOption}
 use Rattle.std.specs.Int.{w64}
 use Rattle.std.proofs.Common.{to_z, of_z}
@@ -93,13 +94,15 @@ keys_out old new k is = maps_alike _ _ (λ q.
     ∙ ap (cond (tied q k) None) (sym (get_scored old q)) ∙ sym (get-remove nat_list_cmp_total (map_of_keys (keys_of old)) k q))
 
 -- the number whose text stands in the pair at an index is that of the key there
-pub number_there : (list : List Pair) (i : ℕ) (key : Key) (n : ℤ) → FitsSigned w64 n → i < length list → slice_get (keys_of list) i ≡ Some key → canonical n ≡ (get_or list i no_pair).1 → to_z w64 (of_z w64 n) ≡ key.0
+pub number_there : (list : List Pair) (i : ℕ) (key : Key) (n : ℤ) → FitsSigned w64 n → i < length list → slice_get (keys_of list) i ≡ Some key → canonical n ≡ (get_or list i no_pair).1
+    → to_z w64 (of_z w64 n) ≡ key.0
 number_there list i key n fits inside there text =
     let same : key_of_pair (get_or list i no_pair) ≡ key = (let e : Some (key_of_pair (get_or list i no_pair)) ≡ Some key = sym (key_there list i inside) ∙ there in cc) in
     to_z-of_z w64 n fits ∙ sym (score_text_is (get_or list i no_pair).1 n fits (sym text)) ∙ ap (λ (k : Key). k.0) same
 
 -- what both elements of a pair say is its key
-pub entry_there : (list : List Pair) (i : ℕ) (score n : ℤ) (member : List ℕ) → i < length list → member ≡ (get_or list i no_pair).0 → score ≡ n → ((key : Key) → slice_get (keys_of list) i ≡ Some key → n ≡ key.0) → slice_get (keys_of list) i ≡ Some (score, member)
+pub entry_there : (list : List Pair) (i : ℕ) (score n : ℤ) (member : List ℕ) → i < length list → member ≡ (get_or list i no_pair).0 → score ≡ n
+    → ((key : Key) → slice_get (keys_of list) i ≡ Some key → n ≡ key.0) → slice_get (keys_of list) i ≡ Some (score, member)
 entry_there list i score n member inside first same second =
     let here = key_there list i inside in
     let number : (key_of_pair (get_or list i no_pair)).0 ≡ score = sym (same ∙ second (key_of_pair (get_or list i no_pair)) here) in
@@ -140,7 +143,9 @@ module _ (k v : List ℕ) where
 
   -- pairs in which a new member's pair was put at an index mean the old map with the member and its text
   pub map_with : (list : List Pair) (i : ℕ) → second_of k list ≡ None → map_of_pairs (inserted list i (k, v)) ≡ insert (map_of_pairs list) k v
-  map_with list i none = maps_alike _ _ (λ q. get_pairs (inserted list i (k, v)) q ∙ find_with q list i none ∙ ap (cond (tied q k) (Some v)) (sym (get_pairs list q)) ∙ sym (get-insert nat_list_cmp_total (map_of_pairs list) k v q))
+  map_with list i none = maps_alike _ _
+      (λ q. get_pairs (inserted list i (k, v)) q ∙ find_with q list i none ∙ ap (cond (tied q k) (Some v)) (sym (get_pairs list q))
+      ∙ sym (get-insert nat_list_cmp_total (map_of_pairs list) k v q))
 
   -- no member stands twice where the pair of a new one was put in at an index
   pub once_with : (list : List Pair) (i : ℕ) → IsOnce list → second_of k list ≡ None → IsOnce (inserted list i (k, v))
@@ -185,10 +190,13 @@ keys_without (x ∷ rest) (suc i) = ap (λ keys. key_of_pair x ∷ keys) (keys_w
 -- a member without a pair is the member of no key
 pub keys_lack : (k : List ℕ) (list : List Pair) → second_of k list ≡ None → LacksMember k (keys_of list)
 keys_lack k [] none = tt
-keys_lack k (p ∷ rest) none = (let parts = none_parts k p rest none in ((λ same. (let e : tied k p.0 ≡ true = tied-same k p.0 (sym same) in let f = parts.0 in let never : ⊥ = cc in never)), keys_lack k rest parts.1))
+keys_lack k (p ∷ rest) none =
+    (let parts = none_parts k p rest none in
+    ((λ same. (let e : tied k p.0 ≡ true = tied-same k p.0 (sym same) in let f = parts.0 in let never : ⊥ = cc in never)), keys_lack k rest parts.1))
 
 -- a listpack with a member more, at its place
-pub pack_joined : (old new : List ℕ) (score : ℤ) (k : List ℕ) → FitsSigned w64 score → IsScorePack old → second_of k (pairs old) ≡ None → IsPairPack new → pairs new ≡ inserted (pairs old) (place_in (score, k) (keys_in old)) (k, canonical score) → IsScorePack new
+pub pack_joined : (old new : List ℕ) (score : ℤ) (k : List ℕ) → FitsSigned w64 score → IsScorePack old → second_of k (pairs old) ≡ None → IsPairPack new
+    → pairs new ≡ inserted (pairs old) (place_in (score, k) (keys_in old)) (k, canonical score) → IsScorePack new
 pack_joined old new score k fits is none pack list =
     let at = place_in (score, k) (keys_in old) in
     let key : key_of_pair (k, canonical score) ≡ (score, k) = (λ j. (score_back score fits j, k)) in
@@ -196,7 +204,8 @@ pack_joined old new score k fits is none pack list =
       pack = pack;
       once = subst IsOnce (sym list) (once_with k (canonical score) (pairs old) at is.once none);
       scores = subst AreScores (sym list) (scores_with (k, canonical score) (pairs old) at is.scores (score, fits, refl));
-      ordered = subst IsOrdered (sym (ap keys_of list ∙ keys_with (pairs old) at (k, canonical score) ∙ ap (inserted (keys_in old) at) key)) (ranked_with (score, k) (keys_in old) is.ordered (keys_lack k (pairs old) none));
+      ordered = subst IsOrdered (sym (ap keys_of list ∙ keys_with (pairs old) at (k, canonical score) ∙ ap (inserted (keys_in old) at) key))
+          (ranked_with (score, k) (keys_in old) is.ordered (keys_lack k (pairs old) none));
     }
 
 -- one with a member less
@@ -209,7 +218,8 @@ pack_without old new i is pack list = record {
 }
 
 -- what a call made of a listpack with a member more, at its place, is a listpack of members and scores
-pub if_pack_joined : {V E : Type 0} (items : V → List ℕ) (r : Result V E) (old : List ℕ) (score : ℤ) (k : List ℕ) → FitsSigned w64 score → IsScorePack old → second_of k (pairs old) ≡ None → IfOk r (λ new. IsPairPack (items new))
+pub if_pack_joined : {V E : Type 0} (items : V → List ℕ) (r : Result V E) (old : List ℕ) (score : ℤ) (k : List ℕ) → FitsSigned w64 score → IsScorePack old → second_of k (pairs old) ≡ None
+    → IfOk r (λ new. IsPairPack (items new))
     → IfOk r (λ new. pairs (items new) ≡ inserted (pairs old) (place_in (score, k) (keys_in old)) (k, canonical score)) → IfOk r (λ new. IsScorePack (items new))
 if_pack_joined items (Ok new) old score k fits is none pack list = pack_joined old (items new) score k fits is none pack list
 if_pack_joined items (Err e) old score k fits is none pack list = tt
@@ -230,9 +240,11 @@ pairs_short [] all = omega arith
 pairs_short (p ∷ rest) all = omega (arith, text_short p.1 all.0, pairs_short rest all.1)
 
 -- a member and its score have room in a listpack of few short members
-pub member_fits : (bytes member : List ℕ) (score : ℤ) → FitsSigned w64 score → IsScorePack bytes → length (pairs bytes) ≤ 4096 → longest_key (pairs bytes) ≤ 4096 → length member ≤ 4096 → FitsPair bytes member (canonical score)
+pub member_fits : (bytes member : List ℕ) (score : ℤ) → FitsSigned w64 score → IsScorePack bytes → length (pairs bytes) ≤ 4096 → longest_key (pairs bytes) ≤ 4096 → length member ≤ 4096
+    → FitsPair bytes member (canonical score)
 member_fits bytes member score fits is few short more =
-    pair_fits bytes member (canonical score) is.pack (omega (arith, pairs_short (pairs bytes) is.scores, short)) (omega (arith, few)) more (omega (arith, text_short (canonical score) (score, fits, refl)))
+    pair_fits bytes member (canonical score) is.pack (omega (arith, pairs_short (pairs bytes) is.scores, short)) (omega (arith, few)) more
+    (omega (arith, text_short (canonical score) (score, fits, refl)))
 
 -- where a pair is put in, no member is longer than both its own and the longest old one
 pub longest_with : (list : List Pair) (i : ℕ) (p : Pair) → longest_key (inserted list i p) ≤ max (length p.0) (longest_key list)
@@ -252,19 +264,23 @@ longest_without (x ∷ rest) (suc i) = omega (arith, longest_without rest i)
 
 -- to take a member out and then give it a score is to give it that score
 pub put_again : (map : ScoreMap) (k : List ℕ) (v : ℤ) → insert (remove map k) k v ≡ insert map k v
-put_again map k v = maps_alike _ _ (λ q. get-insert nat_list_cmp_total (remove map k) k v q ∙ ap (cond (tied q k) (Some v)) (get-remove nat_list_cmp_total map k q) ∙ by_test (tied q k) (get map q) ∙ sym (get-insert nat_list_cmp_total map k v q))
+put_again map k v = maps_alike _ _
+    (λ q. get-insert nat_list_cmp_total (remove map k) k v q ∙ ap (cond (tied q k) (Some v)) (get-remove nat_list_cmp_total map k q) ∙ by_test (tied q k) (get map q)
+    ∙ sym (get-insert nat_list_cmp_total map k v q))
   where
     by_test : (b : Bool) (o : Option ℤ) → cond b (Some v) (cond b None o) ≡ cond b (Some v) o
     by_test true o = refl
     by_test false o = refl
 
 -- pairs in which a new member with its score was put have the old scores and that one
-pub joined_scores : (old new : List Pair) (i : ℕ) (k : List ℕ) (score : ℤ) → FitsSigned w64 score → second_of k old ≡ None → new ≡ inserted old i (k, canonical score) → map_of_keys (keys_of new) ≡ insert (map_of_keys (keys_of old)) k score
+pub joined_scores : (old new : List Pair) (i : ℕ) (k : List ℕ) (score : ℤ) → FitsSigned w64 score → second_of k old ≡ None → new ≡ inserted old i (k, canonical score)
+    → map_of_keys (keys_of new) ≡ insert (map_of_keys (keys_of old)) k score
 joined_scores old new i k score fits none is =
     keys_put old new k (canonical score) (ap map_of_pairs is ∙ map_with k (canonical score) old i none) ∙ ap (insert (map_of_keys (keys_of old)) k) (score_back score fits)
 
 -- the pairs without the first one of a member lack it
-pub left_lacks : (old new : List Pair) (i : ℕ) (k : List ℕ) → IsOnce old → IsFirst k old i → new ≡ removed old i → (second_of k new ≡ None) × (map_of_keys (keys_of new) ≡ remove (map_of_keys (keys_of old)) k)
+pub left_lacks : (old new : List Pair) (i : ℕ) (k : List ℕ) → IsOnce old → IsFirst k old i → new ≡ removed old i → (second_of k new ≡ None)
+    × (map_of_keys (keys_of new) ≡ remove (map_of_keys (keys_of old)) k)
 left_lacks old new i k once first is =
     let out : map_of_pairs new ≡ remove (map_of_pairs old) k = ap map_of_pairs is ∙ map_removed old i k once first in (
       sym (get_pairs new k) ∙ ap (λ m. get m k) out ∙ get-remove nat_list_cmp_total (map_of_pairs old) k k ∙ cond-true _ _ _ (tied-same k k refl),
@@ -300,12 +316,14 @@ left_is old new made i k is first same pack list =
 
 module _ {V E : Type 0} (items : V → List ℕ) (old : List ℕ) (i : ℕ) (score : ℤ) (k : List ℕ) where
   -- where a call put a new member with its score in, the listpack has the old scores and that one
-  pub if_joined_scores : (r : Result V E) → FitsSigned w64 score → second_of k (pairs old) ≡ None → IfOk r (λ new. pairs (items new) ≡ inserted (pairs old) i (k, canonical score)) → IfOk r (λ new. map_of_keys (keys_in (items new)) ≡ insert (map_of_keys (keys_in old)) k score)
+  pub if_joined_scores : (r : Result V E) → FitsSigned w64 score → second_of k (pairs old) ≡ None → IfOk r (λ new. pairs (items new) ≡ inserted (pairs old) i (k, canonical score))
+      → IfOk r (λ new. map_of_keys (keys_in (items new)) ≡ insert (map_of_keys (keys_in old)) k score)
   if_joined_scores (Ok new) fits none list = joined_scores (pairs old) (pairs (items new)) i k score fits none list
   if_joined_scores (Err e) fits none list = tt
 
   -- where a call put a pair in, no member is longer than both its own and the longest old one
-  pub if_joined_longest : (r : Result V E) → IfOk r (λ new. pairs (items new) ≡ inserted (pairs old) i (k, canonical score)) → IfOk r (λ new. longest_key (pairs (items new)) ≤ max (length k) (longest_key (pairs old)))
+  pub if_joined_longest : (r : Result V E) → IfOk r (λ new. pairs (items new) ≡ inserted (pairs old) i (k, canonical score))
+      → IfOk r (λ new. longest_key (pairs (items new)) ≤ max (length k) (longest_key (pairs old)))
   if_joined_longest (Ok new) list = omega (arith, ap longest_key list, longest_with (pairs old) i (k, canonical score))
   if_joined_longest (Err e) list = tt
 
@@ -349,7 +367,8 @@ first_is k (p ∷ rest) zero h = h
 first_is k (p ∷ rest) (suc i) h = first_is k rest i h.1
 
 -- the index of a member is its rank among the keys, and without an index it has no score
-pub rank_in : (list : List Pair) (k : List ℕ) (index : Option ℕ) → IsIndex list k index → MatchOption index (get (map_of_keys (keys_of list)) k ≡ None) (λ r. HasRank (map_of_keys (keys_of list)) (keys_of list) k r)
+pub rank_in : (list : List Pair) (k : List ℕ) (index : Option ℕ) → IsIndex list k index
+    → MatchOption index (get (map_of_keys (keys_of list)) k ≡ None) (λ r. HasRank (map_of_keys (keys_of list)) (keys_of list) k r)
 rank_in list k None none = get_keys list k ∙ ap scored none
 rank_in list k (Some i) first = record {
   score = score_of_text (get_or list i no_pair).1;

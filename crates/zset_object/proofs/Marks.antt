@@ -30,7 +30,8 @@ mark_below m limits seed (Table t) index mark is h =
 -- ---- counts
 
 -- each mark and each vacant item number is one of the numbers below the end
-pub marks_counted : (p : ℕ → Bool) (m : Blocks) (limits : Limits) (seed : ℕ) (body : Body) → IsBody m limits seed body → count_by p (marks_in body) + count_by p (vacant_in body) ≡ passed_below p (end_in body)
+pub marks_counted : (p : ℕ → Bool) (m : Blocks) (limits : Limits) (seed : ℕ) (body : Body) → IsBody m limits seed body
+    → count_by p (marks_in body) + count_by p (vacant_in body) ≡ passed_below p (end_in body)
 marks_counted p m limits seed Empty is = refl
 marks_counted p m limits seed (Pack q) is = omega (arith, count_cons p 0 [])
 marks_counted p m limits seed (Table t) is = each_number p t.table is.sound.keyed.placed.below

@@ -13,8 +13,10 @@ use Rattle.collection_walk.specs.Marks.{is_passed, is_within, ArePassed}
 use Rattle.zset_object.proofs.Marks.{mark_below, marks_counted}
 
 -- a part of the marks was passed
-pub passes_part : (before : Blocks) (heap : Heap) (old new : Scored) (from room count start end : ℕ) (answer : Moved) → IsScored before old → count ≡ marks_end old → start ≡ min from count → end ≡ min count (start + room) → 32 ≤ room
-    → answer.next ≡ (if nat_lt end count then Some end else None) → answer.used ≡ end - start → marks new ≡ marks old → vacant_marks new ≡ vacant_marks old → ArePassed heap (is_within start end) (marks new) (refs old) (refs new) → PassesPart heap old new from room answer
+pub passes_part : (before : Blocks) (heap : Heap) (old new : Scored) (from room count start end : ℕ) (answer : Moved) → IsScored before old → count ≡ marks_end old → start ≡ min from count
+    → end ≡ min count (start + room) → 32 ≤ room
+    → answer.next ≡ (if nat_lt end count then Some end else None) → answer.used ≡ end - start → marks new ≡ marks old → vacant_marks new ≡ vacant_marks old
+    → ArePassed heap (is_within start end) (marks new) (refs old) (refs new) → PassesPart heap old new from room answer
 passes_part before heap old new from room count start end answer sound count_is start_is end_is wide next_is used_is same vacant p = record {
   same_marks = same;
   same_vacant = vacant;
@@ -30,7 +32,8 @@ passes_part before heap old new from room count start end answer sound count_is 
     );
     within = omega (arith, used_is, start_is, end_is);
     on = subst (λ n. IfSome answer.next (λ to. (from < to) × (to < n) × (answer.used ≡ room))) count_is
-        (goes_on from count start end answer.next start_is next_is room answer.used (omega (arith, start_is, end_is)) wide (λ less. omega (arith, less, end_is, used_is)) (λ here. omega (arith, here, used_is)));
+        (goes_on from count start end answer.next start_is next_is room answer.used (omega (arith, start_is, end_is)) wide (λ less. omega (arith, less, end_is, used_is))
+        (λ here. omega (arith, here, used_is)));
   };
 }
   where

@@ -1,5 +1,6 @@
 -- Lists of keys in order, and a key's place in them.
-use Rattle.std.proofs.Common.{◌≡◌, ◌≢◌, ℕ, zero, suc, ◌≤◌, ℤ, int_lt, Bool, true, false, cond, List, [], ◌∷◌, length, take, count_by, Ordering, Less, Equal, Greater, Some, is_lt, refl, sym, ap, ◌∙◌, subst, arith, inl, inr}
+use Rattle.std.proofs.Common.{◌≡◌, ◌≢◌, ℕ, zero, suc, ◌≤◌, ℤ, int_lt, Bool, true, false, cond, List, [], ◌∷◌, length, take, count_by, Ordering, Less, Equal, Greater, Some, is_lt, refl}
+use Rattle.std.proofs.Common.{sym, ap, ◌∙◌, subst, arith, inl, inr}
 use Rattle.std.specs.Prelude.{slice_get}
 use Rattle.std.specs.List.{insert as inserted, remove as removed}
 use Rattle.std.specs.Ordering.{int_cmp, nat_cmp, ordering_then}

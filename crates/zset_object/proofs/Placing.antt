@@ -1,5 +1,6 @@
 -- Bodies that are placed for a sorted set with a member's new score, or with a member less.
-use Rattle.std.proofs.Common.{◌≡◌, ◌≢◌, ℕ, ◌+◌, ◌<◌, ◌≤◌, ℤ, Bool, true, false, not, cond, List, [], ◌∷◌, length, Option, Some, None, is_some, unwrap_or, Result, Ok, Err, refl, sym, ap, ◌∙◌, subst, arith}
+use Rattle.std.proofs.Common.{◌≡◌, ◌≢◌, ℕ, ◌+◌, ◌<◌, ◌≤◌, ℤ, Bool, true, false, not, cond, List, [], ◌∷◌, length, Option, Some, None, is_some, unwrap_or, Result, Ok, Err, refl, sym, ap}
+use Rattle.std.proofs.Common.{◌∙◌, subst, arith}
 use mir.Val.{bool_byte}
 use Rattle.std.specs.Prelude.{OnOk, MatchOption}
 use Rattle.std.specs.List.{remove as removed}
@@ -81,8 +82,10 @@ index_new list k index is_none is some = twice is_none ∙ ap not (sym (index_th
     twice false = refl
 
 -- after a member was given a score there is one member more where it had no index, and else none
-put_len : (map : ScoreMap) (list : List Pair) (index : Option ℕ) (k : List ℕ) (v : ℤ) → map ≡ map_of_keys (keys_of list) → IsIndex list k index → len (insert map k v) ≡ len map + cond (is_some index) 0 1
-put_len map list index k v is at = len-insert nat_list_cmp_total map k v ∙ ap (λ b. cond b (len map) (len map + 1)) (ap (λ m. contains_key m k) is ∙ index_there list k index at) ∙ by_test (is_some index) (len map)
+put_len : (map : ScoreMap) (list : List Pair) (index : Option ℕ) (k : List ℕ) (v : ℤ) → map ≡ map_of_keys (keys_of list) → IsIndex list k index
+    → len (insert map k v) ≡ len map + cond (is_some index) 0 1
+put_len map list index k v is at = len-insert nat_list_cmp_total map k v ∙ ap (λ b. cond b (len map) (len map + 1)) (ap (λ m. contains_key m k) is ∙ index_there list k index at)
+    ∙ by_test (is_some index) (len map)
   where
     by_test : (b : Bool) (n : ℕ) → cond b n (n + 1) ≡ n + cond b 0 1
     by_test true n = omega arith
@@ -116,10 +119,12 @@ module _ (m : Blocks) (self : Scored) (k : List ℕ) (v : ℤ) (index : Option �
       at_most false = omega arith
 
   -- the least form for the new number of members and this member is that to which the packed sorted set rises
-  pub place_rises : (count : ℕ) (f : Form) → count ≡ len (insert (scores m self) k v) → IsLeast (FitsZset self.limits count (length k)) f → IsRisen self.limits (form_of self) (insert (scores m self) k v) f
+  pub place_rises : (count : ℕ) (f : Form) → count ≡ len (insert (scores m self) k v) → IsLeast (FitsZset self.limits count (length k)) f
+      → IsRisen self.limits (form_of self) (insert (scores m self) k v) f
   place_rises count f counted least =
       subst (λ old. IsRisen self.limits old (insert (scores m self) k v) f) (sym (form_listpack self.body packed))
-      (risen_put self.limits (scores m self) k v count f counted (omega (arith, ap (λ map. longest_member (entries map)) place_listed.scores_are, map_short self.limits.zset_value (keys_of (listed_of m self.body)) place_listed.short)) least)
+      (risen_put self.limits (scores m self) k v count f counted
+      (omega (arith, ap (λ map. longest_member (entries map)) place_listed.scores_are, map_short self.limits.zset_value (keys_of (listed_of m self.body)) place_listed.short)) least)
 
 -- what holds of a form holds of the one that is the same after a call
 pub form_after : {A E : Type 0} (r : Result A E) (f form : Form) (P : Form → Type 0) → P f → OnOk r (form ≡ f) → OnOk r (P form)
@@ -129,8 +134,10 @@ form_after (Err e) f form P fits is = tt
 -- ---- a listpack took the place of the bytes of a packed sorted set
 
 -- the sorted set that has a listpack of a map's members and scores, within the limits, in the place of its old bytes is changed to that map
-pub pack_changed : (m n : Blocks) (self : Scored) (at : BlockRef) (count : ℕ) (bytes : List ℕ) (map : ScoreMap) → IsScored m self → form_of self ≢ Skiplist → n at ≡ Some bytes → Changes m n (refs self) (at ∷ [])
-    → IsScorePack bytes → scores_in bytes ≡ map → count ≡ len map → count ≤ self.limits.zset_entries → longest_in bytes ≤ self.limits.zset_value → IsChanged m n self (record self { body = Pack (record { at = at; len = count }) }) map
+pub pack_changed : (m n : Blocks) (self : Scored) (at : BlockRef) (count : ℕ) (bytes : List ℕ) (map : ScoreMap) → IsScored m self → form_of self ≢ Skiplist → n at ≡ Some bytes
+    → Changes m n (refs self) (at ∷ [])
+    → IsScorePack bytes → scores_in bytes ≡ map → count ≡ len map → count ≤ self.limits.zset_entries → longest_in bytes ≤ self.limits.zset_value
+    → IsChanged m n self (record self { body = Pack (record { at = at; len = count }) }) map
 pack_changed m n self at count bytes map sound packed read changes pack is counted few short =
     let same : bytes_at n at ≡ bytes = ap (λ o. unwrap_or o []) read in
     let whole : IsMemberPack self.limits count bytes = record { pack = pack; counted = counted ∙ ap len (sym is) ∙ once_len (pairs bytes) pack.once; few = few; short = short } in
@@ -146,7 +153,8 @@ pack_changed m n self at count bytes map sound packed read changes pack is count
 
 module _ (m n : Blocks) (limits : Limits) (seed : ℕ) (at : BlockRef) (count : ℕ) (bytes : List ℕ) (placed : n ≡ with_block m at (Some bytes)) (changes : Changes m n [] (at ∷ [])) where
   -- a listpack of a map's members and scores within the limits, placed in a block, is a body of that map
-  pub pack_placed : (map : ScoreMap) → IsScorePack bytes → scores_in bytes ≡ map → count ≡ len map → count ≤ limits.zset_entries → longest_in bytes ≤ limits.zset_value → IsPlacedBody m n limits seed (Pack (record { at = at; len = count })) map
+  pub pack_placed : (map : ScoreMap) → IsScorePack bytes → scores_in bytes ≡ map → count ≡ len map → count ≤ limits.zset_entries → longest_in bytes ≤ limits.zset_value
+      → IsPlacedBody m n limits seed (Pack (record { at = at; len = count })) map
   pack_placed map pack is counted few short =
       let same : bytes_at n at ≡ bytes = ap (λ o. unwrap_or o []) (placed_bytes m n at bytes placed) in
       record {
@@ -157,7 +165,8 @@ module _ (m n : Blocks) (limits : Limits) (seed : ℕ) (at : BlockRef) (count : 
       }
 
   -- a listpack without a member's pair, placed in a block, is a body of the scores without that member
-  pub fewer_placed : (body : Body) (k : List ℕ) (p : Packed) (i : ℕ) → body ≡ Pack p → IsBody m limits seed body → IsFirst k (listed_of m body) i → count + 1 ≡ p.len → IsPairPack bytes → pairs bytes ≡ removed (pairs (bytes_at m p.at)) i
+  pub fewer_placed : (body : Body) (k : List ℕ) (p : Packed) (i : ℕ) → body ≡ Pack p → IsBody m limits seed body → IsFirst k (listed_of m body) i → count + 1 ≡ p.len → IsPairPack bytes
+      → pairs bytes ≡ removed (pairs (bytes_at m p.at)) i
       → IsPlacedBody m n limits seed (Pack (record { at = at; len = count })) (remove (scores_of m body) k)
   fewer_placed body k p i body_is sound first less pack list =
       let old : IsMemberPack limits p.len (bytes_at m p.at) = subst (IsBody m limits seed) body_is sound in
@@ -165,7 +174,16 @@ module _ (m n : Blocks) (limits : Limits) (seed : ℕ) (at : BlockRef) (count : 
       let left : Left (bytes_at m p.at) bytes k = left_is (bytes_at m p.at) bytes bytes i k old.pack here refl pack list in
       let map_is : scores_in bytes ≡ remove (scores_of m body) k = left.scores_are ∙ ap (λ b. remove (scores_of m b) k) (sym body_is) in
       pack_placed (remove (scores_of m body) k) left.pack map_is
-      (omega (arith, less, old.counted, ap length list, length_removed (pairs (bytes_at m p.at)) i (first_inside k (pairs (bytes_at m p.at)) i here), once_len (pairs bytes) left.pack.once, ap len map_is))
+      (omega (
+        arith,
+        less,
+        old.counted,
+        ap length list,
+        length_removed (pairs (bytes_at m p.at)) i (first_inside k (pairs (bytes_at m p.at)) i here),
+        once_len (pairs bytes) left.pack.once,
+        ap
+            len map_is,
+      ))
       (omega (arith, less, old.few)) (omega (arith, left.shorter, old.short))
 
 -- a pack's pair is inside
@@ -175,14 +193,16 @@ first_in_pack m body k p i body_is first = first_inside k (pairs (bytes_at m p.a
 -- ---- the last member was taken out
 
 -- where the only member of a packed sorted set is taken out, the empty body is placed for what is left
-pub last_placed : (m : Blocks) (limits : Limits) (seed : ℕ) (body : Body) (k : List ℕ) (p : Packed) (i : ℕ) → IsBody m limits seed body → body ≡ Pack p → IsFirst k (listed_of m body) i → p.len ≡ 1 → IsPlacedBody m m limits seed Empty (remove (scores_of m body) k)
+pub last_placed : (m : Blocks) (limits : Limits) (seed : ℕ) (body : Body) (k : List ℕ) (p : Packed) (i : ℕ) → IsBody m limits seed body → body ≡ Pack p → IsFirst k (listed_of m body) i
+    → p.len ≡ 1 → IsPlacedBody m m limits seed Empty (remove (scores_of m body) k)
 last_placed m limits seed body k p i sound body_is first single =
     let old : IsMemberPack limits p.len (bytes_at m p.at) = subst (IsBody m limits seed) body_is sound in
     let list = pairs (bytes_at m p.at) in
     let here : IsFirst k list i = subst (λ b. IsFirst k (listed_of m b) i) body_is first in
     let out = left_lacks list (removed list i) i k old.pack.once here refl in
     let none : len (remove (scores_of m body) k) ≡ 0 =
-    ap (λ b. len (remove (scores_of m b) k)) body_is ∙ ap len (sym out.1) ∙ once_len (removed list i) (once_removed list i old.pack.once) ∙ omega (arith, single, old.counted, length_removed list i (first_inside k list i here)) in
+    ap (λ b. len (remove (scores_of m b) k)) body_is ∙ ap len (sym out.1) ∙ once_len (removed list i) (once_removed list i old.pack.once)
+    ∙ omega (arith, single, old.counted, length_removed list i (first_inside k list i here)) in
     record {
       sound = tt;
       scores_are = sym (empty_of_len (remove (scores_of m body) k) none);
@@ -199,7 +219,8 @@ placed_settled m (Table t) is = absurd cc
 -- ---- tables
 
 -- a sound table of scores that owns no block and has no bucket is a placed one, and no block changes
-pub new_placed : (m : Blocks) (seed : ℕ) (t : ScoreTable) (map : ScoreMap) → table.IsScoreTable m t → table.scores m t ≡ map → table.refs t ≡ [] → table.tables m t ≡ table.no_tables → table.seed_of t ≡ seed → IsPlacedTable m m seed t map
+pub new_placed : (m : Blocks) (seed : ℕ) (t : ScoreTable) (map : ScoreMap) → table.IsScoreTable m t → table.scores m t ≡ map → table.refs t ≡ [] → table.tables m t ≡ table.no_tables
+    → table.seed_of t ≡ seed → IsPlacedTable m m seed t map
 new_placed m seed t map sound none refs tables seed_is = record {
   sound = record { sound = sound; seed_is = seed_is };
   scores_are = none;

@@ -12,7 +12,8 @@ use Rattle.zset_object.specs.Scored.{IsBody, IsMemberPack, scores_of, ranked_of}
 
 -- ---- one member's block after the other
 
-pub settled_more : (a b c : Blocks) (t u v : ScoreTable) (start k : ℕ) → start ≤ k → IsRelocatedTable a b t u (λ i. (i < start) ⊎ (k ≤ i)) → IsRelocatedTable b c u v (λ i. i ≢ k) → IsRelocatedTable a c t v (λ i. (i < start) ⊎ (k + 1 ≤ i))
+pub settled_more : (a b c : Blocks) (t u v : ScoreTable) (start k : ℕ) → start ≤ k → IsRelocatedTable a b t u (λ i. (i < start) ⊎ (k ≤ i)) → IsRelocatedTable b c u v (λ i. i ≢ k)
+    → IsRelocatedTable a c t v (λ i. (i < start) ⊎ (k + 1 ≤ i))
 settled_more a b c t u v start k low p q = record {
   sound = q.sound;
   scores_are = q.scores_are ∙ p.scores_are;

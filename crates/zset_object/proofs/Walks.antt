@@ -46,7 +46,15 @@ module _ (m : Blocks) (limits : Limits) (seed : ℕ) (body : Body) (rank : ℕ) 
 
     pub linked_last : link.1 + 1 ≡ length link.0 → rank + 1 ≡ len (scores_of m body)
     linked_last last =
-        omega (arith, last, ap (λ (c : List Element × ℕ). c.1) linked_at.0, ap (λ (c : List Element × ℕ). length c.0) linked_at.0, counted m t table_is.sound, ap (λ (b : Body). len (scores_of m b)) body_is)
+        omega (
+          arith,
+          last,
+          ap (λ (c : List Element × ℕ). c.1) linked_at.0,
+          ap (λ (c : List Element × ℕ). length c.0) linked_at.0,
+          counted m t table_is.sound,
+          ap
+              (λ (b : Body). len (scores_of m b)) body_is,
+        )
 
     pub linked_names : (pair : Element) → slice_get link.0 link.1 ≡ Some pair → table.Names m pair (slice_get (ranked_of m body) rank)
     linked_names pair there =

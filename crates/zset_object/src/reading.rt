@@ -29,7 +29,8 @@ impl Scored {
     /// The rank of a member, from 0 on. `None` comes exactly where it isn't there.
     pub fn rank<B: BlockStore>(&self, store: &B, member: &[u8]) -> Option<usize>
         requires { IsScored (B.blocks store.now) self.now }
-        ensures { MatchOption result (get (scores (B.blocks store.now) self.now) member.now ≡ None) (λ rank. HasRank (scores (B.blocks store.now) self.now) (ranked (B.blocks store.now) self.now) member.now rank) }
+        ensures { MatchOption result (get (scores (B.blocks store.now) self.now) member.now ≡ None)
+            (λ rank. HasRank (scores (B.blocks store.now) self.now) (ranked (B.blocks store.now) self.now) member.now rank) }
     {
         match &self.body {
             Body::Empty => None,

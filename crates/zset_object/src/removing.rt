@@ -78,7 +78,9 @@ impl Scored {
         requires sound { IsScored (B.blocks store.old) self.now }
         requires packed { form_of self.now ≢ Form.Skiplist }
         ensures there { IfOk result (λ left. is_some left ≡ contains_key (scores (B.blocks store.old) self.now) member.now) }
-        ensures placed { IfOk result (λ left. IfSome left (λ body. IsPlacedBody (B.blocks store.old) (B.blocks store.new) self.now.limits self.now.seed body (remove (scores (B.blocks store.old) self.now) member.now))) }
+        ensures placed { IfOk result
+            (λ left. IfSome left
+            (λ body. IsPlacedBody (B.blocks store.old) (B.blocks store.new) self.now.limits self.now.seed body (remove (scores (B.blocks store.old) self.now) member.now))) }
         ensures form { IfOk result (λ left. IfSome left (λ body. form_of_body body ≡ Form.Listpack)) }
         ensures served { Served B.step store.old store.new }
         ensures none_blocks { IfOk result (λ left. IfNone left (B.blocks store.new ≡ B.blocks store.old)) }
@@ -113,7 +115,8 @@ impl Scored {
 
         ensures err_scored { OnErr result (form_of self.old ≢ Form.Skiplist → self.new ≡ self.old) }
         ensures err_blocks { OnErr result (form_of self.old ≢ Form.Skiplist → B.blocks store.new ≡ B.blocks store.old) }
-        ensures err_removed { OnErr result (form_of self.old ≡ Form.Skiplist → IsChanged (B.blocks store.old) (B.blocks store.new) self.old self.new (remove (scores (B.blocks store.old) self.old) member.now)) }
+        ensures err_removed { OnErr result
+            (form_of self.old ≡ Form.Skiplist → IsChanged (B.blocks store.old) (B.blocks store.new) self.old self.new (remove (scores (B.blocks store.old) self.old) member.now)) }
     {
         if let Body::Table(table) = &mut self.body {
             return take_out(store, table, member);

@@ -141,7 +141,8 @@ impl Scored {
     ) -> Result<Body, Memory>
         requires sound { IsScored (B.blocks store.old) self.now }
         requires packed { form_of self.now ≢ Form.Skiplist }
-        ensures placed { IfOk result (λ body. IsPlacedBody (B.blocks store.old) (B.blocks store.new) self.now.limits self.now.seed body (insert (scores (B.blocks store.old) self.now) member.now score)) }
+        ensures placed { IfOk result
+            (λ body. IsPlacedBody (B.blocks store.old) (B.blocks store.new) self.now.limits self.now.seed body (insert (scores (B.blocks store.old) self.now) member.now score)) }
         ensures form { IfOk result (λ body. form_of_body body ≡ Form.Skiplist) }
         ensures served { Served B.step store.old store.new }
         ensures err_blocks { OnErr result (B.blocks store.new ≡ B.blocks store.old) }

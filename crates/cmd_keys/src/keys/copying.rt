@@ -66,7 +66,9 @@ fn copy_to<B: BlockStore>(
     requires until { HasUntil (sight B.blocks keyspace.old at.now) from.now deadline }
     requires latest { IsDeadline deadline }
     requires number { number < 16 }
-    ensures world { OnOk result ((entry : Entry) → look (sight B.blocks keyspace.old at.now) from.now ≡ Some entry → sight B.blocks keyspace.new at.now ≡ put_in (sight B.blocks keyspace.old at.now) number to.now entry) }
+    ensures world { OnOk result
+        ((entry : Entry) → look (sight B.blocks keyspace.old at.now) from.now ≡ Some entry
+        → sight B.blocks keyspace.new at.now ≡ put_in (sight B.blocks keyspace.old at.now) number to.now entry) }
     ensures held { Held B.blocks B.step (two_keys at.now.db from.now number to.now) keyspace.old keyspace.new }
     ensures forms { OnOk result (Formed B.blocks (AsAt at.now.db from.now) keyspace.old keyspace.new) }
 {

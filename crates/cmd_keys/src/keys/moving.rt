@@ -51,7 +51,9 @@ fn move_to<B: BlockStore>(
     requires number { number < 16 }
     requires place { Seeks keyspace.old.bases (B.blocks keyspace.old.store) number to.now place }
     requires apart { (at.now.db ≡ number) × (from.now ≡ to.now) → ⊥ }
-    ensures world { OnOk result ((entry : Entry) → look (sight B.blocks keyspace.old at.now) from.now ≡ Some entry → sight B.blocks keyspace.new at.now ≡ put_in (remove (sight B.blocks keyspace.old at.now) from.now) number to.now entry) }
+    ensures world { OnOk result
+        ((entry : Entry) → look (sight B.blocks keyspace.old at.now) from.now ≡ Some entry
+        → sight B.blocks keyspace.new at.now ≡ put_in (remove (sight B.blocks keyspace.old at.now) from.now) number to.now entry) }
     ensures held { Held B.blocks B.step (two_keys at.now.db from.now number to.now) keyspace.old keyspace.new }
     ensures forms { OnOk result (Formed B.blocks (AsAt at.now.db from.now) keyspace.old keyspace.new) }
 {
@@ -73,7 +75,9 @@ fn rename_key<B: BlockStore>(
     requires ready { Ready B.blocks keyspace.old at.now }
     requires sees { Sees B.blocks keyspace.old at.now from.now found }
     requires place { Seeks keyspace.old.bases (B.blocks keyspace.old.store) at.now.db to.now place }
-    ensures world { OnOk result ((entry : Entry) → look (sight B.blocks keyspace.old at.now) from.now ≡ Some entry → sight B.blocks keyspace.new at.now ≡ model.rename (sight B.blocks keyspace.old at.now) from.now to.now entry) }
+    ensures world { OnOk result
+        ((entry : Entry) → look (sight B.blocks keyspace.old at.now) from.now ≡ Some entry
+        → sight B.blocks keyspace.new at.now ≡ model.rename (sight B.blocks keyspace.old at.now) from.now to.now entry) }
     ensures held { Held B.blocks B.step (two_keys at.now.db from.now at.now.db to.now) keyspace.old keyspace.new }
     ensures forms { OnOk result (Formed B.blocks (AsAt at.now.db from.now) keyspace.old keyspace.new) }
 {

@@ -107,7 +107,10 @@ fn get_expiring<B: BlockStore>(
     due: i64,
 ) -> Result<Reply, Memory>
     requires ready { Ready B.blocks keyspace.old at.now }
-    ensures gives { IfOk result (λ reply. on_string (sight B.blocks keyspace.old at.now) (look (sight B.blocks keyspace.old at.now) key.now) (λ before. leaves (or_null before ∷ []) (deadlines.expire (sight B.blocks keyspace.old at.now) at.now.moment key.now due (look (sight B.blocks keyspace.old at.now) key.now))) ≡ leaves reply (sight B.blocks keyspace.new at.now)) }
+    ensures gives { IfOk result
+        (λ reply. on_string (sight B.blocks keyspace.old at.now) (look (sight B.blocks keyspace.old at.now) key.now)
+        (λ before. leaves (or_null before ∷ []) (deadlines.expire (sight B.blocks keyspace.old at.now) at.now.moment key.now due (look (sight B.blocks keyspace.old at.now) key.now))) ≡
+        leaves reply (sight B.blocks keyspace.new at.now)) }
     ensures kept { Kept B.blocks B.step (no_key at.now.db) keyspace.old keyspace.new result }
 {
     let found = seek(keyspace, at, key);

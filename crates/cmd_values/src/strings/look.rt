@@ -19,7 +19,8 @@ use string_object::Text;
 /// The string at a key.
 pub fn text_at<'a, B: BlockStore>(keyspace: &'a Keyspace<B>, at: &Ctx, key: &[u8]) -> Look<&'a Text>
     requires ready { Ready B.blocks keyspace.now at.now }
-    ensures { IsLook (look (sight B.blocks keyspace.now at.now) key.now ≡ None) (FoundOther (sight B.blocks keyspace.now at.now) key.now) (λ text. FoundText (sight B.blocks keyspace.now at.now) (B.blocks keyspace.now.store) key.now text.now) result }
+    ensures { IsLook (look (sight B.blocks keyspace.now at.now) key.now ≡ None) (FoundOther (sight B.blocks keyspace.now at.now) key.now)
+        (λ text. FoundText (sight B.blocks keyspace.now at.now) (B.blocks keyspace.now.store) key.now text.now) result }
 {
     match keyspace.look(at.db, key, at.moment) {
         None => Look::Missing,
@@ -58,7 +59,8 @@ pub fn sought_text<'a, B: BlockStore>(
 ) -> Look<&'a Text>
     requires ready { Ready B.blocks keyspace.now at.now }
     requires sees { Sees B.blocks keyspace.now at.now key.now found }
-    ensures { IsLook (look (sight B.blocks keyspace.now at.now) key.now ≡ None) (FoundOther (sight B.blocks keyspace.now at.now) key.now) (λ text. FoundText (sight B.blocks keyspace.now at.now) (B.blocks keyspace.now.store) key.now text.now) result }
+    ensures { IsLook (look (sight B.blocks keyspace.now at.now) key.now ≡ None) (FoundOther (sight B.blocks keyspace.now at.now) key.now)
+        (λ text. FoundText (sight B.blocks keyspace.now at.now) (B.blocks keyspace.now.store) key.now text.now) result }
 {
     // what was found tells the key
     let _ = key;
@@ -74,7 +76,8 @@ pub fn sought_text<'a, B: BlockStore>(
 /// The length in bytes of the string at a key.
 pub fn length_at<B: BlockStore>(keyspace: &Keyspace<B>, at: &Ctx, key: &[u8]) -> Look<usize>
     requires ready { Ready B.blocks keyspace.now at.now }
-    ensures { IsLook (look (sight B.blocks keyspace.now at.now) key.now ≡ None) (FoundOther (sight B.blocks keyspace.now at.now) key.now) (HasLength (sight B.blocks keyspace.now at.now) key.now) result }
+    ensures { IsLook (look (sight B.blocks keyspace.now at.now) key.now ≡ None) (FoundOther (sight B.blocks keyspace.now at.now) key.now)
+        (HasLength (sight B.blocks keyspace.now at.now) key.now) result }
 {
     match text_at(keyspace, at, key) {
         Look::Missing => Look::Missing,
@@ -92,7 +95,8 @@ pub fn length_sought<B: BlockStore>(
 ) -> Look<usize>
     requires ready { Ready B.blocks keyspace.now at.now }
     requires sees { Sees B.blocks keyspace.now at.now key.now found }
-    ensures { IsLook (look (sight B.blocks keyspace.now at.now) key.now ≡ None) (FoundOther (sight B.blocks keyspace.now at.now) key.now) (HasLength (sight B.blocks keyspace.now at.now) key.now) result }
+    ensures { IsLook (look (sight B.blocks keyspace.now at.now) key.now ≡ None) (FoundOther (sight B.blocks keyspace.now at.now) key.now)
+        (HasLength (sight B.blocks keyspace.now at.now) key.now) result }
 {
     match sought_text(keyspace, at, key, found) {
         Look::Missing => Look::Missing,

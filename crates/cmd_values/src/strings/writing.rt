@@ -217,7 +217,9 @@ fn put_if<B: BlockStore>(
     requires ready { Ready B.blocks keyspace.old at.now }
     requires sees { IfSome found (λ found. Sees B.blocks keyspace.old at.now key.now found) }
     requires latest { IsDeadline deadline }
-    ensures world { OnOk result (sight B.blocks keyspace.new at.now ≡ (if written then stand (sight B.blocks keyspace.old at.now) at.now.moment key.now (record { value = Str value.now; deadline = deadline }) else sight B.blocks keyspace.old at.now)) }
+    ensures world { OnOk result
+        (sight B.blocks keyspace.new at.now ≡
+        (if written then stand (sight B.blocks keyspace.old at.now) at.now.moment key.now (record { value = Str value.now; deadline = deadline }) else sight B.blocks keyspace.old at.now)) }
     ensures held { Held B.blocks B.step (one_key at.now.db key.now) keyspace.old keyspace.new }
     ensures forms { OnOk result (Formed B.blocks Whole keyspace.old keyspace.new) }
 {
@@ -240,7 +242,9 @@ fn set_lasting<B: BlockStore>(
     requires ready { Ready B.blocks keyspace.old at.now }
     requires sees { IfSome found (λ found. Sees B.blocks keyspace.old at.now key.now found) }
     requires latest { IsDeadline deadline }
-    ensures gives { IfOk result (λ reply. set_outcome (sight B.blocks keyspace.old at.now) at.now.moment key.now (record { value = Str value.now; deadline = deadline }) options.condition options.get ≡ leaves reply (sight B.blocks keyspace.new at.now)) }
+    ensures gives { IfOk result
+        (λ reply. set_outcome (sight B.blocks keyspace.old at.now) at.now.moment key.now (record { value = Str value.now; deadline = deadline }) options.condition options.get ≡ leaves
+        reply (sight B.blocks keyspace.new at.now)) }
     ensures kept { Kept B.blocks B.step (one_key at.now.db key.now) keyspace.old keyspace.new result }
     ensures forms { IfOk result (λ reply. Formed B.blocks Whole keyspace.old keyspace.new) }
 {

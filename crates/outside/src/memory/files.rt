@@ -28,7 +28,12 @@ impl MemHost {
     /// The first of equal names counts, and a name without a file is as if it weren't there.
     /// The calls of both kinds whose numbers, from 0, stand in `failing` fail and take nothing.
     pub fn new(names: Vec<String>, files: Vec<Vec<u8>>, failing: Vec<u64>) -> MemHost
-        ensures seen { ⟦<MemHost as Host>⟧.seen result ≡ record { files = Some (file_of (map string_bytes names.items) (map (λ f. f.items) files.items)); begun = false; reading = record { told = Some []; faults = 0; sure = is_empty failing.items } } }
+        ensures seen { ⟦<MemHost as Host>⟧.seen result ≡ record {
+          files = Some (file_of (map string_bytes names.items) (map (λ f. f.items) files.items));
+          begun = false;
+          reading =
+              record { told = Some []; faults = 0; sure = is_empty failing.items };
+        } }
         ensures failing { result.failing ≡ failing }
         ensures calls { result.calls ≡ 0 }
     {
@@ -45,11 +50,17 @@ impl MemHost {
 }
 
 impl Host for MemHost {
-    ghost seen = { λ s. record { files = Some (file_of (map string_bytes s.names.items) (map (λ f. f.items) s.files.items)); begun = is_some s.begun; reading = record { told = Some (drop s.at (begun_bytes s.files.items s.begun)); faults = s.faults; sure = is_empty s.failing.items } } };
+    ghost seen = { λ s. record {
+      files = Some (file_of (map string_bytes s.names.items) (map (λ f. f.items) s.files.items));
+      begun = is_some s.begun;
+      reading =
+          record { told = Some (drop s.at (begun_bytes s.files.items s.begun)); faults = s.faults; sure = is_empty s.failing.items };
+    } };
 
     fn begin(&mut self, name: &str) -> Result<(), HostFault>
         ensures begins { Begins (⟦<MemHost as Host>⟧.seen self.old) (⟦<MemHost as Host>⟧.seen self.new) name.now result }
-        ensures called { IsCall (record { failing = self.old.failing.items; calls = self.old.calls }) (record { failing = self.new.failing.items; calls = self.new.calls }) (is_some (file_of (map string_bytes self.old.names.items) (map (λ f. f.items) self.old.files.items) name.now)) result }
+        ensures called { IsCall (record { failing = self.old.failing.items; calls = self.old.calls }) (record { failing = self.new.failing.items; calls = self.new.calls })
+            (is_some (file_of (map string_bytes self.old.names.items) (map (λ f. f.items) self.old.files.items) name.now)) result }
     {
         let call = self.calls;
         self.calls = self.calls.saturating_add(1);
@@ -106,7 +117,8 @@ impl MemShelf {
     /// `make` of another name fails, and so does a put with no room left. The calls of both kinds whose numbers, from 0,
     /// stand in `failing` fail and put nothing.
     pub fn new(name: String, room: Vec<u8>, failing: Vec<u64>) -> MemShelf
-        ensures seen { ⟦<MemShelf as Shelf>⟧.seen result ≡ record { files = one_file (string_bytes name) []; made = None; begun = false; written = Some []; faults = 0; room = sure_room failing.items (vec_len room) } }
+        ensures seen { ⟦<MemShelf as Shelf>⟧.seen result ≡ record
+            { files = one_file (string_bytes name) []; made = None; begun = false; written = Some []; faults = 0; room = sure_room failing.items (vec_len room) } }
         ensures failing { result.failing ≡ failing }
         ensures calls { result.calls ≡ 0 }
     {
@@ -130,11 +142,20 @@ impl MemShelf {
 }
 
 impl Shelf for MemShelf {
-    ghost seen = { λ s. record { files = one_file (string_bytes s.name) (take s.at s.room.items); made = made_of (string_bytes s.name) s.begun; begun = s.begun; written = Some (put_bytes s.begun (take s.at s.room.items)); faults = s.faults; room = sure_room s.failing.items (vec_len s.room - s.at) } };
+    ghost seen = { λ s. record {
+      files = one_file (string_bytes s.name) (take s.at s.room.items);
+      made = made_of (string_bytes s.name) s.begun;
+      begun = s.begun;
+      written =
+          Some (put_bytes s.begun (take s.at s.room.items));
+      faults = s.faults;
+      room = sure_room s.failing.items (vec_len s.room - s.at);
+    } };
 
     fn make(&mut self, name: &str) -> Result<(), HostFault>
         ensures makes { Makes (⟦<MemShelf as Shelf>⟧.seen self.old) (⟦<MemShelf as Shelf>⟧.seen self.new) name.now result }
-        ensures called { IsCall (record { failing = self.old.failing.items; calls = self.old.calls }) (record { failing = self.new.failing.items; calls = self.new.calls }) (bytes_eq (string_bytes self.old.name) name.now) result }
+        ensures called { IsCall (record { failing = self.old.failing.items; calls = self.old.calls }) (record { failing = self.new.failing.items; calls = self.new.calls })
+            (bytes_eq (string_bytes self.old.name) name.now) result }
     {
         let call = self.calls;
         self.calls = self.calls.saturating_add(1);
@@ -156,7 +177,8 @@ impl Shelf for MemShelf {
         ensures bound { IfOk result (λ n. n ≤ length piece.now) }
         ensures some { IfOk result (λ n. 0 < length piece.now → 0 < n) }
         ensures puts { PutsOn (⟦<MemShelf as Shelf>⟧.seen self.old) (⟦<MemShelf as Shelf>⟧.seen self.new) result piece.now }
-        ensures called { IsCall (record { failing = self.old.failing.items; calls = self.old.calls }) (record { failing = self.new.failing.items; calls = self.new.calls }) (self.old.begun && has_place (vec_len self.old.room - self.old.at) (length piece.now)) result }
+        ensures called { IsCall (record { failing = self.old.failing.items; calls = self.old.calls }) (record { failing = self.new.failing.items; calls = self.new.calls })
+            (self.old.begun && has_place (vec_len self.old.room - self.old.at) (length piece.now)) result }
         ensures long { IfOk result (λ n. n ≡ min (length piece.now) (vec_len self.old.room - self.old.at)) }
     {
         let call = self.calls;

@@ -140,7 +140,8 @@ impl Sink for MemSink {
         ensures bound { IfOk result (λ n. n ≤ length piece.now) }
         ensures some { IfOk result (λ n. 0 < length piece.now → 0 < n) }
         ensures puts { PutsSome (⟦<MemSink as Sink>⟧.seen self.old) (⟦<MemSink as Sink>⟧.seen self.new) result piece.now }
-        ensures called { IsCall (record { failing = self.old.failing.items; calls = self.old.calls }) (record { failing = self.new.failing.items; calls = self.new.calls }) (has_place (vec_len self.old.room - self.old.at) (length piece.now)) result }
+        ensures called { IsCall (record { failing = self.old.failing.items; calls = self.old.calls }) (record { failing = self.new.failing.items; calls = self.new.calls })
+            (has_place (vec_len self.old.room - self.old.at) (length piece.now)) result }
         ensures long { IfOk result (λ n. n ≡ min (length piece.now) (vec_len self.old.room - self.old.at)) }
     {
         let call = self.calls;

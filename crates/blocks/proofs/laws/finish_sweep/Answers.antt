@@ -7,4 +7,5 @@ use Rattle.blocks.proofs.laws.finish_sweep.Goals as goal
 pub returns-clause-least : goal.returns-clause-least
 returns-clause-least g c = λ class below.
     subst (λ h. slabs_of h class ≡ needed h class) (sym c.end_pass.ensures.ended)
-    (Swept-ends (g.B.BlockStore.blocks c.args.store.now) (g.B.BlockStore.heap c.args.store.now) (λ r. IsSome (g.B.BlockStore.blocks c.args.store.now r)) (g.met.B.BlockStore.sound c.args.store.now) c.requires (λ r live. live) class below)
+    (Swept-ends (g.B.BlockStore.blocks c.args.store.now) (g.B.BlockStore.heap c.args.store.now) (λ r. IsSome (g.B.BlockStore.blocks c.args.store.now r))
+    (g.met.B.BlockStore.sound c.args.store.now) c.requires (λ r live. live) class below)

@@ -14,5 +14,7 @@ mark-preserved c =
     record {
       long = length-set c.mark.entries c.mark.number c.keep-equal.new.self ∙ i.long;
       blocks = λ n slot. block_step c.mark.entries c.mark.number c.keep-equal.new.self there (λ s. c.keep-equal.ensures.blocks s ∙ ap (λ e. block_in e s) is) n slot ∙ i.blocks n slot;
-      marked = keep_step c.args.class c.args.least c.mark.equal c.keep-equal.result c.mark.entries c.mark.number c.keep-equal.new.self there (c.keep-equal.ensures.marked ∙ ap (λ e. marked c.args.class c.args.least c.mark.equal (use_in e)) is) (c.keep-equal.ensures.left ∙ ap (λ e. equal_after c.args.class c.args.least c.mark.equal (use_in e)) is) ∙ i.marked;
+      marked = keep_step c.args.class c.args.least c.mark.equal c.keep-equal.result c.mark.entries c.mark.number c.keep-equal.new.self there
+          (c.keep-equal.ensures.marked ∙ ap (λ e. marked c.args.class c.args.least c.mark.equal (use_in e)) is)
+          (c.keep-equal.ensures.left ∙ ap (λ e. equal_after c.args.class c.args.least c.mark.equal (use_in e)) is) ∙ i.marked;
     }

@@ -7,10 +7,13 @@ pub returns-then-needed-eq0-clause-marked : goal.returns-then-needed-eq0-clause-
 returns-then-needed-eq0-clause-marked c = subst (λ n. IsMarked c.args.class n c.args.entries.now) (sym c.if-needed-eq0.true) (marked_none c.args.class c.args.entries.now c.requires.unmarked)
 
 pub threshold-least-requires-clause-few : goal.threshold-least-requires-clause-few
-threshold-least-requires-clause-few c = (let z = few_slabs c.args.class c.args.entries.now in let some : 0 < c.args.needed = omega arith in subst (λ n. count_by (holds_at_least c.args.class (n + 1)) (uses c.args.entries.now) < c.args.needed) (sym c.slots_in.ensures.slots) (omega (arith, z, some)))
+threshold-least-requires-clause-few c =
+    (let z = few_slabs c.args.class c.args.entries.now in let some : 0 < c.args.needed = omega arith in
+    subst (λ n. count_by (holds_at_least c.args.class (n + 1)) (uses c.args.entries.now) < c.args.needed) (sym c.slots_in.ensures.slots) (omega (arith, z, some)))
 
 pub returns-clause-marking : goal.returns-clause-marking
 returns-clause-marking c = marking_made c.args.class _ _ c.args.entries.now c.keep.new.entries c.keep.ensures.long c.keep.ensures.blocks c.keep.ensures.marked
 
 pub returns-clause-marked : goal.returns-clause-marked
-returns-clause-marked c = marked_made c.args.class c.threshold-least.result c.args.needed c.fuller-above.result c.args.entries.now c.keep.new.entries c.requires.unmarked c.threshold-least.ensures.enough c.fuller-above.ensures (let f = c.threshold-least.ensures.few in let e = c.fuller-above.ensures in omega (arith, f, e)) c.keep.ensures.marked
+returns-clause-marked c = marked_made c.args.class c.threshold-least.result c.args.needed c.fuller-above.result c.args.entries.now c.keep.new.entries c.requires.unmarked
+    c.threshold-least.ensures.enough c.fuller-above.ensures (let f = c.threshold-least.ensures.few in let e = c.fuller-above.ensures in omega (arith, f, e)) c.keep.ensures.marked

@@ -17,4 +17,5 @@ pub mark-requires-clause-unmarked : goal.mark-requires-clause-unmarked
 mark-requires-clause-unmarked c = c.classes.invariant.unmarked c.classes.class (omega arith)
 
 pub classes-preserved : goal.classes-preserved
-classes-preserved c = marked_more c.classes.class c.args.entries.now c.classes.entries c.mark.new.entries c.classes.margins c.mark.result c.classes-test.true c.classes.invariant c.mark.ensures.marking c.mark.ensures.marked c.mark.ensures.margin
+classes-preserved c = marked_more c.classes.class c.args.entries.now c.classes.entries c.mark.new.entries c.classes.margins c.mark.result c.classes-test.true c.classes.invariant
+    c.mark.ensures.marking c.mark.ensures.marked c.mark.ensures.margin

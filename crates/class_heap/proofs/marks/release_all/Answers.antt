@@ -24,12 +24,19 @@ release-preserved c =
       bound = bound ∙ was;
       blocks = λ n slot. block_step c.release.entries n' e there (λ s. c.release-in-release.ensures.blocks s ∙ ap (λ x. block_in x s) is) n slot ∙ i.blocks n slot;
       done = λ n less. elim (cases_eq n n') [
-        | inl same ↦ ap (λ k. use_in (entry_at (slice_set c.release.entries n' e) k)) same ∙ (ap use_in change.here ∙ (c.release-in-release.ensures.released ∙ (ap (λ x. released (use_in x)) is ∙ (ap (λ x. released (use_in x)) (i.left n' (omega arith)) ∙ ap (λ k. released (use_in (entry_at c.args.entries.now k))) (sym same)))))
+        | inl same ↦ ap (λ k. use_in (entry_at (slice_set c.release.entries n' e) k)) same
+            ∙
+            (ap use_in change.here ∙
+            (c.release-in-release.ensures.released ∙
+            (ap (λ x. released (use_in x)) is ∙ (ap (λ x. released (use_in x)) (i.left n' (omega arith)) ∙ ap (λ k. released (use_in (entry_at c.args.entries.now k))) (sym same)))))
         | inr other ↦ ap use_in (change.others n other) ∙ i.done n (omega (arith, less, other))
       ];
       left = λ n more. change.others n (λ q. absurd (omega (arith, q, more))) ∙ i.left n (omega (arith, more));
       labelled = λ n less. elim (cases_eq n n') [
-        | inl same ↦ c.set.ensures.labels n (omega (arith, less, bound, was, there, long)) ∙ (cond-true (eqb n n') _ _ (eq-eqb n n' same) ∙ (c.labels-labels.ensures ∙ ap (labels_of false) (sym change.here ∙ ap (entry_at (slice_set c.release.entries n' e)) (sym same))))
-        | inr other ↦ c.set.ensures.labels n (omega (arith, less, bound, was, there, long)) ∙ (pick_other n n' _ _ other ∙ (i.labelled n (omega (arith, less, other)) ∙ ap (labels_of false) (sym (change.others n other))))
+        | inl same ↦ c.set.ensures.labels n (omega (arith, less, bound, was, there, long))
+            ∙
+            (cond-true (eqb n n') _ _ (eq-eqb n n' same) ∙ (c.labels-labels.ensures ∙ ap (labels_of false) (sym change.here ∙ ap (entry_at (slice_set c.release.entries n' e)) (sym same))))
+        | inr other ↦ c.set.ensures.labels n (omega (arith, less, bound, was, there, long))
+            ∙ (pick_other n n' _ _ other ∙ (i.labelled n (omega (arith, less, other)) ∙ ap (labels_of false) (sym (change.others n other))))
       ];
     }

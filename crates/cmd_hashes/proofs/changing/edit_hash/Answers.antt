@@ -52,9 +52,12 @@ returns-in_ok-new-in-None-clause-edited g c =
     let none : look (sight g.B.BlockStore.blocks c.args.keyspace.now c.args.at.now) c.args.key.now ≡ None = rw c.in-None.is at c.requires.there in
     let by : c.new-hash.result.limits ≡ limits = c.new-hash.ensures.limits ∙ c.limits.ensures in
     let least : IsLeast (FitsFields limits empty) (form_of c.new-hash.result) = subst (λ l. IsLeast (FitsFields l empty) (form_of c.new-hash.result)) c.limits.ensures c.new-hash.ensures.form in
-    hash_new _ (g.E.HashEdit.makes c.args.on.now.edit c.edit_new.new.edit.edit) c.edit_new.new.edit.left c.args.on.now c.edit_new.new.edit g.B.BlockStore.blocks c.args.keyspace.now c.edit_new.new.keyspace c.args.at.now c.args.key.now (λ o n made. made)
-    (kinds.Hash c.in_ok-new-in-None.field-0) (ap HashOf (ap (fields m) same ∙ c.new-hash.ensures.empty m)) (ap (λ (h : Fields). Some h.limits) same ∙ ap Some by) (λ f e. subst (IsLeast (FitsFields limits empty)) (ap form_of (sym same) ∙ ap (form_in f) e) least) none c.edit_new.result c.edit_new.ensures.made
+    hash_new _ (g.E.HashEdit.makes c.args.on.now.edit c.edit_new.new.edit.edit) c.edit_new.new.edit.left c.args.on.now c.edit_new.new.edit g.B.BlockStore.blocks c.args.keyspace.now
+    c.edit_new.new.keyspace c.args.at.now c.args.key.now (λ o n made. made)
+    (kinds.Hash c.in_ok-new-in-None.field-0) (ap HashOf (ap (fields m) same ∙ c.new-hash.ensures.empty m)) (ap (λ (h : Fields). Some h.limits) same ∙ ap Some by)
+    (λ f e. subst (IsLeast (FitsFields limits empty)) (ap form_of (sym same) ∙ ap (form_in f) e) least) none c.edit_new.result c.edit_new.ensures.made
 
 pub returns-in-Some-clause-edited : goal.returns-in-Some-clause-edited
 returns-in-Some-clause-edited g c =
-    hash_there _ (g.E.HashEdit.makes c.args.on.now.edit c.edit_there.new.edit.edit) c.edit_there.new.edit.left c.args.on.now c.edit_there.new.edit g.B.BlockStore.blocks c.args.keyspace.now c.edit_there.new.keyspace c.args.at.now c.args.key.now (λ o n made. made) c.requires.ready.sound c.edit_there.result c.edit_there.ensures.edits
+    hash_there _ (g.E.HashEdit.makes c.args.on.now.edit c.edit_there.new.edit.edit) c.edit_there.new.edit.left c.args.on.now c.edit_there.new.edit g.B.BlockStore.blocks c.args.keyspace.now
+    c.edit_there.new.keyspace c.args.at.now c.args.key.now (λ o n made. made) c.requires.ready.sound c.edit_there.result c.edit_there.ensures.edits

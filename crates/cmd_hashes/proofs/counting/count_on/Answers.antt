@@ -22,7 +22,8 @@ returns-in-None-clause-kept g c = unchanged g.B.BlockStore.blocks g.B.BlockStore
 
 pub returns-in-None-clause-forms : goal.returns-in-None-clause-forms
 returns-in-None-clause-forms g c =
-    unformed g.B.BlockStore.blocks (hash_form c.args.at.now.db (sight g.B.BlockStore.blocks c.args.keyspace.now c.args.at.now) (hashes.HIncrBy c.args.key.now c.args.field.now c.args.by)) c.args.keyspace.now _
+    unformed g.B.BlockStore.blocks (hash_form c.args.at.now.db (sight g.B.BlockStore.blocks c.args.keyspace.now c.args.at.now) (hashes.HIncrBy c.args.key.now c.args.field.now c.args.by))
+    c.args.keyspace.now _
 
 pub returns-in-Some-clause-gives : goal.returns-in-Some-clause-gives
 returns-in-Some-clause-gives g c =
@@ -31,11 +32,13 @@ returns-in-Some-clause-gives g c =
     let typed = rw c.in-Some.is at c.checked_add.type_inv in
     let fits : FitsSigned w64 c.in-Some.sum = record { sfits = typed.1.1.1.1.0.1 } in
     let next = rw (to_z-of_z w64 c.args.n c.ranges.n, to_z-of_z w64 c.args.by c.ranges.by) at c.in-Some.ensures in
-    counted_told (sight blocks c.args.keyspace.now c.args.at.now) c.args.key.now c.args.field.now c.args.by v.0 v.1 c.args.n v.2 (sight blocks c.write_number.new.keyspace c.args.at.now) c.in-Some.sum fits next.1 c.write_number.result
+    counted_told (sight blocks c.args.keyspace.now c.args.at.now) c.args.key.now c.args.field.now c.args.by v.0 v.1 c.args.n v.2 (sight blocks c.write_number.new.keyspace c.args.at.now)
+    c.in-Some.sum fits next.1 c.write_number.result
     (rw (to_z-of_z w64 c.in-Some.sum fits) at c.write_number.ensures.set) (rw (to_z-of_z w64 c.in-Some.sum fits) at c.write_number.ensures.reply)
 
 pub returns-in-Some-clause-kept : goal.returns-in-Some-clause-kept
-returns-in-Some-clause-kept g c = calm g.B.BlockStore.blocks g.B.BlockStore.step (one_key c.args.at.now.db c.args.key.now) c.args.keyspace.now c.write_number.new.keyspace _ (search rules) c.write_number.ensures.held
+returns-in-Some-clause-kept g c = calm g.B.BlockStore.blocks g.B.BlockStore.step (one_key c.args.at.now.db c.args.key.now) c.args.keyspace.now c.write_number.new.keyspace _ (search rules)
+    c.write_number.ensures.held
 
 pub returns-in-Some-clause-forms : goal.returns-in-Some-clause-forms
 returns-in-Some-clause-forms g c =
@@ -44,4 +47,5 @@ returns-in-Some-clause-forms g c =
     let typed = rw c.in-Some.is at c.checked_add.type_inv in
     let fits : FitsSigned w64 c.in-Some.sum = record { sfits = typed.1.1.1.1.0.1 } in
     let next = rw (to_z-of_z w64 c.args.n c.ranges.n, to_z-of_z w64 c.args.by c.ranges.by) at c.in-Some.ensures in
-    counted_formed (sight blocks c.args.keyspace.now c.args.at.now) c.args.key.now c.args.field.now c.args.by v.0 v.1 c.args.n v.2 blocks c.args.keyspace.now c.write_number.new.keyspace c.args.at.now.db c.in-Some.sum next.1 c.write_number.result (rw (to_z-of_z w64 c.in-Some.sum fits) at c.write_number.ensures.forms)
+    counted_formed (sight blocks c.args.keyspace.now c.args.at.now) c.args.key.now c.args.field.now c.args.by v.0 v.1 c.args.n v.2 blocks c.args.keyspace.now c.write_number.new.keyspace
+    c.args.at.now.db c.in-Some.sum next.1 c.write_number.result (rw (to_z-of_z w64 c.in-Some.sum fits) at c.write_number.ensures.forms)

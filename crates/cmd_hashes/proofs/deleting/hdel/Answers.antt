@@ -11,17 +11,21 @@ pub returns-in-Missing-clause-kept : goal.returns-in-Missing-clause-kept
 returns-in-Missing-clause-kept g c = unchanged g.B.BlockStore.blocks g.B.BlockStore.step (one_key c.args.at.now.db c.args.key.now) c.args.keyspace.now c.count_reply.result c.requires.ready.sound
 
 pub returns-in-Missing-clause-gives : goal.returns-in-Missing-clause-gives
-returns-in-Missing-clause-gives g c = none_removed (sight g.B.BlockStore.blocks c.args.keyspace.now c.args.at.now) c.args.key.now c.args.fields.now c.in-Missing.ensures c.count_reply.result c.count_reply.ensures
+returns-in-Missing-clause-gives g c = none_removed (sight g.B.BlockStore.blocks c.args.keyspace.now c.args.at.now) c.args.key.now c.args.fields.now c.in-Missing.ensures
+    c.count_reply.result c.count_reply.ensures
 
 pub returns-clause-gives : goal.returns-clause-gives
 returns-clause-gives g c =
     let blocks = g.B.BlockStore.blocks in
     let p = c.in_ok-remove.ensures.changed in
-    removed_told (sight blocks c.args.keyspace.now c.args.at.now) (sight blocks c.change_hash.new.keyspace c.args.at.now) c.args.key.now c.args.fields.now _ p.before c.in-There.ensures.fields p.from p.now p.form p.stands c.in-There.ensures.has p.made p.world c.count_reply-2.result c.count_reply-2.ensures
+    removed_told (sight blocks c.args.keyspace.now c.args.at.now) (sight blocks c.change_hash.new.keyspace c.args.at.now) c.args.key.now c.args.fields.now _ p.before
+    c.in-There.ensures.fields p.from p.now p.form p.stands c.in-There.ensures.has p.made p.world c.count_reply-2.result c.count_reply-2.ensures
 
 pub returns-clause-forms : goal.returns-clause-forms
 returns-clause-forms g c =
     let blocks = g.B.BlockStore.blocks in
     let p = c.in_ok-remove.ensures.changed in
     let fields = c.in-There.ensures.fields in
-    if_ok c.count_reply-2.result (formed_as _ blocks g.B.BlockStore.step c.args.keyspace.now c.change_hash.new.keyspace c.args.at.now c.args.key.now p c.change_hash.ensures.held fields (before_is (sight blocks c.args.keyspace.now c.args.at.now) c.args.key.now p.before fields p.stands c.in-There.ensures.has) p.made.form_is)
+    if_ok c.count_reply-2.result
+    (formed_as _ blocks g.B.BlockStore.step c.args.keyspace.now c.change_hash.new.keyspace c.args.at.now c.args.key.now p c.change_hash.ensures.held fields
+    (before_is (sight blocks c.args.keyspace.now c.args.at.now) c.args.key.now p.before fields p.stands c.in-There.ensures.has) p.made.form_is)

@@ -4,23 +4,42 @@ use Rattle.cmd_hashes.proofs.Removed.{removed_keeps, removed_is}
 use Rattle.cmd_hashes.proofs.deleting.unset_one.Goals as goal
 
 pub returns-in_err-remove-clause-sound : goal.returns-in_err-remove-clause-sound
-returns-in_err-remove-clause-sound g c = (removed_keeps (g.B.BlockStore.blocks c.args.store.now) (g.B.BlockStore.blocks c.remove.new.store) c.args.hash.now c.remove.new.self c.requires (remove (fields (g.B.BlockStore.blocks c.args.store.now) c.args.hash.now) c.args.field.now) c.remove.result c.remove.ensures.removed c.remove.ensures.same_fields c.remove.ensures.same_blocks c.remove.ensures.err_fields c.remove.ensures.err_blocks c.remove.ensures.err_removed).sound
+returns-in_err-remove-clause-sound g c =
+    (removed_keeps (g.B.BlockStore.blocks c.args.store.now) (g.B.BlockStore.blocks c.remove.new.store) c.args.hash.now c.remove.new.self c.requires
+    (remove (fields (g.B.BlockStore.blocks c.args.store.now) c.args.hash.now) c.args.field.now) c.remove.result c.remove.ensures.removed c.remove.ensures.same_fields
+    c.remove.ensures.same_blocks c.remove.ensures.err_fields c.remove.ensures.err_blocks c.remove.ensures.err_removed).sound
 
 pub returns-in_err-remove-clause-settings : goal.returns-in_err-remove-clause-settings
-returns-in_err-remove-clause-settings g c = (removed_keeps (g.B.BlockStore.blocks c.args.store.now) (g.B.BlockStore.blocks c.remove.new.store) c.args.hash.now c.remove.new.self c.requires (remove (fields (g.B.BlockStore.blocks c.args.store.now) c.args.hash.now) c.args.field.now) c.remove.result c.remove.ensures.removed c.remove.ensures.same_fields c.remove.ensures.same_blocks c.remove.ensures.err_fields c.remove.ensures.err_blocks c.remove.ensures.err_removed).settings
+returns-in_err-remove-clause-settings g c =
+    (removed_keeps (g.B.BlockStore.blocks c.args.store.now) (g.B.BlockStore.blocks c.remove.new.store) c.args.hash.now c.remove.new.self c.requires
+    (remove (fields (g.B.BlockStore.blocks c.args.store.now) c.args.hash.now) c.args.field.now) c.remove.result c.remove.ensures.removed c.remove.ensures.same_fields
+    c.remove.ensures.same_blocks c.remove.ensures.err_fields c.remove.ensures.err_blocks c.remove.ensures.err_removed).settings
 
 pub returns-in_err-remove-clause-changes : goal.returns-in_err-remove-clause-changes
-returns-in_err-remove-clause-changes g c = (removed_keeps (g.B.BlockStore.blocks c.args.store.now) (g.B.BlockStore.blocks c.remove.new.store) c.args.hash.now c.remove.new.self c.requires (remove (fields (g.B.BlockStore.blocks c.args.store.now) c.args.hash.now) c.args.field.now) c.remove.result c.remove.ensures.removed c.remove.ensures.same_fields c.remove.ensures.same_blocks c.remove.ensures.err_fields c.remove.ensures.err_blocks c.remove.ensures.err_removed).changes
+returns-in_err-remove-clause-changes g c =
+    (removed_keeps (g.B.BlockStore.blocks c.args.store.now) (g.B.BlockStore.blocks c.remove.new.store) c.args.hash.now c.remove.new.self c.requires
+    (remove (fields (g.B.BlockStore.blocks c.args.store.now) c.args.hash.now) c.args.field.now) c.remove.result c.remove.ensures.removed c.remove.ensures.same_fields
+    c.remove.ensures.same_blocks c.remove.ensures.err_fields c.remove.ensures.err_blocks c.remove.ensures.err_removed).changes
 
 pub returns-clause-sound : goal.returns-clause-sound
-returns-clause-sound g c = (removed_keeps (g.B.BlockStore.blocks c.args.store.now) (g.B.BlockStore.blocks c.remove.new.store) c.args.hash.now c.remove.new.self c.requires (remove (fields (g.B.BlockStore.blocks c.args.store.now) c.args.hash.now) c.args.field.now) c.remove.result c.remove.ensures.removed c.remove.ensures.same_fields c.remove.ensures.same_blocks c.remove.ensures.err_fields c.remove.ensures.err_blocks c.remove.ensures.err_removed).sound
+returns-clause-sound g c =
+    (removed_keeps (g.B.BlockStore.blocks c.args.store.now) (g.B.BlockStore.blocks c.remove.new.store) c.args.hash.now c.remove.new.self c.requires
+    (remove (fields (g.B.BlockStore.blocks c.args.store.now) c.args.hash.now) c.args.field.now) c.remove.result c.remove.ensures.removed c.remove.ensures.same_fields
+    c.remove.ensures.same_blocks c.remove.ensures.err_fields c.remove.ensures.err_blocks c.remove.ensures.err_removed).sound
 
 pub returns-clause-settings : goal.returns-clause-settings
-returns-clause-settings g c = (removed_keeps (g.B.BlockStore.blocks c.args.store.now) (g.B.BlockStore.blocks c.remove.new.store) c.args.hash.now c.remove.new.self c.requires (remove (fields (g.B.BlockStore.blocks c.args.store.now) c.args.hash.now) c.args.field.now) c.remove.result c.remove.ensures.removed c.remove.ensures.same_fields c.remove.ensures.same_blocks c.remove.ensures.err_fields c.remove.ensures.err_blocks c.remove.ensures.err_removed).settings
+returns-clause-settings g c =
+    (removed_keeps (g.B.BlockStore.blocks c.args.store.now) (g.B.BlockStore.blocks c.remove.new.store) c.args.hash.now c.remove.new.self c.requires
+    (remove (fields (g.B.BlockStore.blocks c.args.store.now) c.args.hash.now) c.args.field.now) c.remove.result c.remove.ensures.removed c.remove.ensures.same_fields
+    c.remove.ensures.same_blocks c.remove.ensures.err_fields c.remove.ensures.err_blocks c.remove.ensures.err_removed).settings
 
 pub returns-clause-changes : goal.returns-clause-changes
-returns-clause-changes g c = (removed_keeps (g.B.BlockStore.blocks c.args.store.now) (g.B.BlockStore.blocks c.remove.new.store) c.args.hash.now c.remove.new.self c.requires (remove (fields (g.B.BlockStore.blocks c.args.store.now) c.args.hash.now) c.args.field.now) c.remove.result c.remove.ensures.removed c.remove.ensures.same_fields c.remove.ensures.same_blocks c.remove.ensures.err_fields c.remove.ensures.err_blocks c.remove.ensures.err_removed).changes
+returns-clause-changes g c =
+    (removed_keeps (g.B.BlockStore.blocks c.args.store.now) (g.B.BlockStore.blocks c.remove.new.store) c.args.hash.now c.remove.new.self c.requires
+    (remove (fields (g.B.BlockStore.blocks c.args.store.now) c.args.hash.now) c.args.field.now) c.remove.result c.remove.ensures.removed c.remove.ensures.same_fields
+    c.remove.ensures.same_blocks c.remove.ensures.err_fields c.remove.ensures.err_blocks c.remove.ensures.err_removed).changes
 
 pub returns-clause-is : goal.returns-clause-is
 returns-clause-is g c =
-    removed_is (g.B.BlockStore.blocks c.args.store.now) (g.B.BlockStore.blocks c.remove.new.store) c.args.hash.now c.remove.new.self c.args.field.now c.in_ok-remove.field-0 c.remove.result c.in_ok-remove.was c.in_ok-remove.ensures.there c.remove.ensures.removed c.remove.ensures.same_fields c.remove.ensures.same_blocks
+    removed_is (g.B.BlockStore.blocks c.args.store.now) (g.B.BlockStore.blocks c.remove.new.store) c.args.hash.now c.remove.new.self c.args.field.now c.in_ok-remove.field-0 c.remove.result
+    c.in_ok-remove.was c.in_ok-remove.ensures.there c.remove.ensures.removed c.remove.ensures.same_fields c.remove.ensures.same_blocks

@@ -15,11 +15,14 @@ pub returns-in-Hash : goal.returns-in-Hash
 returns-in-Hash g c =
     let m = g.B.BlockStore.blocks c.args.keyspace.now.store in
     let same : c.deref-hash.result.now ≡ c.in-Hash.hash.value = search rules in
-    let both = hash_paged c.args.keyspace.now.bases m c.args.at.now c.args.key.now c.args.cursor c.args.options.now c.page_of.result c.in-Some.value.now c.in-Hash.hash c.deref-hash.result.now c.in-Hash.is same c.in-Some.ensures.found c.requires.ready.sound c.page_of.ensures in
+    let both = hash_paged c.args.keyspace.now.bases m c.args.at.now c.args.key.now c.args.cursor c.args.options.now c.page_of.result c.in-Some.value.now c.in-Hash.hash
+    c.deref-hash.result.now c.in-Hash.is same c.in-Some.ensures.found c.requires.ready.sound c.page_of.ensures in
     record { gives = first_of _ _ c.page_of.result both; shows = second_of _ _ c.page_of.result both }
 
 pub returns-in_default : goal.returns-in_default
 returns-in_default g c =
     let m = g.B.BlockStore.blocks c.args.keyspace.now.store in
-    let both = other_refused c.args.keyspace.now.bases m c.args.at.now c.args.key.now c.args.cursor c.args.options.now c.refused.result (found_other c.args.keyspace.now.bases m c.args.at.now c.args.key.now c.in-Some.value.now (not_hash c.in-Some.value.now c.in_default.not-Hash) c.in-Some.ensures.found) c.refused.ensures in
+    let both = other_refused c.args.keyspace.now.bases m c.args.at.now c.args.key.now c.args.cursor c.args.options.now c.refused.result
+    (found_other c.args.keyspace.now.bases m c.args.at.now c.args.key.now c.in-Some.value.now (not_hash c.in-Some.value.now c.in_default.not-Hash) c.in-Some.ensures.found)
+    c.refused.ensures in
     record { gives = first_of _ _ c.refused.result both; shows = second_of _ _ c.refused.result both }

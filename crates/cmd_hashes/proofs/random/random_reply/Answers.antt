@@ -25,4 +25,7 @@ returns g c =
     let real = are_real (λ blocks. IsFields blocks hash) (λ blocks at. IsSome (pair_at blocks hash at)) c.args.n items c.in_ok-items.ensures m c.requires.sound in
     many_told m hash c.requires.sound c.args.n c.args.with_values items c.in_ok-items.ensures c.items_reply.result (ap is_some c.in-Some.is) real
     (subst (λ (t : Told). IfOk c.items_reply.result (λ reply. reply ≡ Array (replies_of t (length items)) ∷ flat_map (told_of t) (pairs_of (λ at. pair_at m hash at) items))) c.told_of_picks.ensures
-    (subst (λ (l : List ℕ). IfOk c.items_reply.result (λ reply. reply ≡ Array (replies_of c.told_of_picks.result (length l)) ∷ flat_map (told_of c.told_of_picks.result) (pairs_of (λ at. pair_at m hash at) l))) c.deref-in-Some.ensures.value c.items_reply.ensures))
+    (subst
+    (λ (l : List ℕ). IfOk c.items_reply.result
+    (λ reply. reply ≡ Array (replies_of c.told_of_picks.result (length l)) ∷ flat_map (told_of c.told_of_picks.result) (pairs_of (λ at. pair_at m hash at) l)))
+    c.deref-in-Some.ensures.value c.items_reply.ensures))

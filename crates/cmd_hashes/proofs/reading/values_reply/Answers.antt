@@ -7,4 +7,5 @@ pub into_reply-requires : goal.into_reply-requires
 into_reply-requires g c = values_reply (fields_in (g.B.BlockStore.blocks c.args.store.now) c.args.hash) c.args.names.now _ _ _ c.new-parts.ensures c.in_ok-push.ensures.ok c.in_ok-push_values.ensures
 
 pub returns : goal.returns
-returns g c = c.into_reply.ensures ∙ values_parts (fields_in (g.B.BlockStore.blocks c.args.store.now) c.args.hash) c.args.names.now _ _ _ c.new-parts.ensures c.in_ok-push.ensures.ok c.in_ok-push_values.ensures
+returns g c = c.into_reply.ensures ∙ values_parts (fields_in (g.B.BlockStore.blocks c.args.store.now) c.args.hash) c.args.names.now _ _ _ c.new-parts.ensures c.in_ok-push.ensures.ok
+    c.in_ok-push_values.ensures

@@ -10,4 +10,5 @@ returns-in-Other-clause-kept g c = unchanged g.B.BlockStore.blocks g.B.BlockStor
 pub returns-clause-gives : goal.returns-clause-gives
 returns-clause-gives g c =
     let blocks = g.B.BlockStore.blocks in
-    set_ok (sight blocks c.args.keyspace.now c.args.at.now) (sight blocks c.set_at.new.keyspace c.args.at.now) c.args.key.now c.args.pairs.now _ _ c.in_ok-set_at.ensures.set c.ok.ensures c.simple.result c.simple.ensures
+    set_ok (sight blocks c.args.keyspace.now c.args.at.now) (sight blocks c.set_at.new.keyspace c.args.at.now) c.args.key.now c.args.pairs.now _ _ c.in_ok-set_at.ensures.set c.ok.ensures
+    c.simple.result c.simple.ensures

@@ -10,4 +10,5 @@ returns-in-Other-clause-kept g c = unchanged g.B.BlockStore.blocks g.B.BlockStor
 pub returns-clause-gives : goal.returns-clause-gives
 returns-clause-gives g c =
     let blocks = g.B.BlockStore.blocks in
-    set_told (sight blocks c.args.keyspace.now c.args.at.now) (sight blocks c.set_at.new.keyspace c.args.at.now) c.args.key.now c.args.pairs.now _ c.in_ok-fresh.ensures.set c.count_reply.result c.count_reply.ensures
+    set_told (sight blocks c.args.keyspace.now c.args.at.now) (sight blocks c.set_at.new.keyspace c.args.at.now) c.args.key.now c.args.pairs.now _ c.in_ok-fresh.ensures.set
+    c.count_reply.result c.count_reply.ensures

@@ -21,4 +21,5 @@ returns-clause-gives g c =
     let blocks = g.B.BlockStore.blocks in
     let f = c.has_field.ensures in
     let s = c.in_ok-set_field_at.ensures.set in
-    missing_told (sight blocks c.args.keyspace.now c.args.at.now) (sight blocks c.set_field_at.new.keyspace c.args.at.now) c.args.key.now c.args.field.now c.args.value.now f.0 s.0 s.1 f.1 (sym f.2 ∙ c.if-has_field.false) c.number-2.result c.number-2.ensures
+    missing_told (sight blocks c.args.keyspace.now c.args.at.now) (sight blocks c.set_field_at.new.keyspace c.args.at.now) c.args.key.now c.args.field.now c.args.value.now f.0 s.0 s.1 f.1
+    (sym f.2 ∙ c.if-has_field.false) c.number-2.result c.number-2.ensures

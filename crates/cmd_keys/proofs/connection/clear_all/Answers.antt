@@ -15,7 +15,9 @@ loop-db-preserved g c = record {
   sound = c.clear.ensures.sound [] c.loop-db.invariant.sound;
   served = both g.B.BlockStore.step _ _ _ c.loop-db.invariant.served c.clear.ensures.served;
   settings = settings_then _ _ _ c.loop-db.invariant.settings c.clear.ensures.settings;
-  within = further everything _ _ _ _ _ _ c.loop-db.invariant.within (within_wider value_refs (all_keys c.loop-db.db) everything (λ n here. tt) (λ n key no. no) (λ n here. tt) c.loop-db.keyspace.bases c.clear.new.self.bases _ _ c.clear.ensures.within);
+  within = further everything _ _ _ _ _ _ c.loop-db.invariant.within
+      (within_wider value_refs (all_keys c.loop-db.db) everything (λ n here. tt) (λ n key no. no) (λ n here. tt) c.loop-db.keyspace.bases c.clear.new.self.bases _ _
+      c.clear.ensures.within);
 }
 
 pub returns-clause-world : goal.returns-clause-world
@@ -23,7 +25,14 @@ returns-clause-world g c = all_emptied c.args.at.now c.loop-db.keyspace.bases _ 
 
 pub loop-db-init : goal.loop-db-init
 loop-db-init g c =
-    record { empty = λ number below. absurd (omega (arith, below)); sound = c.requires.ready.sound; served = no_step; within = unmoved everything c.args.keyspace.now.bases (g.B.BlockStore.blocks c.args.keyspace.now.store); settings = same_settings c.args.keyspace.now.bases }
+    record {
+      empty = λ number below. absurd (omega (arith, below));
+      sound = c.requires.ready.sound;
+      served = no_step;
+      within =
+          unmoved everything c.args.keyspace.now.bases (g.B.BlockStore.blocks c.args.keyspace.now.store);
+      settings = same_settings c.args.keyspace.now.bases;
+    }
 
 pub returns-clause-emptied : goal.returns-clause-emptied
 returns-clause-emptied g c number below = c.loop-db.invariant.empty number (omega (arith, below))

@@ -6,7 +6,9 @@ use Rattle.cmd_keys.proofs.connection.debug_rehash.Goals as goal
 
 pub returns-clause-means : goal.returns-clause-means
 returns-clause-means g c =
-    subst (λ s. (number : ℕ) → means number c.rehash-found.new.self.bases (g.B.BlockStore.blocks s) ≡ means number c.args.keyspace.now.bases (g.B.BlockStore.blocks c.args.keyspace.now.store)) (sym c.rehash-found.ensures.store) c.rehash-found.ensures.means
+    subst
+    (λ s. (number : ℕ) → means number c.rehash-found.new.self.bases (g.B.BlockStore.blocks s) ≡ means number c.args.keyspace.now.bases
+    (g.B.BlockStore.blocks c.args.keyspace.now.store)) (sym c.rehash-found.ensures.store) c.rehash-found.ensures.means
 
 pub returns-clause-sound : goal.returns-clause-sound
 returns-clause-sound g c =

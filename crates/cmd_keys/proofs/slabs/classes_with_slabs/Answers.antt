@@ -8,7 +8,8 @@ use Rattle.cmd_keys.proofs.slabs.classes_with_slabs.Goals as goal
 pub loop-class-preserved : goal.loop-class-preserved
 loop-class-preserved g c =
     let u = c.use_of.ensures in
-    looked_at (g.B.BlockStore.heap c.args.keyspace.now.store) c.loop-class.class c.loop-class.uses.items c.push_used.new.uses.items c.use_of.result u.size u.slabs u.used c.in_ok-push_used.ensures c.loop-class.invariant
+    looked_at (g.B.BlockStore.heap c.args.keyspace.now.store) c.loop-class.class c.loop-class.uses.items c.push_used.new.uses.items c.use_of.result u.size u.slabs u.used
+    c.in_ok-push_used.ensures c.loop-class.invariant
 
 pub returns : goal.returns
 returns g c =

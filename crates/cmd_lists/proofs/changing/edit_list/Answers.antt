@@ -39,9 +39,12 @@ returns-in_ok-new-in-None-clause-edited g c =
     let m = g.B.BlockStore.blocks c.args.keyspace.now.store in
     let same : c.in_ok-new-in-None.field-0.value ≡ c.new.result = search rules in
     let none : look (sight g.B.BlockStore.blocks c.args.keyspace.now c.args.at.now) c.args.key.now ≡ None = rw c.in-None.is at c.requires.there in
-    list_new _ (g.E.ListEdit.makes c.args.on.now.edit c.edit_new.new.edit.edit) c.edit_new.new.edit.left c.args.on.now c.edit_new.new.edit g.B.BlockStore.blocks c.args.keyspace.now c.edit_new.new.keyspace c.args.at.now c.args.key.now (λ o n made. made)
-    (kinds.List c.in_ok-new-in-None.field-0) (ap ListOf (ap (elements m) same ∙ c.new.ensures.empty m)) (λ f e. subst (IsLeast (FitsList 7)) (ap (λ (q : Chain). q.form) (sym same) ∙ ap (form_in f) e) c.new.ensures.form) none c.edit_new.result c.edit_new.ensures.made
+    list_new _ (g.E.ListEdit.makes c.args.on.now.edit c.edit_new.new.edit.edit) c.edit_new.new.edit.left c.args.on.now c.edit_new.new.edit g.B.BlockStore.blocks c.args.keyspace.now
+    c.edit_new.new.keyspace c.args.at.now c.args.key.now (λ o n made. made)
+    (kinds.List c.in_ok-new-in-None.field-0) (ap ListOf (ap (elements m) same ∙ c.new.ensures.empty m))
+    (λ f e. subst (IsLeast (FitsList 7)) (ap (λ (q : Chain). q.form) (sym same) ∙ ap (form_in f) e) c.new.ensures.form) none c.edit_new.result c.edit_new.ensures.made
 
 pub returns-in-Some-clause-edited : goal.returns-in-Some-clause-edited
 returns-in-Some-clause-edited g c =
-    list_there _ (g.E.ListEdit.makes c.args.on.now.edit c.edit_there.new.edit.edit) c.edit_there.new.edit.left c.args.on.now c.edit_there.new.edit g.B.BlockStore.blocks c.args.keyspace.now c.edit_there.new.keyspace c.args.at.now c.args.key.now (λ o n made. made) c.edit_there.result c.edit_there.ensures.edits
+    list_there _ (g.E.ListEdit.makes c.args.on.now.edit c.edit_there.new.edit.edit) c.edit_there.new.edit.left c.args.on.now c.edit_there.new.edit g.B.BlockStore.blocks c.args.keyspace.now
+    c.edit_there.new.keyspace c.args.at.now c.args.key.now (λ o n made. made) c.edit_there.result c.edit_there.ensures.edits

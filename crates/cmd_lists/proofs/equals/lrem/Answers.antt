@@ -21,7 +21,8 @@ returns-clause-gives g c =
     let p = c.in_ok-remove.ensures.changed in
     let end : c.end_of.result ≡ end_from c.args.n = rw (to_z-of_z w64 c.args.n c.ranges.n) at c.end_of.ensures in
     let wanted : c.most.result ≡ most_of c.args.n = rw (to_z-of_z w64 c.args.n c.ranges.n) at c.most.ensures in
-    removed_gives world _ c.args.key.now c.args.n c.args.element.now _ p.before c.in-There.ensures.list p.now p.stands c.in-There.ensures.has (rw (end, wanted) at p.made.removes) p.world c.count_reply-2.result c.count_reply-2.ensures
+    removed_gives world _ c.args.key.now c.args.n c.args.element.now _ p.before c.in-There.ensures.list p.now p.stands c.in-There.ensures.has (rw (end, wanted) at p.made.removes) p.world
+    c.count_reply-2.result c.count_reply-2.ensures
 
 pub returns-clause-forms : goal.returns-clause-forms
 returns-clause-forms g c =

@@ -15,7 +15,8 @@ returns-then-is_other-clause-gives g c =
     let step = g.B.BlockStore.step in
     let world = sight blocks c.args.keyspace.now c.args.at.now in
     let scope = two_keys c.args.at.now.db c.args.from.now c.args.at.now.db c.args.to.now in
-    moves_refused world c.args.from.now c.args.to.now c.args.end c.args.other c.args.element c.requires.first c.refused.result (eq_apart c.args.from.now c.args.to.now c.requires.apart) (c.if-is_other.ensures.other refl) c.refused.ensures
+    moves_refused world c.args.from.now c.args.to.now c.args.end c.args.other c.args.element c.requires.first c.refused.result (eq_apart c.args.from.now c.args.to.now c.requires.apart)
+    (c.if-is_other.ensures.other refl) c.refused.ensures
 
 pub returns-then-is_other-clause-kept : goal.returns-then-is_other-clause-kept
 returns-then-is_other-clause-kept g c =
@@ -39,7 +40,8 @@ returns-clause-gives g c =
     let step = g.B.BlockStore.step in
     let world = sight blocks c.args.keyspace.now c.args.at.now in
     let scope = two_keys c.args.at.now.db c.args.from.now c.args.at.now.db c.args.to.now in
-    moves_on world c.args.from.now c.args.to.now c.args.end c.args.other c.args.element c.requires.first (sight blocks c.pass_on.new.keyspace c.args.at.now) c.bulk.result (eq_apart c.args.from.now c.args.to.now c.requires.apart) (c.if-is_other.ensures.no_other refl) c.in_ok-pass_on.ensures.world c.bulk.ensures
+    moves_on world c.args.from.now c.args.to.now c.args.end c.args.other c.args.element c.requires.first (sight blocks c.pass_on.new.keyspace c.args.at.now) c.bulk.result
+    (eq_apart c.args.from.now c.args.to.now c.requires.apart) (c.if-is_other.ensures.no_other refl) c.in_ok-pass_on.ensures.world c.bulk.ensures
 
 pub returns-clause-kept : goal.returns-clause-kept
 returns-clause-kept g c =
@@ -56,4 +58,5 @@ returns-clause-forms g c =
     let world = sight blocks c.args.keyspace.now c.args.at.now in
     let scope = two_keys c.args.at.now.db c.args.from.now c.args.at.now.db c.args.to.now in
     formed_moved blocks c.args.at.now c.args.from.now c.args.to.now c.args.keyspace.now c.pass_on.new.keyspace _ _ c.bulk.result
-    (form_apart world c.args.from.now c.args.to.now c.args.end c.args.other c.args.element c.requires.first c.args.at.now.db (eq_apart c.args.from.now c.args.to.now c.requires.apart)) c.in_ok-pass_on.ensures.forms
+    (form_apart world c.args.from.now c.args.to.now c.args.end c.args.other c.args.element c.requires.first c.args.at.now.db (eq_apart c.args.from.now c.args.to.now c.requires.apart))
+    c.in_ok-pass_on.ensures.forms

@@ -21,7 +21,8 @@ returns-clause-gives g c =
     let step = g.B.BlockStore.step in
     let world = sight blocks c.args.keyspace.now c.args.at.now in
     let scope = two_keys c.args.at.now.db c.args.from.now c.args.at.now.db c.args.to.now in
-    moves_same world c.args.from.now c.args.to.now c.args.end c.args.other c.args.element c.requires.first (sight blocks c.turn_list.new.keyspace c.args.at.now) c.bulk.result (eq_same c.args.from.now c.args.to.now c.requires.same) c.in_ok-turn_list.ensures.world c.bulk.ensures
+    moves_same world c.args.from.now c.args.to.now c.args.end c.args.other c.args.element c.requires.first (sight blocks c.turn_list.new.keyspace c.args.at.now) c.bulk.result
+    (eq_same c.args.from.now c.args.to.now c.requires.same) c.in_ok-turn_list.ensures.world c.bulk.ensures
 
 pub returns-clause-kept : goal.returns-clause-kept
 returns-clause-kept g c =
@@ -38,5 +39,7 @@ returns-clause-forms g c =
     let step = g.B.BlockStore.step in
     let world = sight blocks c.args.keyspace.now c.args.at.now in
     let scope = two_keys c.args.at.now.db c.args.from.now c.args.at.now.db c.args.to.now in
-    formed_same blocks c.args.at.now c.args.from.now c.args.to.now c.args.keyspace.now c.turn_list.new.keyspace (added c.args.other (without c.args.end 1 (list_at world c.args.from.now)) (c.args.element ∷ [])) _ c.bulk.result c.requires.same
-    (form_same world c.args.from.now c.args.to.now c.args.end c.args.other c.args.element c.requires.first c.args.at.now.db (eq_same c.args.from.now c.args.to.now c.requires.same)) c.in_ok-turn_list.ensures.forms
+    formed_same blocks c.args.at.now c.args.from.now c.args.to.now c.args.keyspace.now c.turn_list.new.keyspace
+    (added c.args.other (without c.args.end 1 (list_at world c.args.from.now)) (c.args.element ∷ [])) _ c.bulk.result c.requires.same
+    (form_same world c.args.from.now c.args.to.now c.args.end c.args.other c.args.element c.requires.first c.args.at.now.db (eq_same c.args.from.now c.args.to.now c.requires.same))
+    c.in_ok-turn_list.ensures.forms

@@ -15,7 +15,8 @@ put_one-requires-clause-no_other g c =
     let blocks = g.B.BlockStore.blocks in
     let old = sight blocks c.args.keyspace.now c.args.at.now in
     let mid = sight blocks c.take_first.new.keyspace c.args.at.now in
-    no_other_on old mid c.args.to.now (same_look old mid c.args.from.now c.args.to.now (without c.args.end 1 (list_at old c.args.from.now)) c.requires.apart c.in_ok-take_first.ensures.world) c.requires.no_other
+    no_other_on old mid c.args.to.now
+    (same_look old mid c.args.from.now c.args.to.now (without c.args.end 1 (list_at old c.args.from.now)) c.requires.apart c.in_ok-take_first.ensures.world) c.requires.no_other
 
 pub returns-clause-world : goal.returns-clause-world
 returns-clause-world g c =
@@ -41,5 +42,6 @@ returns-clause-forms g c =
     let old = sight blocks c.args.keyspace.now c.args.at.now in
     let mid = sight blocks c.take_first.new.keyspace c.args.at.now in
     let rest = without c.args.end 1 (list_at old c.args.from.now) in
-    formed_both blocks c.args.at.now c.args.from.now c.args.to.now c.args.keyspace.now c.take_first.new.keyspace c.put_one.new.keyspace c.args.other c.args.element.now c.put_one.result c.requires.apart
+    formed_both blocks c.args.at.now c.args.from.now c.args.to.now c.args.keyspace.now c.take_first.new.keyspace c.put_one.new.keyspace c.args.other c.args.element.now c.put_one.result
+    c.requires.apart
     (same_look old mid c.args.from.now c.args.to.now rest c.requires.apart c.in_ok-take_first.ensures.world) c.take_first.ensures.held.within c.in_ok-take_first.ensures.forms c.put_one.ensures.forms

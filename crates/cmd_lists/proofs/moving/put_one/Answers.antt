@@ -10,5 +10,7 @@ returns-clause-forms g c =
     let blocks = g.B.BlockStore.blocks in
     let world = sight blocks c.args.keyspace.now c.args.at.now in
     let p = c.in_ok-change_at.ensures.changed in
-    risen_there _ blocks g.B.BlockStore.step c.args.keyspace.now c.change_at.new.keyspace c.args.at.now c.args.key.now p c.change_at.ensures.held (added c.args.end (list_at world c.args.key.now) (c.args.element.now ∷ []))
-    (p.made.is ∙ ap (λ l. added c.args.end l (c.new.result ∷ [])) (sym (list_before world c.args.key.now p.before p.stands)) ∙ ap (λ (w : List ℕ). added c.args.end (list_at world c.args.key.now) (w ∷ [])) (c.new.ensures ∙ c.as_slice.ensures)) (p.made.risen (omega arith))
+    risen_there _ blocks g.B.BlockStore.step c.args.keyspace.now c.change_at.new.keyspace c.args.at.now c.args.key.now p c.change_at.ensures.held
+    (added c.args.end (list_at world c.args.key.now) (c.args.element.now ∷ []))
+    (p.made.is ∙ ap (λ l. added c.args.end l (c.new.result ∷ [])) (sym (list_before world c.args.key.now p.before p.stands))
+    ∙ ap (λ (w : List ℕ). added c.args.end (list_at world c.args.key.now) (w ∷ [])) (c.new.ensures ∙ c.as_slice.ensures)) (p.made.risen (omega arith))

@@ -13,5 +13,6 @@ returns-clause-forms g c =
     let blocks = g.B.BlockStore.blocks in
     let world = sight blocks c.args.keyspace.now c.args.at.now in
     let p = c.in_ok-change_at.ensures.changed in
-    risen_there _ blocks g.B.BlockStore.step c.args.keyspace.now c.change_at.new.keyspace c.args.at.now c.args.key.now p c.change_at.ensures.held (added c.args.other (without c.args.end 1 (list_at world c.args.key.now)) (c.args.element.now ∷ []))
+    risen_there _ blocks g.B.BlockStore.step c.args.keyspace.now c.change_at.new.keyspace c.args.at.now c.args.key.now p c.change_at.ensures.held
+    (added c.args.other (without c.args.end 1 (list_at world c.args.key.now)) (c.args.element.now ∷ []))
     (p.made.is ∙ ap (λ l. added c.args.other (without c.args.end 1 l) (c.args.element.now ∷ [])) (sym (list_before world c.args.key.now p.before p.stands))) p.made.risen

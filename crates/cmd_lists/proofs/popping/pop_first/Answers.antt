@@ -18,7 +18,8 @@ returns-clause-gives g c =
 
 pub returns-clause-kept : goal.returns-clause-kept
 returns-clause-kept g c =
-    popped_calm g.B.BlockStore.blocks g.B.BlockStore.step (one_key c.args.at.now.db c.args.key.now) c.args.keyspace.now c.change_list.new.keyspace _ c.element_reply.result c.element_reply.ensures c.change_list.ensures.held
+    popped_calm g.B.BlockStore.blocks g.B.BlockStore.step (one_key c.args.at.now.db c.args.key.now) c.args.keyspace.now c.change_list.new.keyspace _ c.element_reply.result
+    c.element_reply.ensures c.change_list.ensures.held
 
 pub returns-clause-forms : goal.returns-clause-forms
 returns-clause-forms g c =

@@ -23,12 +23,14 @@ pub returns-clause-gives : goal.returns-clause-gives
 returns-clause-gives g c =
     let world = sight g.B.BlockStore.blocks c.args.keyspace.now c.args.at.now in
     let p = c.in_ok-pop.ensures.changed in
-    many_gives world _ c.args.key.now c.args.end c.args.most _ p.before c.in-There.ensures.list p.from p.now p.form p.stands c.in-There.ensures.has p.made p.world c.into_reply.result c.into_reply.ensures
+    many_gives world _ c.args.key.now c.args.end c.args.most _ p.before c.in-There.ensures.list p.from p.now p.form p.stands c.in-There.ensures.has p.made p.world c.into_reply.result
+    c.into_reply.ensures
 
 pub returns-clause-kept : goal.returns-clause-kept
 returns-clause-kept g c =
     let p = c.in_ok-pop.ensures.changed in
-    listed_calm g.B.BlockStore.blocks g.B.BlockStore.step (one_key c.args.at.now.db c.args.key.now) c.args.keyspace.now c.change_list.new.keyspace (take c.args.most (from_end c.args.end (or_none p.before))) c.into_reply.result (c.into_reply.ensures ∙ sym p.made.told) c.change_list.ensures.held
+    listed_calm g.B.BlockStore.blocks g.B.BlockStore.step (one_key c.args.at.now.db c.args.key.now) c.args.keyspace.now c.change_list.new.keyspace
+    (take c.args.most (from_end c.args.end (or_none p.before))) c.into_reply.result (c.into_reply.ensures ∙ sym p.made.told) c.change_list.ensures.held
 
 pub returns-clause-forms : goal.returns-clause-forms
 returns-clause-forms g c =

@@ -28,5 +28,6 @@ loop-index-preserved g c =
     record {
       next = c.place_behind-place.ensures;
       so_far = one_more ys 0 k c.args.parts.now c.loop-index.parts c.push.new.self _ (omega (arith, inside, met_length c.args.end xs)) c.loop-index.invariant.so_far
-          (c.in_ok-bytes-in-Some.ensures ∙ c.element.ensures ∙ ap (λ i. get_or xs i []) place.1 ∙ sym (met_at c.args.end xs k inside) ∙ ap (λ i. get_or ys i []) (sym from_none)) c.in_ok-push-in-Some.ensures.ok;
+          (c.in_ok-bytes-in-Some.ensures ∙ c.element.ensures ∙ ap (λ i. get_or xs i []) place.1 ∙ sym (met_at c.args.end xs k inside) ∙ ap (λ i. get_or ys i []) (sym from_none))
+          c.in_ok-push-in-Some.ensures.ok;
     }

@@ -9,7 +9,8 @@ pub loop-met-preserved-then-not-is_text : goal.loop-met-preserved-then-not-is_te
 loop-met-preserved-then-not-is_text g c =
     let so_far = c.loop-met.invariant in
     let meets = rw c.there-cursor.ensures at so_far.next in
-    let found = found_other c.end_of-end.result (g.B.BlockStore.blocks c.args.store.now) c.args.list.now c.loop-met.met c.before-first.result c.loop-met.skipped c.there-cursor.result (element_text c.element.result) c.args.text.now
+    let found = found_other c.end_of-end.result (g.B.BlockStore.blocks c.args.store.now) c.args.list.now c.loop-met.met c.before-first.result c.loop-met.skipped c.there-cursor.result
+    (element_text c.element.result) c.args.text.now
     c.loop-met.found.items meets c.element.ensures so_far.skips so_far.finds (sym c.is_text.ensures ∙ c.if-not-is_text.true) in
     record { next = c.met_behind-place.ensures c.loop-met.met meets; skips = found.0; finds = found.1; fewer = so_far.fewer }
 
@@ -17,7 +18,8 @@ pub loop-met-preserved-then-skipped-gt0 : goal.loop-met-preserved-then-skipped-g
 loop-met-preserved-then-skipped-gt0 g c =
     let so_far = c.loop-met.invariant in
     let meets = rw c.there-cursor.ensures at so_far.next in
-    let found = found_before c.end_of-end.result (g.B.BlockStore.blocks c.args.store.now) c.args.list.now c.loop-met.met c.before-first.result c.loop-met.skipped c.there-cursor.result (element_text c.element.result) c.args.text.now
+    let found = found_before c.end_of-end.result (g.B.BlockStore.blocks c.args.store.now) c.args.list.now c.loop-met.met c.before-first.result c.loop-met.skipped c.there-cursor.result
+    (element_text c.element.result) c.args.text.now
     c.loop-met.found.items meets c.element.ensures so_far.skips so_far.finds (sym c.is_text.ensures ∙ c.if-not-is_text.false) c.if-skipped-gt0.true in
     record { next = c.met_behind-place.ensures c.loop-met.met meets; skips = found.0; finds = found.1; fewer = so_far.fewer }
 
@@ -26,8 +28,10 @@ loop-met-preserved g c =
     let so_far = c.loop-met.invariant in
     let meets = rw c.there-cursor.ensures at so_far.next in
     let more = c.in_ok-push.ensures.items in
-    let found = found_more c.end_of-end.result (g.B.BlockStore.blocks c.args.store.now) c.args.list.now c.loop-met.met c.before-first.result c.loop-met.skipped c.there-cursor.result (element_text c.element.result) c.args.text.now
-    c.loop-met.found.items meets c.element.ensures so_far.skips so_far.finds c.index.result c.push.new.self.items (sym c.is_text.ensures ∙ c.if-not-is_text.false) (omega (arith, c.if-skipped-gt0.false)) c.index.ensures more in
+    let found = found_more c.end_of-end.result (g.B.BlockStore.blocks c.args.store.now) c.args.list.now c.loop-met.met c.before-first.result c.loop-met.skipped c.there-cursor.result
+    (element_text c.element.result) c.args.text.now
+    c.loop-met.found.items meets c.element.ensures so_far.skips so_far.finds c.index.result c.push.new.self.items (sym c.is_text.ensures ∙ c.if-not-is_text.false)
+    (omega (arith, c.if-skipped-gt0.false)) c.index.ensures more in
     let size = ap length more ∙ length-append c.loop-met.found.items (c.index.result ∷ []) in
     record {
       next = c.met_behind-place.ensures c.loop-met.met meets;
@@ -48,13 +52,16 @@ returns-then-len-wanted g c =
     let more = c.in_ok-push.ensures.items in
     let after = c.push.new.self.items in
     let found = found_more end (g.B.BlockStore.blocks c.args.store.now) c.args.list.now k first c.loop-met.skipped c.there-cursor.result (element_text c.element.result) c.args.text.now
-    c.loop-met.found.items meets c.element.ensures so_far.skips so_far.finds c.index.result after (sym c.is_text.ensures ∙ c.if-not-is_text.false) (omega (arith, c.if-skipped-gt0.false)) c.index.ensures more in
+    c.loop-met.found.items meets c.element.ensures so_far.skips so_far.finds c.index.result after (sym c.is_text.ensures ∙ c.if-not-is_text.false) (omega (arith, c.if-skipped-gt0.false))
+    c.index.ensures more in
     let size : length after ≡ length c.loop-met.found.items + 1 = ap length more ∙ length-append c.loop-met.found.items (c.index.result ∷ []) in
     let len : length xs ≡ c.len.result = omega (arith, c.len.ensures, c.requires.quick.counted) in
     let enough : length after ≡ c.args.wanted = omega (arith, c.if-len-wanted.true, c.len-in-loop-met.ensures, c.push.new.self.ok.0) in
     let met : k + 1 ≤ length (from_end end xs) = omega (arith, meets.inside, met_size end xs) in
     enough_told (index_from end (length xs)) c.args.text.now (from_end end xs) first (k + 1) looked c.args.wanted after (omega (arith, c.loop-met-test.true)) met found.1 (omega (arith, size)) enough
-    ∙ ap (at_most c.args.wanted) (matches_are c.args.options.rank c.args.options.most c.args.text.now xs end first looked c.end_of-end.ensures c.before-first.ensures (c.looked_at-looked.ensures.looked (from_end end xs) (met_size end xs ∙ len)))
+    ∙ ap (at_most c.args.wanted)
+    (matches_are c.args.options.rank c.args.options.most c.args.text.now xs end first looked c.end_of-end.ensures c.before-first.ensures
+    (c.looked_at-looked.ensures.looked (from_end end xs) (met_size end xs ∙ len)))
 
 pub returns : goal.returns
 returns g c =
@@ -66,4 +73,6 @@ returns g c =
     let len : length xs ≡ c.len.result = omega (arith, c.len.ensures, c.requires.quick.counted) in
     all_told c.args.wanted c.loop-met.found.items c.loop-met.invariant.fewer
     ∙ ap (at_most c.args.wanted) (rw all at c.loop-met.invariant.finds)
-    ∙ ap (at_most c.args.wanted) (matches_are c.args.options.rank c.args.options.most c.args.text.now xs end first looked c.end_of-end.ensures c.before-first.ensures (c.looked_at-looked.ensures.looked (from_end end xs) (met_size end xs ∙ len)))
+    ∙ ap (at_most c.args.wanted)
+    (matches_are c.args.options.rank c.args.options.most c.args.text.now xs end first looked c.end_of-end.ensures c.before-first.ensures
+    (c.looked_at-looked.ensures.looked (from_end end xs) (met_size end xs ∙ len)))

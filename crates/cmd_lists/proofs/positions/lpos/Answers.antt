@@ -25,6 +25,7 @@ returns-in_ok-found-in-There g c =
     let o = c.args.options in
     let all = matches o.rank o.most c.args.element.now (elements m q) in
     record {
-      gives = told_list world m c.args.key.now q (λ before. tells (positions o.count (matches o.rank o.most c.args.element.now (or_none before))) world) c.positions_reply-in-There.result c.in-There.ensures
+      gives = told_list world m c.args.key.now q (λ before. tells (positions o.count (matches o.rank o.most c.args.element.now (or_none before))) world) c.positions_reply-in-There.result
+          c.in-There.ensures
           (c.positions_reply-in-There.ensures all (c.deref.ensures.value ∙ c.in_ok-found-in-There.ensures ∙ ap (λ n. at_most n all) c.most_told-wanted.ensures)) refl;
     }

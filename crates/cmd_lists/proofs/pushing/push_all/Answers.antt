@@ -32,7 +32,9 @@ loop-word-preserved g c =
     record {
       quick = c.push_one.ensures.quick;
       is = ap (λ l. added c.args.end l others) list ∙ added_step c.args.end xs word others ∙ ap (added c.args.end xs) (sym rest) ∙ c.loop-word.invariant.is;
-      form = inr (rises_on c.args.end c.args.words.now (drop c.loop-word.word-index c.args.words.now) c.args.list.now.form c.loop-word.list.form c.push_one.new.list.form xs ys word c.loop-word.invariant.form list c.in_ok-push_one.ensures.form);
+      form = inr
+          (rises_on c.args.end c.args.words.now (drop c.loop-word.word-index c.args.words.now) c.args.list.now.form c.loop-word.list.form c.push_one.new.list.form xs ys word
+          c.loop-word.invariant.form list c.in_ok-push_one.ensures.form);
       changes = Changes-then _ _ _ _ _ _ c.loop-word.invariant.changes c.push_one.ensures.changes;
       served = Served-then _ _ _ c.loop-word.invariant.served c.push_one.ensures.served;
     }

@@ -15,7 +15,8 @@ returns-clause-forms g c =
     let blocks = g.B.BlockStore.blocks in
     let world = sight blocks c.args.keyspace.now c.args.at.now in
     let p = c.in_ok-push.ensures.changed in
-    formed_risen _ blocks g.B.BlockStore.step c.args.keyspace.now c.change_list.new.keyspace c.args.at.now c.args.key.now p c.change_list.ensures.held (added c.args.end (list_at world c.args.key.now) c.args.words.now)
+    formed_risen _ blocks g.B.BlockStore.step c.args.keyspace.now c.change_list.new.keyspace c.args.at.now c.args.key.now p c.change_list.ensures.held
+    (added c.args.end (list_at world c.args.key.now) c.args.words.now)
     (p.made.is ∙ ap (λ l. added c.args.end l c.args.words.now) (sym (list_before world c.args.key.now p.before p.stands))) (p.made.risen c.requires.some) _
 
 pub returns-in-Missing-clause-kept : goal.returns-in-Missing-clause-kept

@@ -11,14 +11,16 @@ pub returns-in-Other-clause-kept : goal.returns-in-Other-clause-kept
 returns-in-Other-clause-kept g c = unchanged g.B.BlockStore.blocks g.B.BlockStore.step (one_key c.args.at.now.db c.args.key.now) c.args.keyspace.now c.refused.result c.requires.ready.sound
 
 pub returns-in-Missing-clause-kept : goal.returns-in-Missing-clause-kept
-returns-in-Missing-clause-kept g c = unchanged g.B.BlockStore.blocks g.B.BlockStore.step (one_key c.args.at.now.db c.args.key.now) c.args.keyspace.now c.refused-in-Missing.result c.requires.ready.sound
+returns-in-Missing-clause-kept g c = unchanged g.B.BlockStore.blocks g.B.BlockStore.step (one_key c.args.at.now.db c.args.key.now) c.args.keyspace.now c.refused-in-Missing.result
+    c.requires.ready.sound
 
 pub returns-in-None-clause-kept : goal.returns-in-None-clause-kept
 returns-in-None-clause-kept g c = unchanged g.B.BlockStore.blocks g.B.BlockStore.step (one_key c.args.at.now.db c.args.key.now) c.args.keyspace.now c.refused-in-None.result c.requires.ready.sound
 
 pub returns-clause-kept : goal.returns-clause-kept
 returns-clause-kept g c =
-    simple_calm g.B.BlockStore.blocks g.B.BlockStore.step (one_key c.args.at.now.db c.args.key.now) c.args.keyspace.now c.change_list.new.keyspace c.ok.result c.simple.result c.simple.ensures c.change_list.ensures.held
+    simple_calm g.B.BlockStore.blocks g.B.BlockStore.step (one_key c.args.at.now.db c.args.key.now) c.args.keyspace.now c.change_list.new.keyspace c.ok.result c.simple.result
+    c.simple.ensures c.change_list.ensures.held
 
 pub returns-clause-forms : goal.returns-clause-forms
 returns-clause-forms g c =
@@ -26,5 +28,6 @@ returns-clause-forms g c =
     let list = c.in-There.ensures.list in
     let placed = c.place_at.ensures in
     let place : c.place_at.result ≡ place_of c.length_at.result c.args.index = rw (to_z-of_z w64 c.args.index c.ranges.index) at placed in
-    set_formed _ g.B.BlockStore.blocks g.B.BlockStore.step c.args.keyspace.now c.change_list.new.keyspace c.args.at.now c.args.key.now p c.change_list.ensures.held c.args.element.now c.args.index c.in-Some.place list c.length_at.result c.in-There.ensures.has
+    set_formed _ g.B.BlockStore.blocks g.B.BlockStore.step c.args.keyspace.now c.change_list.new.keyspace c.args.at.now c.args.key.now p c.change_list.ensures.held c.args.element.now
+    c.args.index c.in-Some.place list c.length_at.result c.in-There.ensures.has
     (c.length_at.ensures list c.in-There.ensures.has) (sym place ∙ c.in-Some.is) p.made.is p.made.risen c.simple.result

@@ -57,4 +57,6 @@ returns-clause-members g c =
 pub returns-clause-form : goal.returns-clause-form
 returns-clause-form g c =
     let none : drop c.loop-word.word-index c.args.words.now ≡ [] = drop_all c.loop-word.word-index c.args.words.now (omega (arith, c.loop-word-test.false)) in
-    c.loop-word.invariant.risen (form_of c.loop-word.set) (subst (λ l. RisesWith c.args.set.now.limits (form_of c.loop-word.set) (members (g.B.BlockStore.blocks c.loop-word.store) c.loop-word.set) l (form_of c.loop-word.set)) (sym none) refl)
+    c.loop-word.invariant.risen (form_of c.loop-word.set)
+    (subst (λ l. RisesWith c.args.set.now.limits (form_of c.loop-word.set) (members (g.B.BlockStore.blocks c.loop-word.store) c.loop-word.set) l (form_of c.loop-word.set)) (sym none)
+    refl)

@@ -14,7 +14,8 @@ invariant-loop-word g l =
       sound : IsMembers (blocks l.store) l.set;
       settings : KeepsSettings first l.set;
       is : add_all (members (blocks l.store) l.set) (drop l.word-index l.words) ≡ add_all (members (blocks l.fn.store) first) l.words;
-      risen : (form : Form) → RisesWith first.limits (form_of l.set) (members (blocks l.store) l.set) (drop l.word-index l.words) form → RisesWith first.limits (form_of first) (members (blocks l.fn.store) first) l.words form;
+      risen : (form : Form) → RisesWith first.limits (form_of l.set) (members (blocks l.store) l.set) (drop l.word-index l.words) form
+          → RisesWith first.limits (form_of first) (members (blocks l.fn.store) first) l.words form;
       changes : Changes (blocks l.fn.store) (blocks l.store) (refs first) (refs l.set);
       served : Served g.B.BlockStore.step l.fn.store l.store;
     }

@@ -11,13 +11,16 @@ pub returns-clause-gives : goal.returns-clause-gives
 returns-clause-gives g c =
     let blocks = g.B.BlockStore.blocks in
     let p = c.in_ok-add.ensures.changed in
-    added_reply _ (sight blocks c.args.keyspace.now c.args.at.now) (sight blocks c.change_set.new.keyspace c.args.at.now) c.args.key.now c.args.members.now p.now _ p.before p.from p.form p.stands p.made p.world c.count_reply.result c.count_reply.ensures
+    added_reply _ (sight blocks c.args.keyspace.now c.args.at.now) (sight blocks c.change_set.new.keyspace c.args.at.now) c.args.key.now c.args.members.now p.now _ p.before p.from p.form
+    p.stands p.made p.world c.count_reply.result c.count_reply.ensures
 
 pub returns-clause-kept : goal.returns-clause-kept
 returns-clause-kept g c =
-    calm g.B.BlockStore.blocks g.B.BlockStore.step (one_key c.args.at.now.db c.args.key.now) c.args.keyspace.now c.change_set.new.keyspace c.count_reply.result (number_calm _ c.count_reply.result c.count_reply.ensures) c.change_set.ensures.held
+    calm g.B.BlockStore.blocks g.B.BlockStore.step (one_key c.args.at.now.db c.args.key.now) c.args.keyspace.now c.change_set.new.keyspace c.count_reply.result
+    (number_calm _ c.count_reply.result c.count_reply.ensures) c.change_set.ensures.held
 
 pub returns-clause-forms : goal.returns-clause-forms
 returns-clause-forms g c =
     let p = c.in_ok-add.ensures.changed in
-    formed_risen _ g.B.BlockStore.blocks g.B.BlockStore.step c.args.keyspace.now c.change_set.new.keyspace c.args.at.now c.args.key.now p c.change_set.ensures.held c.args.members.now p.made.risen c.count_reply.result
+    formed_risen _ g.B.BlockStore.blocks g.B.BlockStore.step c.args.keyspace.now c.change_set.new.keyspace c.args.at.now c.args.key.now p c.change_set.ensures.held c.args.members.now
+    p.made.risen c.count_reply.result

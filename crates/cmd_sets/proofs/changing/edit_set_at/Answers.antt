@@ -24,7 +24,8 @@ pub edit_new-requires-clause-sound : goal.edit_new-requires-clause-sound
 edit_new-requires-clause-sound g c =
     let m = g.B.BlockStore.blocks c.args.keyspace.now.store in
     let same : c.in_ok-new-in-None.field-0.value ≡ c.new-empty.result = search rules in
-    subst (λ (s : object.Members). IsMembers m s × (s.limits ≡ c.args.keyspace.now.bases.limits) × (s.seed ≡ c.args.keyspace.now.bases.seed)) (sym same) (c.new-empty.ensures.sound m, c.new-empty.ensures.limits ∙ c.limits.ensures, c.new-empty.ensures.seed ∙ c.seed.ensures)
+    subst (λ (s : object.Members). IsMembers m s × (s.limits ≡ c.args.keyspace.now.bases.limits) × (s.seed ≡ c.args.keyspace.now.bases.seed)) (sym same)
+    (c.new-empty.ensures.sound m, c.new-empty.ensures.limits ∙ c.limits.ensures, c.new-empty.ensures.seed ∙ c.seed.ensures)
 
 pub edit_new-requires-clause-takes : goal.edit_new-requires-clause-takes
 edit_new-requires-clause-takes g c =
@@ -43,10 +44,13 @@ returns-in_ok-new-in-None-clause-edited g c =
     let same : c.in_ok-new-in-None.field-0.value ≡ c.new-empty.result = search rules in
     let none : look (sight g.B.BlockStore.blocks c.args.keyspace.now c.args.at.now) c.args.key.now ≡ None = rw c.in-None.is at c.requires.there in
     let limits = c.new-empty.ensures.limits ∙ c.limits.ensures in
-    set_new _ (λ l. g.E.SetEdit.makes l c.args.on.now.edit c.edit_new.new.edit.edit) c.edit_new.new.edit.left c.args.on.now c.edit_new.new.edit g.B.BlockStore.blocks c.args.keyspace.now c.edit_new.new.keyspace c.args.at.now c.args.key.now (λ o n made. made)
+    set_new _ (λ l. g.E.SetEdit.makes l c.args.on.now.edit c.edit_new.new.edit.edit) c.edit_new.new.edit.left c.args.on.now c.edit_new.new.edit g.B.BlockStore.blocks c.args.keyspace.now
+    c.edit_new.new.keyspace c.args.at.now c.args.key.now (λ o n made. made)
     (kinds.Set c.in_ok-new-in-None.field-0) (ap SetOf (ap (members m) same ∙ c.new-empty.ensures.empty m)) (ap (λ (s : object.Members). Some s.limits) same ∙ ap Some limits)
-    (λ f e. subst (λ l. IsLeast (FitsMembers l empty) f) c.limits.ensures (subst (IsLeast (FitsMembers c.limits.result empty)) (ap form_of (sym same) ∙ ap (form_in f) e) c.new-empty.ensures.form)) none c.edit_new.result c.edit_new.ensures.made
+    (λ f e. subst (λ l. IsLeast (FitsMembers l empty) f) c.limits.ensures
+    (subst (IsLeast (FitsMembers c.limits.result empty)) (ap form_of (sym same) ∙ ap (form_in f) e) c.new-empty.ensures.form)) none c.edit_new.result c.edit_new.ensures.made
 
 pub returns-in-Some-clause-edited : goal.returns-in-Some-clause-edited
 returns-in-Some-clause-edited g c =
-    set_there _ (λ l. g.E.SetEdit.makes l c.args.on.now.edit c.edit_there.new.edit.edit) c.edit_there.new.edit.left c.args.on.now c.edit_there.new.edit g.B.BlockStore.blocks c.args.keyspace.now c.edit_there.new.keyspace c.args.at.now c.args.key.now (λ o n made. made) c.requires.ready.sound c.edit_there.result c.edit_there.ensures.edits
+    set_there _ (λ l. g.E.SetEdit.makes l c.args.on.now.edit c.edit_there.new.edit.edit) c.edit_there.new.edit.left c.args.on.now c.edit_there.new.edit g.B.BlockStore.blocks
+    c.args.keyspace.now c.edit_there.new.keyspace c.args.at.now c.args.key.now (λ o n made. made) c.requires.ready.sound c.edit_there.result c.edit_there.ensures.edits

@@ -32,4 +32,5 @@ pub returns-clause-members : goal.returns-clause-members
 returns-clause-members g c =
     let m = g.A.BlockStore.blocks c.args.store.now in
     let all = count_is m c.args.set.now c.requires.sound c.len-count.result (c.len-count.ensures m c.requires.sound) in
-    c.loop-index.invariant.so_far ∙ ap (add_all (members (g.B.BlockStore.blocks c.args.own.now) c.args.all.now)) (take_all c.loop-index.index (listed m c.args.set.now) (omega (arith, all, c.loop-index-test.false)))
+    c.loop-index.invariant.so_far ∙ ap (add_all (members (g.B.BlockStore.blocks c.args.own.now) c.args.all.now))
+    (take_all c.loop-index.index (listed m c.args.set.now) (omega (arith, all, c.loop-index-test.false)))

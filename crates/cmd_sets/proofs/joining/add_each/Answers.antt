@@ -17,7 +17,8 @@ loop-key-preserved g c =
     let same : c.as_slice.result.now ≡ key = c.as_slice.ensures in
     record {
       sound = c.in_ok-add_at.ensures.sound;
-      so_far = λ q. added_key world (drop c.loop-key.key-index c.args.keys.now) others key (members (blocks c.loop-key.own) c.loop-key.all) (members (blocks c.add_at.new.own) c.add_at.new.all) (set_at world c.as_slice.result.now) rest (ap (set_at world) same) c.in_ok-add_at.ensures.members q
+      so_far = λ q. added_key world (drop c.loop-key.key-index c.args.keys.now) others key (members (blocks c.loop-key.own) c.loop-key.all)
+          (members (blocks c.add_at.new.own) c.add_at.new.all) (set_at world c.as_slice.result.now) rest (ap (set_at world) same) c.in_ok-add_at.ensures.members q
           ∙ c.loop-key.invariant.so_far q;
     }
 

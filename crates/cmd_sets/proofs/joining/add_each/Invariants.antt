@@ -12,5 +12,6 @@ invariant-loop-key g l =
     let blocks = g.C.BlockStore.blocks in
     record {
       sound : IsMembers (blocks l.own) l.all;
-      so_far : (name : List ℕ) → (has (members (blocks l.own) l.all) name || in_any (sets_here world (drop l.key-index l.keys)) name) ≡ (has (members (blocks l.fn.own) l.fn.all) name || in_any (sets_here world l.keys) name);
+      so_far : (name : List ℕ) → (has (members (blocks l.own) l.all) name || in_any (sets_here world (drop l.key-index l.keys)) name) ≡
+          (has (members (blocks l.fn.own) l.fn.all) name || in_any (sets_here world l.keys) name);
     }

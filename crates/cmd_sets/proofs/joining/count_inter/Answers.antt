@@ -12,4 +12,5 @@ returns-then-is_empty g c =
 pub returns : goal.returns
 returns g c =
     let world = sight g.B.BlockStore.blocks c.args.keyspace.now c.args.at.now in
-    shared_counted c.args.limit world c.args.keys.now c.smallest-least.result c.index-keys-least.result c.in_ok-names.names.items c.count_shared.result c.smallest-least.ensures c.index-keys-least.is (c.in_ok-names.ensures.members ∙ ap (set_at world) c.as_slice.ensures) c.in_ok-names.ensures.once c.count_shared.ensures
+    shared_counted c.args.limit world c.args.keys.now c.smallest-least.result c.index-keys-least.result c.in_ok-names.names.items c.count_shared.result c.smallest-least.ensures
+    c.index-keys-least.is (c.in_ok-names.ensures.members ∙ ap (set_at world) c.as_slice.ensures) c.in_ok-names.ensures.once c.count_shared.ensures

@@ -20,5 +20,6 @@ returns-in_ok-names-in-Some-clause-join g c =
     let world = sight g.B.BlockStore.blocks c.args.keyspace.now c.args.at.now in
     let names = set_of c.in_ok-names-in-Some.names.items in
     if_as c.drop_each.result
-    (λ kept left. diff_of world c.args.keys.now c.in-Some.others.now c.in-Some.first.now names (set_of kept.items) c.in-Some.ensures.cases.0 (c.in_ok-names-in-Some.ensures.members ∙ ap (set_at world) c.as_slice.ensures) left)
+    (λ kept left. diff_of world c.args.keys.now c.in-Some.others.now c.in-Some.first.now names (set_of kept.items) c.in-Some.ensures.cases.0
+    (c.in_ok-names-in-Some.ensures.members ∙ ap (set_at world) c.as_slice.ensures) left)
     c.drop_each.ensures.left

@@ -19,7 +19,8 @@ loop-key-preserved g c =
     let new = c.in_ok-kept.kept.items in
     let set = set_at world c.as_slice.result.now in
     record {
-      left = λ q. dropped_key world (drop c.loop-key.key-index c.args.keys.now) others key (set_of old) (set_of new) set rest (ap (set_at world) same) (sifted_has false set old new c.in_ok-kept.ensures) q ∙ c.loop-key.invariant.left q;
+      left = λ q. dropped_key world (drop c.loop-key.key-index c.args.keys.now) others key (set_of old) (set_of new) set rest (ap (set_at world) same)
+          (sifted_has false set old new c.in_ok-kept.ensures) q ∙ c.loop-key.invariant.left q;
       once = sifted_once false set old new c.in_ok-kept.ensures c.loop-key.invariant.once;
     }
 

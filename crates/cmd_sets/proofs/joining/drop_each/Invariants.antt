@@ -10,6 +10,7 @@ abbrev pub invariant-loop-key : goal.invariant-loop-key
 invariant-loop-key g l =
     let world = sight g.B.BlockStore.blocks l.keyspace l.at in
     record {
-      left : (name : List ℕ) → (has (set_of l.kept.items) name && not (in_any (sets_here world (drop l.key-index l.keys)) name)) ≡ (has (set_of l.fn.names.items) name && not (in_any (sets_here world l.keys) name));
+      left : (name : List ℕ) → (has (set_of l.kept.items) name && not (in_any (sets_here world (drop l.key-index l.keys)) name)) ≡
+          (has (set_of l.fn.names.items) name && not (in_any (sets_here world l.keys) name));
       once : IsOnce l.kept.items;
     }

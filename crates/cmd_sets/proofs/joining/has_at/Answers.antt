@@ -11,4 +11,5 @@ returns-in-Other g c = sym (other_lacks (sight g.B.BlockStore.blocks c.args.keys
 
 pub returns-in-There : goal.returns-in-There
 returns-in-There g c =
-    c.has.ensures ∙ sym (found_has (sight g.B.BlockStore.blocks c.args.keyspace.now c.args.at.now) (g.B.BlockStore.blocks c.args.keyspace.now.store) c.args.key.now c.args.name.now _ c.in-There.ensures)
+    c.has.ensures ∙ sym
+    (found_has (sight g.B.BlockStore.blocks c.args.keyspace.now c.args.at.now) (g.B.BlockStore.blocks c.args.keyspace.now.store) c.args.key.now c.args.name.now _ c.in-There.ensures)

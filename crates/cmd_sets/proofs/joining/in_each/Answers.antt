@@ -13,7 +13,8 @@ loop-key-preserved g c =
     let others : List (List ℕ) = drop (c.loop-key.key-index + 1) c.args.keys.now in
     let rest : drop c.loop-key.key-index c.args.keys.now ≡ key ∷ others = rest_from c.args.keys.now c.loop-key.key-index key (search rules) c.key-item.is in
     let same : c.as_slice.result.now ≡ key = c.as_slice.ensures in
-    here world (drop c.loop-key.key-index c.args.keys.now) others key c.args.name.now rest (ap (λ k. has (set_at world k) c.args.name.now) (sym same) ∙ sym c.if-not-has_at.ensures) ∙ c.loop-key.invariant
+    here world (drop c.loop-key.key-index c.args.keys.now) others key c.args.name.now rest (ap (λ k. has (set_at world k) c.args.name.now) (sym same) ∙ sym c.if-not-has_at.ensures)
+    ∙ c.loop-key.invariant
 
 pub returns-then-not-has_at : goal.returns-then-not-has_at
 returns-then-not-has_at g c =
@@ -22,4 +23,6 @@ returns-then-not-has_at g c =
     let others : List (List ℕ) = drop (c.loop-key.key-index + 1) c.args.keys.now in
     let rest : drop c.loop-key.key-index c.args.keys.now ≡ key ∷ others = rest_from c.args.keys.now c.loop-key.key-index key (search rules) c.key-item.is in
     let same : c.as_slice.result.now ≡ key = c.as_slice.ensures in
-    sym (sym c.loop-key.invariant ∙ lacking world (drop c.loop-key.key-index c.args.keys.now) others key c.args.name.now rest (ap (λ k. has (set_at world k) c.args.name.now) (sym same) ∙ sym c.if-not-has_at.ensures))
+    sym
+    (sym c.loop-key.invariant ∙ lacking world (drop c.loop-key.key-index c.args.keys.now) others key c.args.name.now rest
+    (ap (λ k. has (set_at world k) c.args.name.now) (sym same) ∙ sym c.if-not-has_at.ensures))

@@ -30,7 +30,8 @@ loop-index-preserved g c =
     let old = set_of before in
     let new = set_of after in
     let set = set_at world c.as_slice-in-loop-index.result.now in
-    let asked : (q : List ℕ) → has new q ≡ (has old q && has (set_at world key) q) = λ q. sifted_has true set before after c.in_ok-kept-2.ensures q ∙ ap (λ k. has old q && has (set_at world k) q) c.as_slice-in-loop-index.ensures in
+    let asked : (q : List ℕ) → has new q ≡ (has old q && has (set_at world key) q) = λ q. sifted_has true set before after c.in_ok-kept-2.ensures q
+    ∙ ap (λ k. has old q && has (set_at world k) q) c.as_slice-in-loop-index.ensures in
     record {
       all = λ q. all_more world keys c.loop-index.index key old new (search rules) c.index-keys-index.is asked q ∙ c.loop-index.invariant.all q;
       own = own_more world keys (get_or keys c.args.one []) key old new asked c.loop-index.invariant.own;

@@ -8,7 +8,8 @@ use Rattle.cmd_sets.proofs.listing.members_reply.Goals as goal
 told_here : (g : _) (c : goal.In_ok-push_members g) → c.push_members.new.parts ≡ listed (object.listed (g.B.BlockStore.blocks c.args.store.now) c.args.set.now)
 told_here g c =
     let m = g.B.BlockStore.blocks c.args.store.now in
-    listed_parts (object.listed m c.args.set.now) c.len.result c.new-parts.result c.push.new.self c.push_members.new.parts c.new-parts.ensures (count_is m c.args.set.now c.requires.sound c.len.result (c.len.ensures m c.requires.sound)) c.in_ok-push.ensures.ok c.in_ok-push_members.ensures
+    listed_parts (object.listed m c.args.set.now) c.len.result c.new-parts.result c.push.new.self c.push_members.new.parts c.new-parts.ensures
+    (count_is m c.args.set.now c.requires.sound c.len.result (c.len.ensures m c.requires.sound)) c.in_ok-push.ensures.ok c.in_ok-push_members.ensures
 
 pub into_reply-requires : goal.into_reply-requires
 into_reply-requires g c = subst IsReply (sym (told_here g c)) (listed_is_reply (object.listed (g.B.BlockStore.blocks c.args.store.now) c.args.set.now))

@@ -8,7 +8,10 @@ members_reply-requires g c = record { sound = c.new-none.ensures.sound _ }
 pub returns-in-Missing : goal.returns-in-Missing
 returns-in-Missing g c =
     let m = g.B.BlockStore.blocks c.args.keyspace.now.store in
-    record { gives = none_listed c.args.keyspace.now.bases.seed (sight g.B.BlockStore.blocks c.args.keyspace.now c.args.at.now) c.args.key.now _ c.members_reply.result (rw c.in-Missing.is at c.set_at.ensures) (c.new-none.ensures.empty m) c.members_reply.ensures }
+    record {
+      gives = none_listed c.args.keyspace.now.bases.seed (sight g.B.BlockStore.blocks c.args.keyspace.now c.args.at.now) c.args.key.now _ c.members_reply.result
+          (rw c.in-Missing.is at c.set_at.ensures) (c.new-none.ensures.empty m) c.members_reply.ensures;
+    }
 
 pub returns-in-Other : goal.returns-in-Other
 returns-in-Other g c =
@@ -17,4 +20,7 @@ returns-in-Other g c =
 pub returns-in-There : goal.returns-in-There
 returns-in-There g c =
     let m = g.B.BlockStore.blocks c.args.keyspace.now.store in
-    record { gives = set_listed c.args.keyspace.now.bases.seed (sight g.B.BlockStore.blocks c.args.keyspace.now c.args.at.now) m c.args.key.now _ c.members_reply-in-There.result c.in-There.ensures c.members_reply-in-There.ensures }
+    record {
+      gives = set_listed c.args.keyspace.now.bases.seed (sight g.B.BlockStore.blocks c.args.keyspace.now c.args.at.now) m c.args.key.now _ c.members_reply-in-There.result
+          c.in-There.ensures c.members_reply-in-There.ensures;
+    }

@@ -23,20 +23,24 @@ change_set-requires-2-clause-there g c =
     sought_item blocks c.change_set.new.keyspace c.args.at.now c.args.to.now c.seek-found-2.result move.before c.seek-found-2.ensures (before_stays old mid c.args.to.now move.before same move.target)
 
 pub returns-in_err-change_set-clause-held : goal.returns-in_err-change_set-clause-held
-returns-in_err-change_set-clause-held g c = held_from g.B.BlockStore.blocks g.B.BlockStore.step c.args.at.now.db c.args.from.now c.args.to.now c.args.keyspace.now c.change_set.new.keyspace c.change_set.ensures.held
+returns-in_err-change_set-clause-held g c = held_from g.B.BlockStore.blocks g.B.BlockStore.step c.args.at.now.db c.args.from.now c.args.to.now c.args.keyspace.now c.change_set.new.keyspace
+    c.change_set.ensures.held
 
 pub returns-in_err-change_set-2-clause-held : goal.returns-in_err-change_set-2-clause-held
-returns-in_err-change_set-2-clause-held g c = held_both g.B.BlockStore.blocks g.B.BlockStore.step c.args.at.now.db c.args.from.now c.args.to.now c.args.keyspace.now c.change_set.new.keyspace c.change_set-2.new.keyspace c.change_set.ensures.held c.change_set-2.ensures.held
+returns-in_err-change_set-2-clause-held g c = held_both g.B.BlockStore.blocks g.B.BlockStore.step c.args.at.now.db c.args.from.now c.args.to.now c.args.keyspace.now
+    c.change_set.new.keyspace c.change_set-2.new.keyspace c.change_set.ensures.held c.change_set-2.ensures.held
 
 pub returns-clause-held : goal.returns-clause-held
-returns-clause-held g c = held_both g.B.BlockStore.blocks g.B.BlockStore.step c.args.at.now.db c.args.from.now c.args.to.now c.args.keyspace.now c.change_set.new.keyspace c.change_set-2.new.keyspace c.change_set.ensures.held c.change_set-2.ensures.held
+returns-clause-held g c = held_both g.B.BlockStore.blocks g.B.BlockStore.step c.args.at.now.db c.args.from.now c.args.to.now c.args.keyspace.now c.change_set.new.keyspace
+    c.change_set-2.new.keyspace c.change_set.ensures.held c.change_set-2.ensures.held
 
 pub returns-clause-moved : goal.returns-clause-moved
 returns-clause-moved g c =
     let blocks = g.B.BlockStore.blocks in
     let p = c.in_ok-change_set.ensures.changed in
     let q = c.in_ok-change_set-2.ensures.changed in
-    moved_is _ (sight blocks c.args.keyspace.now c.args.at.now) (sight blocks c.change_set.new.keyspace c.args.at.now) (sight blocks c.change_set-2.new.keyspace c.args.at.now) c.args.from.now c.args.to.now c.args.member.now c.requires.moves c.new.result c.new.ensures
+    moved_is _ (sight blocks c.args.keyspace.now c.args.at.now) (sight blocks c.change_set.new.keyspace c.args.at.now) (sight blocks c.change_set-2.new.keyspace c.args.at.now)
+    c.args.from.now c.args.to.now c.args.member.now c.requires.moves c.new.result c.new.ensures
     p.before p.from p.form _ p.now p.stands p.made p.world q.before q.from q.form _ q.now q.stands q.made q.world
 
 pub returns-clause-forms : goal.returns-clause-forms
@@ -52,7 +56,9 @@ returns-clause-forms g c =
     let p = c.in_ok-change_set.ensures.changed in
     let q = c.in_ok-change_set-2.ensures.changed in
     let apart = differ from to move.apart in
-    formed_both blocks step c.args.keyspace.now c.change_set.new.keyspace c.change_set-2.new.keyspace at from to c.args.member.now c.change_set.ensures.held c.change_set-2.ensures.held apart (look_kept old mid from to p.now apart p.world)
-    (formed_as _ blocks step c.args.keyspace.now c.change_set.new.keyspace at from p c.change_set.ensures.held move.members (before_is old from p.before move.members p.stands move.stands) p.made.form_is {A = Unit {0}} {X = Unit {0}} (Ok tt))
+    formed_both blocks step c.args.keyspace.now c.change_set.new.keyspace c.change_set-2.new.keyspace at from to c.args.member.now c.change_set.ensures.held c.change_set-2.ensures.held
+    apart (look_kept old mid from to p.now apart p.world)
+    (formed_as _ blocks step c.args.keyspace.now c.change_set.new.keyspace at from p c.change_set.ensures.held move.members (before_is old from p.before move.members p.stands move.stands)
+    p.made.form_is {A = Unit {0}} {X = Unit {0}} (Ok tt))
     (formed_risen _ blocks step c.change_set.new.keyspace c.change_set-2.new.keyspace at to q c.change_set-2.ensures.held (c.args.member.now ∷ [])
     (subst (λ w. RisesWith c.change_set.new.keyspace.bases.limits q.from (or_no_members q.before) (w ∷ []) q.form) c.new.ensures q.made.risen) {A = Unit {0}} {X = Unit {0}} (Ok tt))

@@ -17,12 +17,14 @@ returns-clause-gives g c =
     let world = sight blocks c.args.keyspace.now c.args.at.now in
     let p = c.in_ok-pop.ensures.changed in
     let item = rw c.in-There.is at c.set_sought.ensures in
-    popped_reply c.args.keyspace.now.bases.seed c.args.n c.is_some-2.result world (sight blocks c.change_set.new.keyspace c.args.at.now) c.args.key.now c.in_ok-pop.pop.gone.items item.members p.now p.before p.from p.form item.has
+    popped_reply c.args.keyspace.now.bases.seed c.args.n c.is_some-2.result world (sight blocks c.change_set.new.keyspace c.args.at.now) c.args.key.now c.in_ok-pop.pop.gone.items
+    item.members p.now p.before p.from p.form item.has
     (before_is world c.args.key.now p.before item.members p.stands item.has) p.made p.world c.is_some-2.ensures c.picks_reply-2.result c.picks_reply-2.ensures
 
 pub returns-clause-kept : goal.returns-clause-kept
 returns-clause-kept g c =
-    calm g.B.BlockStore.blocks g.B.BlockStore.step (one_key c.args.at.now.db c.args.key.now) c.args.keyspace.now c.change_set.new.keyspace c.picks_reply-2.result (picks_calm c.is_some-2.result c.in_ok-pop.pop.gone.items c.picks_reply-2.result c.picks_reply-2.ensures) c.change_set.ensures.held
+    calm g.B.BlockStore.blocks g.B.BlockStore.step (one_key c.args.at.now.db c.args.key.now) c.args.keyspace.now c.change_set.new.keyspace c.picks_reply-2.result
+    (picks_calm c.is_some-2.result c.in_ok-pop.pop.gone.items c.picks_reply-2.result c.picks_reply-2.ensures) c.change_set.ensures.held
 
 pub returns-clause-forms : goal.returns-clause-forms
 returns-clause-forms g c =

@@ -6,7 +6,8 @@ use Rattle.cmd_sets.specs.Found.{told_each}
 use Rattle.cmd_sets.proofs.Telling.{each_is_reply, each_parts}
 use Rattle.cmd_sets.proofs.reading.each_reply.Goals as goal
 
-told_here : (g : _) (c : goal.In_ok-push_each g) → c.push_each.new.parts ≡ Array (length c.args.words.now) ∷ told_each (members (g.B.BlockStore.blocks c.args.store.now) c.args.set.now) c.args.words.now
+told_here : (g : _) (c : goal.In_ok-push_each g) → c.push_each.new.parts ≡ Array (length c.args.words.now)
+    ∷ told_each (members (g.B.BlockStore.blocks c.args.store.now) c.args.set.now) c.args.words.now
 told_here g c =
     each_parts (members (g.B.BlockStore.blocks c.args.store.now) c.args.set.now) c.args.words.now _ _ c.push_each.new.parts c.new-reply.ensures c.in_ok-push.ensures.ok c.in_ok-push_each.ensures
 

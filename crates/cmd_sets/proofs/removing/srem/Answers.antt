@@ -12,7 +12,8 @@ returns-in-Missing-clause-kept g c = unchanged g.B.BlockStore.blocks g.B.BlockSt
 
 pub returns-in-Missing-clause-gives : goal.returns-in-Missing-clause-gives
 returns-in-Missing-clause-gives g c =
-    dropped_none (sight g.B.BlockStore.blocks c.args.keyspace.now c.args.at.now) c.args.key.now c.args.members.now (rw c.in-Missing.is at c.set_sought.ensures) c.count_reply.result c.count_reply.ensures
+    dropped_none (sight g.B.BlockStore.blocks c.args.keyspace.now c.args.at.now) c.args.key.now c.args.members.now (rw c.in-Missing.is at c.set_sought.ensures) c.count_reply.result
+    c.count_reply.ensures
 
 pub returns-clause-gives : goal.returns-clause-gives
 returns-clause-gives g c =
@@ -25,7 +26,8 @@ returns-clause-gives g c =
 
 pub returns-clause-kept : goal.returns-clause-kept
 returns-clause-kept g c =
-    calm g.B.BlockStore.blocks g.B.BlockStore.step (one_key c.args.at.now.db c.args.key.now) c.args.keyspace.now c.change_set.new.keyspace c.count_reply-2.result (number_calm _ c.count_reply-2.result c.count_reply-2.ensures) c.change_set.ensures.held
+    calm g.B.BlockStore.blocks g.B.BlockStore.step (one_key c.args.at.now.db c.args.key.now) c.args.keyspace.now c.change_set.new.keyspace c.count_reply-2.result
+    (number_calm _ c.count_reply-2.result c.count_reply-2.ensures) c.change_set.ensures.held
 
 pub returns-clause-forms : goal.returns-clause-forms
 returns-clause-forms g c =

@@ -12,4 +12,5 @@ loop-name-preserved-then-not-is_kept g c =
 pub loop-name-preserved : goal.loop-name-preserved
 loop-name-preserved g c =
     let test = has_or_lacks c.args.there (members (g.B.BlockStore.blocks c.args.store.now) c.args.set.now) in
-    kept_one test c.in-Some.name c.loop-name.yielded c.loop-name.kept.items c.push.new.self.items c.loop-name.invariant c.in_ok-push.ensures.items (ap test (sym c.as_slice.ensures) ∙ sym c.if-not-is_kept.ensures)
+    kept_one test c.in-Some.name c.loop-name.yielded c.loop-name.kept.items c.push.new.self.items c.loop-name.invariant c.in_ok-push.ensures.items
+    (ap test (sym c.as_slice.ensures) ∙ sym c.if-not-is_kept.ensures)

@@ -15,5 +15,6 @@ returns g c =
     let m = g.B.BlockStore.blocks c.args.store.now in
     let list = listed m c.args.set.now in
     subst (λ (s : Members). IfOk c.ask_each.result (λ kept. Sifts c.args.there s c.args.names.items kept.items))
-    (c.in_ok-add_members.ensures.members ∙ ap (λ (s : Members). add_all s list) (c.new-all.ensures.empty (plain_blocks c.new-own.result)) ∙ filled list ∙ (arranged m c.args.set.now c.requires.sound).listed_are)
+    (c.in_ok-add_members.ensures.members ∙ ap (λ (s : Members). add_all s list) (c.new-all.ensures.empty (plain_blocks c.new-own.result)) ∙ filled list
+    ∙ (arranged m c.args.set.now c.requires.sound).listed_are)
     c.ask_each.ensures

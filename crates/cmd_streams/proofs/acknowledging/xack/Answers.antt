@@ -20,12 +20,14 @@ pub returns-in-Missing-clause-kept : goal.returns-in-Missing-clause-kept
 returns-in-Missing-clause-kept g c = unchanged g.B.BlockStore.blocks g.B.BlockStore.step (one_key c.args.at.now.db c.args.key.now) c.args.keyspace.now c.count_reply.result c.requires.ready.sound
 
 pub returns-then-not-has_group-clause-kept : goal.returns-then-not-has_group-clause-kept
-returns-then-not-has_group-clause-kept g c = unchanged g.B.BlockStore.blocks g.B.BlockStore.step (one_key c.args.at.now.db c.args.key.now) c.args.keyspace.now c.count_reply-then-not-has_group.result c.requires.ready.sound
+returns-then-not-has_group-clause-kept g c = unchanged g.B.BlockStore.blocks g.B.BlockStore.step (one_key c.args.at.now.db c.args.key.now) c.args.keyspace.now
+    c.count_reply-then-not-has_group.result c.requires.ready.sound
 
 pub returns-clause-forms : goal.returns-clause-forms
 returns-clause-forms g c =
     always _ c.count_reply-2.result
-    (formed_log _ g.B.BlockStore.blocks g.B.BlockStore.step c.args.keyspace.now c.change_stream.new.keyspace c.args.at.now c.args.key.now c.in_ok-acknowledge.ensures.changed c.change_stream.ensures.held)
+    (formed_log _ g.B.BlockStore.blocks g.B.BlockStore.step c.args.keyspace.now c.change_stream.new.keyspace c.args.at.now c.args.key.now c.in_ok-acknowledge.ensures.changed
+    c.change_stream.ensures.held)
 
 pub returns-clause-gives : goal.returns-clause-gives
 returns-clause-gives g c =

@@ -40,9 +40,11 @@ returns-in_ok-new-in-None-clause-edited g c =
     let m = g.B.BlockStore.blocks c.args.keyspace.now.store in
     let same : c.in_ok-new-in-None.field-0.value ≡ c.new.result = search rules in
     let none : look (sight g.B.BlockStore.blocks c.args.keyspace.now c.args.at.now) c.args.key.now ≡ None = rw c.in-None.is at c.requires.there in
-    stream_new _ (g.E.StreamEdit.makes c.args.on.now.edit c.edit_new.new.edit.edit) c.args.on.now c.edit_new.new.edit g.B.BlockStore.blocks c.args.keyspace.now c.edit_new.new.keyspace c.args.at.now c.args.key.now (λ o n made. made)
+    stream_new _ (g.E.StreamEdit.makes c.args.on.now.edit c.edit_new.new.edit.edit) c.args.on.now c.edit_new.new.edit g.B.BlockStore.blocks c.args.keyspace.now c.edit_new.new.keyspace
+    c.args.at.now c.args.key.now (λ o n made. made)
     (kinds.Stream c.in_ok-new-in-None.field-0) (ap StreamOf (ap (stream_of m) same ∙ c.new.ensures.empty m)) none c.edit_new.result c.edit_new.ensures.made
 
 pub returns-in-Some-clause-edited : goal.returns-in-Some-clause-edited
 returns-in-Some-clause-edited g c =
-    stream_changed _ (g.E.StreamEdit.makes c.args.on.now.edit c.edit_there.new.edit.edit) c.args.on.now c.edit_there.new.edit g.B.BlockStore.blocks c.args.keyspace.now c.edit_there.new.keyspace c.args.at.now c.args.key.now (λ o n made. made) c.edit_there.result c.edit_there.ensures.edits
+    stream_changed _ (g.E.StreamEdit.makes c.args.on.now.edit c.edit_there.new.edit.edit) c.args.on.now c.edit_there.new.edit g.B.BlockStore.blocks c.args.keyspace.now
+    c.edit_there.new.keyspace c.args.at.now c.args.key.now (λ o n made. made) c.edit_there.result c.edit_there.ensures.edits

@@ -45,9 +45,11 @@ loop-one-preserved g c =
     let put : map key_parts c.put_handed.new.found.items ≡ map key_parts c.loop-one.found.items ++ told_of_key one.0 handed =
     subst (λ k. map key_parts c.put_handed.new.found.items ≡ map key_parts c.loop-one.found.items ++ told_of_key k handed) key c.in_ok-put_handed.ensures in
     record {
-      told = told_step (sight blocks old at) (sight blocks new at) who asked i one (told_of_key one.0 handed) rest gives (map key_parts c.loop-one.found.items) (map key_parts c.put_handed.new.found.items) _ put c.loop-one.invariant.told;
+      told = told_step (sight blocks old at) (sight blocks new at) who asked i one (told_of_key one.0 handed) rest gives (map key_parts c.loop-one.found.items)
+          (map key_parts c.put_handed.new.found.items) _ put c.loop-one.invariant.told;
       world = world_step (sight blocks old at) (sight blocks new at) who asked i one (told_of_key one.0 handed) rest gives _ c.loop-one.invariant.world;
-      held = held_then blocks step (some_keys db (asked_keys asked)) c.args.keyspace.now old new c.loop-one.invariant.held (held_wider blocks step db one.0 (asked_keys asked) (first_asked one others asked part) old new held);
+      held = held_then blocks step (some_keys db (asked_keys asked)) c.args.keyspace.now old new c.loop-one.invariant.held
+          (held_wider blocks step db one.0 (asked_keys asked) (first_asked one others asked part) old new held);
       part = rest_asked one others asked part;
       forms = log_then blocks c.args.keyspace.now old new c.loop-one.invariant.forms c.in_ok-handed.ensures.forms;
     }
@@ -66,7 +68,8 @@ returns-in_err-handed-clause-held g c =
     let rest : drop i asked ≡ one ∷ others = rest_from asked i one (search rules) c.one-item.is in
     let part : AreAsked (one ∷ others) asked = subst (λ l. AreAsked l asked) rest c.loop-one.invariant.part in
     let held = subst (λ k. Held blocks step (one_key db k) old new) c.as_slice-key.ensures c.hand_one.ensures.held in
-    held_then blocks step (some_keys db (asked_keys asked)) c.args.keyspace.now old new c.loop-one.invariant.held (held_wider blocks step db one.0 (asked_keys asked) (first_asked one others asked part) old new held)
+    held_then blocks step (some_keys db (asked_keys asked)) c.args.keyspace.now old new c.loop-one.invariant.held
+    (held_wider blocks step db one.0 (asked_keys asked) (first_asked one others asked part) old new held)
 
 pub returns-in_err-put_handed-clause-held : goal.returns-in_err-put_handed-clause-held
 returns-in_err-put_handed-clause-held g c =
@@ -82,4 +85,5 @@ returns-in_err-put_handed-clause-held g c =
     let rest : drop i asked ≡ one ∷ others = rest_from asked i one (search rules) c.one-item.is in
     let part : AreAsked (one ∷ others) asked = subst (λ l. AreAsked l asked) rest c.loop-one.invariant.part in
     let held = subst (λ k. Held blocks step (one_key db k) old new) c.as_slice-key.ensures c.hand_one.ensures.held in
-    held_then blocks step (some_keys db (asked_keys asked)) c.args.keyspace.now old new c.loop-one.invariant.held (held_wider blocks step db one.0 (asked_keys asked) (first_asked one others asked part) old new held)
+    held_then blocks step (some_keys db (asked_keys asked)) c.args.keyspace.now old new c.loop-one.invariant.held
+    (held_wider blocks step db one.0 (asked_keys asked) (first_asked one others asked part) old new held)

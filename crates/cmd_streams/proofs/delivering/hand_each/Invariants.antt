@@ -12,7 +12,8 @@ invariant-loop-one g l =
     let blocks = g.B.BlockStore.blocks in
     let who = reader l.at.moment l.who in
     record {
-      told : map key_parts l.found.items ++ (hand_out (sight blocks l.keyspace l.at) who (drop l.one-index l.asked)).0 ≡ map key_parts l.fn.found.items ++ (hand_out (sight blocks l.fn.keyspace l.at) who l.asked).0;
+      told : map key_parts l.found.items ++ (hand_out (sight blocks l.keyspace l.at) who (drop l.one-index l.asked)).0 ≡ map key_parts l.fn.found.items
+          ++ (hand_out (sight blocks l.fn.keyspace l.at) who l.asked).0;
       world : (hand_out (sight blocks l.keyspace l.at) who (drop l.one-index l.asked)).1 ≡ (hand_out (sight blocks l.fn.keyspace l.at) who l.asked).1;
       held : Held blocks g.B.BlockStore.step (some_keys l.at.db (asked_keys l.asked)) l.fn.keyspace l.keyspace;
       part : AreAsked (drop l.one-index l.asked) l.asked;

@@ -23,4 +23,5 @@ returns-in-Other g c = record {
 }
 
 pub returns-in_ok-hand-in-There-clause-forms : goal.returns-in_ok-hand-in-There-clause-forms
-returns-in_ok-hand-in-There-clause-forms g c = formed_log _ g.B.BlockStore.blocks g.B.BlockStore.step c.args.keyspace.now c.change_stream.new.keyspace c.args.at.now c.args.key.now c.in_ok-hand-in-There.ensures.changed c.change_stream.ensures.held
+returns-in_ok-hand-in-There-clause-forms g c = formed_log _ g.B.BlockStore.blocks g.B.BlockStore.step c.args.keyspace.now c.change_stream.new.keyspace c.args.at.now c.args.key.now
+    c.in_ok-hand-in-There.ensures.changed c.change_stream.ensures.held

@@ -9,10 +9,12 @@ pub returns-in-Other-clause-kept : goal.returns-in-Other-clause-kept
 returns-in-Other-clause-kept g c = unchanged g.B.BlockStore.blocks g.B.BlockStore.step (one_key c.args.at.now.db c.args.key.now) c.args.keyspace.now c.refused.result c.requires.ready.sound
 
 pub returns-then-not-make-clause-kept : goal.returns-then-not-make-clause-kept
-returns-then-not-make-clause-kept g c = unchanged g.B.BlockStore.blocks g.B.BlockStore.step (one_key c.args.at.now.db c.args.key.now) c.args.keyspace.now c.refused-then-not-make.result c.requires.ready.sound
+returns-then-not-make-clause-kept g c = unchanged g.B.BlockStore.blocks g.B.BlockStore.step (one_key c.args.at.now.db c.args.key.now) c.args.keyspace.now c.refused-then-not-make.result
+    c.requires.ready.sound
 
 pub returns-then-has_group-clause-kept : goal.returns-then-has_group-clause-kept
-returns-then-has_group-clause-kept g c = unchanged g.B.BlockStore.blocks g.B.BlockStore.step (one_key c.args.at.now.db c.args.key.now) c.args.keyspace.now c.refused-then-has_group.result c.requires.ready.sound
+returns-then-has_group-clause-kept g c = unchanged g.B.BlockStore.blocks g.B.BlockStore.step (one_key c.args.at.now.db c.args.key.now) c.args.keyspace.now c.refused-then-has_group.result
+    c.requires.ready.sound
 
 pub create_at-requires-clause-free : goal.create_at-requires-clause-free
 create_at-requires-clause-free g c = none_free (sight g.B.BlockStore.blocks c.args.keyspace.now c.args.at.now) c.args.key.now c.args.name.now c.in-Missing.ensures
@@ -21,9 +23,11 @@ pub returns-else-not-make-clause-gives : goal.returns-else-not-make-clause-gives
 returns-else-not-make-clause-gives g c =
     let blocks = g.B.BlockStore.blocks in
     let may : c.args.make ≡ true = search rules in
-    new_made (sight blocks c.args.keyspace.now c.args.at.now) (sight blocks c.create_at.new.keyspace c.args.at.now) c.args.key.now c.args.name.now c.args.id c.args.make may c.in-Missing.ensures c.create_at.result c.create_at.ensures.gives
+    new_made (sight blocks c.args.keyspace.now c.args.at.now) (sight blocks c.create_at.new.keyspace c.args.at.now) c.args.key.now c.args.name.now c.args.id c.args.make may
+    c.in-Missing.ensures c.create_at.result c.create_at.ensures.gives
 
 pub returns-else-has_group-clause-gives : goal.returns-else-has_group-clause-gives
 returns-else-has_group-clause-gives g c =
     let blocks = g.B.BlockStore.blocks in
-    group_made (sight blocks c.args.keyspace.now c.args.at.now) (sight blocks c.create_at-in-There.new.keyspace c.args.at.now) (blocks c.args.keyspace.now.store) c.args.key.now c.args.name.now c.args.id c.args.make c.stream_there.result.now c.stream_there.ensures c.create_at-in-There.result c.create_at-in-There.ensures.gives
+    group_made (sight blocks c.args.keyspace.now c.args.at.now) (sight blocks c.create_at-in-There.new.keyspace c.args.at.now) (blocks c.args.keyspace.now.store) c.args.key.now
+    c.args.name.now c.args.id c.args.make c.stream_there.result.now c.stream_there.ensures c.create_at-in-There.result c.create_at-in-There.ensures.gives

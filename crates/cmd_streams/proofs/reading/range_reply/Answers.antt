@@ -7,7 +7,8 @@ use Rattle.plain_model.specs.StreamSteps.{is_between, met, listed}
 use Rattle.cmd_streams.proofs.Replies.{is_reply, listed_one}
 use Rattle.cmd_streams.proofs.reading.range_reply.Goals as goal
 
-listed_here : (g : _) (c : goal.In_ok-push_entries g) → c.push_entries.new.parts ≡ listed (take c.args.limit (met c.args.order (filter (is_between c.args.from c.args.to) (entries (g.B.BlockStore.blocks c.args.store.now) c.args.stream.now))))
+listed_here : (g : _) (c : goal.In_ok-push_entries g) → c.push_entries.new.parts ≡ listed
+    (take c.args.limit (met c.args.order (filter (is_between c.args.from c.args.to) (entries (g.B.BlockStore.blocks c.args.store.now) c.args.stream.now))))
 listed_here g c =
     let all = entries (g.B.BlockStore.blocks c.args.store.now) c.args.stream.now in
     let to = pair_of c.id_of-2.result in

@@ -25,5 +25,6 @@ loop-one-preserved g c =
     subst (λ k. map read_parts c.put_read.new.found.items ≡ map read_parts c.loop-one.found.items ++ some_listed k own) key c.in_ok-put_read-in-Some.ensures in
     record {
       none = none_more world limit asked i one rest same c.loop-one.invariant.none;
-      so_far = one_gathered world limit asked i one rest (map read_parts c.args.found.now.items) (map read_parts c.loop-one.found.items) (map read_parts c.put_read.new.found.items) own all put c.loop-one.invariant.so_far;
+      so_far = one_gathered world limit asked i one rest (map read_parts c.args.found.now.items) (map read_parts c.loop-one.found.items) (map read_parts c.put_read.new.found.items) own all
+          put c.loop-one.invariant.so_far;
     }

@@ -17,4 +17,5 @@ returns-clause-added g c =
 pub returns-clause-forms : goal.returns-clause-forms
 returns-clause-forms g c =
     let p = c.in_ok-add.ensures.changed in
-    formed_risen _ g.B.BlockStore.blocks g.B.BlockStore.step c.args.keyspace.now c.change_zset.new.keyspace c.args.at.now c.args.key.now p c.change_zset.ensures.held c.args.rules c.args.pairs.now p.made.risen
+    formed_risen _ g.B.BlockStore.blocks g.B.BlockStore.step c.args.keyspace.now c.change_zset.new.keyspace c.args.at.now c.args.key.now p c.change_zset.ensures.held c.args.rules
+    c.args.pairs.now p.made.risen

@@ -52,7 +52,8 @@ loop-pair-preserved g c =
       settings = settings_then _ _ _ c.loop-pair.invariant.settings c.write_one.ensures.settings;
       is = ap (λ m. write_scores score_rules m others) is ∙ ap (write_scores score_rules now) (sym rest) ∙ c.loop-pair.invariant.is;
       few = omega (arith, c.loop-pair.invariant.few, one_most c.in_ok-other.other c.from-changed.result one);
-      counted = counts_on score_rules now after pair others c.loop-pair.changed c.in_ok-other.other c.from-changed.result is counts one ∙ ap (λ l. c.loop-pair.changed + model.changes score_rules now l) (sym rest) ∙ c.loop-pair.invariant.counted;
+      counted = counts_on score_rules now after pair others c.loop-pair.changed c.in_ok-other.other c.from-changed.result is counts one
+          ∙ ap (λ l. c.loop-pair.changed + model.changes score_rules now l) (sym rest) ∙ c.loop-pair.invariant.counted;
       risen = λ form p.
           c.loop-pair.invariant.risen form
           (subst (λ l. RisesUnder score_rules limits (form_of c.loop-pair.zset) now l form) (sym rest) (

@@ -8,12 +8,14 @@ pub returns-in-Missing : goal.returns-in-Missing
 returns-in-Missing g c =
     let world = sight g.B.BlockStore.blocks c.args.keyspace.now c.args.at.now in
     let key = c.args.key.now in
-    none_more c.args.meeting.join c.args.meeting.how c.args.meeting.weight (gathered c.begin-before.result) (gathered c.begin-before.new.all) (gathered c.args.all.now) (scores_at world key) c.begin-before.ensures.fresh c.begin-before.ensures.all
+    none_more c.args.meeting.join c.args.meeting.how c.args.meeting.weight (gathered c.begin-before.result) (gathered c.begin-before.new.all) (gathered c.args.all.now)
+    (scores_at world key) c.begin-before.ensures.fresh c.begin-before.ensures.all
     (missing_scores world key (rw c.in-Missing.is at c.zset_at.ensures))
 
 pub returns-in-Other-set_at : goal.returns-in-Other-set_at
 returns-in-Other-set_at g c =
     let world = sight g.B.BlockStore.blocks c.args.keyspace.now c.args.at.now in
     let key = c.args.key.now in
-    none_more c.args.meeting.join c.args.meeting.how c.args.meeting.weight (gathered c.begin-before.result) (gathered c.begin-before.new.all) (gathered c.args.all.now) (scores_at world key) c.begin-before.ensures.fresh c.begin-before.ensures.all
+    none_more c.args.meeting.join c.args.meeting.how c.args.meeting.weight (gathered c.begin-before.result) (gathered c.begin-before.new.all) (gathered c.args.all.now)
+    (scores_at world key) c.begin-before.ensures.fresh c.begin-before.ensures.all
     (other_scores world key c.in-Other.ensures c.in-Other-set_at.ensures)

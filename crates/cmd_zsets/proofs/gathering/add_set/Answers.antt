@@ -10,7 +10,8 @@ use Rattle.cmd_zsets.proofs.gathering.add_set.Goals.{then-is_entry+in_ok-add_ele
 
 pub loop-item-init : goal.loop-item-init
 loop-item-init g c =
-    none_met c.args.meeting.join c.args.meeting.how (one_at (g.B.BlockStore.blocks c.args.store.now) c.args.set.now) c.args.meeting.weight (gathered c.args.before.now) (gathered c.args.now.now) c.requires.fresh
+    none_met c.args.meeting.join c.args.meeting.how (one_at (g.B.BlockStore.blocks c.args.store.now) c.args.set.now) c.args.meeting.weight (gathered c.args.before.now)
+    (gathered c.args.now.now) c.requires.fresh
 
 pub returns : goal.returns
 returns g c =
@@ -37,9 +38,11 @@ loop-item-preserved g c =
     let item = c.loop-item.item in
     elim c.if-is_entry.branch [
       | then-is_entry+in_ok-add_element w ↦
-          goes_on join how (one_at m set) weight before first (top_of set) (one_each (members m set)) (set_numbers m set c.requires.sound) (gathered c.loop-item.now) (gathered c.if-is_entry.now) item (pos 1) (element_text w.at.result) (ap with_one w.at.ensures)
+          goes_on join how (one_at m set) weight before first (top_of set) (one_each (members m set)) (set_numbers m set c.requires.sound) (gathered c.loop-item.now)
+          (gathered c.if-is_entry.now) item (pos 1) (element_text w.at.result) (ap with_one w.at.ensures)
           (ap gathered w.now-is ∙ w.in_ok-add_element.ensures) c.loop-item.invariant
       | else-is_entry w ↦
           subst (λ s. IsSoFar join how (one_at m set) weight before first s (item + 1)) (sym (ap gathered w.now-is))
-          (passes_on join how (one_at m set) weight before first (gathered c.loop-item.now) item (ap with_one (none_there (member_at m set item) (w.if-is_entry.ensures m c.requires.sound).1)) c.loop-item.invariant)
+          (passes_on join how (one_at m set) weight before first (gathered c.loop-item.now) item
+          (ap with_one (none_there (member_at m set item) (w.if-is_entry.ensures m c.requires.sound).1)) c.loop-item.invariant)
     ]

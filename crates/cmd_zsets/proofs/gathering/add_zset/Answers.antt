@@ -11,7 +11,8 @@ use Rattle.cmd_zsets.proofs.gathering.add_zset.Goals.{then-is_entry+in_ok-add_el
 
 pub loop-item-init : goal.loop-item-init
 loop-item-init g c =
-    none_met c.args.meeting.join c.args.meeting.how (pair_at (g.B.BlockStore.blocks c.args.store.now) c.args.zset.now) c.args.meeting.weight (gathered c.args.before.now) (gathered c.args.now.now) c.requires.fresh
+    none_met c.args.meeting.join c.args.meeting.how (pair_at (g.B.BlockStore.blocks c.args.store.now) c.args.zset.now) c.args.meeting.weight (gathered c.args.before.now)
+    (gathered c.args.now.now) c.requires.fresh
 
 pub returns : goal.returns
 returns g c =
@@ -40,9 +41,11 @@ loop-item-preserved g c =
       | then-is_entry+in_ok-add_element w ↦
           let score = w.at-score.result.1 in
           let fits : FitsSigned w64 score = search rules in
-          goes_on join how (pair_at m zset) weight before first (top_of zset) (scores m zset) (zset_numbers m zset c.requires.sound) (gathered c.loop-item.now) (gathered c.if-is_entry.now) item score (element_text w.at-score.result.0) w.at-score.ensures
+          goes_on join how (pair_at m zset) weight before first (top_of zset) (scores m zset) (zset_numbers m zset c.requires.sound) (gathered c.loop-item.now) (gathered c.if-is_entry.now)
+          item score (element_text w.at-score.result.0) w.at-score.ensures
           (ap gathered w.now-is ∙ (rw (to_z-of_z w64 score fits) at w.in_ok-add_element.ensures)) c.loop-item.invariant
       | else-is_entry w ↦
           subst (λ s. IsSoFar join how (pair_at m zset) weight before first s (item + 1)) (sym (ap gathered w.now-is))
-          (passes_on join how (pair_at m zset) weight before first (gathered c.loop-item.now) item (none_there (pair_at m zset item) (w.if-is_entry.ensures m c.requires.sound).1) c.loop-item.invariant)
+          (passes_on join how (pair_at m zset) weight before first (gathered c.loop-item.now) item (none_there (pair_at m zset item) (w.if-is_entry.ensures m c.requires.sound).1)
+          c.loop-item.invariant)
     ]

@@ -17,5 +17,6 @@ loop-key-preserved g c =
     let rest : drop c.loop-key.key-index c.args.keys.now ≡ key ∷ others = rest_from c.args.keys.now c.loop-key.key-index key (search rules) c.key-item.is in
     let fits : FitsSigned w64 key.0 = search rules in
     λ member. one_key_more world c.args.join c.args.how (drop c.loop-key.key-index c.args.keys.now) others key (gathered c.loop-key.all) (gathered c.add_at.new.all) member rest
-    ((rw (to_z-of_z w64 key.0 fits) at c.in_ok-add_at.ensures member) ∙ ap (λ k. met_with c.args.join c.args.how (get (gathered c.loop-key.all) member) (weighted key.0 (get (scores_at world k) member))) c.as_slice.ensures)
+    ((rw (to_z-of_z w64 key.0 fits) at c.in_ok-add_at.ensures member)
+    ∙ ap (λ k. met_with c.args.join c.args.how (get (gathered c.loop-key.all) member) (weighted key.0 (get (scores_at world k) member))) c.as_slice.ensures)
     ∙ c.loop-key.invariant member

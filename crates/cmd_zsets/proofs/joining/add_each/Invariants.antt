@@ -8,4 +8,5 @@ use Rattle.cmd_zsets.proofs.joining.add_each.Given as goal
 abbrev pub invariant-loop-key : goal.invariant-loop-key
 invariant-loop-key g l =
     let world = sight g.B.BlockStore.blocks l.keyspace l.at in
-    (member : List ℕ) → met_each l.join l.how (get (gathered l.all) member) (weights_of (drop l.key-index l.keys)) (scores_here world (drop l.key-index l.keys)) member ≡ met_each l.join l.how (get (gathered l.fn.all) member) (weights_of l.keys) (scores_here world l.keys) member
+    (member : List ℕ) → met_each l.join l.how (get (gathered l.all) member) (weights_of (drop l.key-index l.keys)) (scores_here world (drop l.key-index l.keys)) member ≡ met_each l.join
+    l.how (get (gathered l.fn.all) member) (weights_of l.keys) (scores_here world l.keys) member

@@ -20,6 +20,8 @@ returns-in_ok-add_each-in-Some g c =
     let world = sight g.B.BlockStore.blocks c.args.keyspace.now c.args.at.now in
     let first = c.in-Some.first.now in
     let fits : FitsSigned w64 first.0 = search rules in
-    some_join world c.args.join c.args.how c.args.keys.now c.in-Some.others.now first (gathered c.new-all.result) (gathered c.add_at.new.all) (gathered c.add_each.new.all) c.in-Some.ensures.cases.0 (none_gathered c.new-all.result c.new-all.ensures.empty)
-    (λ q. (rw (to_z-of_z w64 first.0 fits) at c.in_ok-add_at-in-Some.ensures q) ∙ ap (λ k. met_with Union c.args.how (get (gathered c.new-all.result) q) (weighted first.0 (get (scores_at world k) q))) c.as_slice.ensures)
+    some_join world c.args.join c.args.how c.args.keys.now c.in-Some.others.now first (gathered c.new-all.result) (gathered c.add_at.new.all) (gathered c.add_each.new.all)
+    c.in-Some.ensures.cases.0 (none_gathered c.new-all.result c.new-all.ensures.empty)
+    (λ q. (rw (to_z-of_z w64 first.0 fits) at c.in_ok-add_at-in-Some.ensures q)
+    ∙ ap (λ k. met_with Union c.args.how (get (gathered c.new-all.result) q) (weighted first.0 (get (scores_at world k) q))) c.as_slice.ensures)
     c.in_ok-add_each-in-Some.ensures

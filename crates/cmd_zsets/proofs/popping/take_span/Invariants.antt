@@ -13,7 +13,8 @@ invariant-loop g l =
       sound : IsScored (blocks l.store) l.zset;
       settings : KeepsSettings l.fn.zset l.zset;
       many : l.span.start + l.span.count ≤ length list + l.counter;
-      is : without_members (scores (blocks l.store) l.zset) (members_of (take (l.span.count - l.counter) (drop l.span.start (met l.span.from list)))) ≡ without_members (scores (blocks l.fn.store) l.fn.zset) (members_of (in_span l.span (ranked (blocks l.fn.store) l.fn.zset)));
+      is : without_members (scores (blocks l.store) l.zset) (members_of (take (l.span.count - l.counter) (drop l.span.start (met l.span.from list)))) ≡ without_members
+          (scores (blocks l.fn.store) l.fn.zset) (members_of (in_span l.span (ranked (blocks l.fn.store) l.fn.zset)));
       form : form_of l.zset ≡ form_of l.fn.zset;
       changes : Changes (blocks l.fn.store) (blocks l.store) (refs l.fn.zset) (refs l.zset);
       served : Served g.B.BlockStore.step l.fn.store l.store;

@@ -14,20 +14,26 @@ pub returns-in-Missing-clause-kept : goal.returns-in-Missing-clause-kept
 returns-in-Missing-clause-kept g c = unchanged g.B.BlockStore.blocks g.B.BlockStore.step (one_key c.args.at.now.db c.args.key.now) c.args.keyspace.now c.count_reply.result c.requires.ready.sound
 
 pub returns-in-Missing-clause-gives : goal.returns-in-Missing-clause-gives
-returns-in-Missing-clause-gives g c = none_dropped (sight g.B.BlockStore.blocks c.args.keyspace.now c.args.at.now) c.args.key.now (λ list. list_range list c.args.a c.args.b) c.in-Missing.ensures c.count_reply.result c.count_reply.ensures
+returns-in-Missing-clause-gives g c = none_dropped (sight g.B.BlockStore.blocks c.args.keyspace.now c.args.at.now) c.args.key.now (λ list. list_range list c.args.a c.args.b)
+    c.in-Missing.ensures c.count_reply.result c.count_reply.ensures
 
 pub returns-clause-gives : goal.returns-clause-gives
 returns-clause-gives g c =
     let blocks = g.B.BlockStore.blocks in
     let p = c.in_ok-remove.ensures.changed in
-    part_dropped (sight blocks c.args.keyspace.now c.args.at.now) (sight blocks c.change_zset.new.keyspace c.args.at.now) c.args.key.now (λ list. list_range list c.args.a c.args.b) _ p.before c.in-There.ensures.scores p.from p.now p.form p.stands c.in-There.ensures.has (rw (to_z-of_z w64 c.args.a c.ranges.a, to_z-of_z w64 c.args.b c.ranges.b) at p.made) p.world c.count_reply-2.result c.count_reply-2.ensures
+    part_dropped (sight blocks c.args.keyspace.now c.args.at.now) (sight blocks c.change_zset.new.keyspace c.args.at.now) c.args.key.now (λ list. list_range list c.args.a c.args.b) _
+    p.before c.in-There.ensures.scores p.from p.now p.form p.stands c.in-There.ensures.has (rw (to_z-of_z w64 c.args.a c.ranges.a, to_z-of_z w64 c.args.b c.ranges.b) at p.made) p.world
+    c.count_reply-2.result c.count_reply-2.ensures
 
 pub returns-clause-forms : goal.returns-clause-forms
 returns-clause-forms g c =
     let blocks = g.B.BlockStore.blocks in
     let p = c.in_ok-remove.ensures.changed in
     let scores = c.in-There.ensures.scores in
-    if_ok c.count_reply-2.result (formed_as _ blocks g.B.BlockStore.step c.args.keyspace.now c.change_zset.new.keyspace c.args.at.now c.args.key.now p c.change_zset.ensures.held scores (before_is (sight blocks c.args.keyspace.now c.args.at.now) c.args.key.now p.before scores p.stands c.in-There.ensures.has) p.made.form_is)
+    if_ok c.count_reply-2.result
+    (formed_as _ blocks g.B.BlockStore.step c.args.keyspace.now c.change_zset.new.keyspace c.args.at.now c.args.key.now p c.change_zset.ensures.held scores
+    (before_is (sight blocks c.args.keyspace.now c.args.at.now) c.args.key.now p.before scores p.stands c.in-There.ensures.has) p.made.form_is)
 
 pub returns-clause-kept : goal.returns-clause-kept
-returns-clause-kept g c = counted_calm g.B.BlockStore.blocks g.B.BlockStore.step (one_key c.args.at.now.db c.args.key.now) c.args.keyspace.now c.change_zset.new.keyspace _ c.count_reply-2.result c.count_reply-2.ensures c.change_zset.ensures.held
+returns-clause-kept g c = counted_calm g.B.BlockStore.blocks g.B.BlockStore.step (one_key c.args.at.now.db c.args.key.now) c.args.keyspace.now c.change_zset.new.keyspace _
+    c.count_reply-2.result c.count_reply-2.ensures c.change_zset.ensures.held

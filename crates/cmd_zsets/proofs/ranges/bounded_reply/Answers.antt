@@ -10,4 +10,7 @@ returns g c =
     let m = g.B.BlockStore.blocks c.args.store.now in
     let s = c.args.zset.now in
     let list = ranked (scores m s) in
-    told_as c.span_reply.result _ _ (ap (listed c.args.with_scores) (c.limit_span-span.ensures.range list (ranked_counted m s c.requires.sound ∙ sym (c.len.ensures m c.requires.sound)) ∙ ap (limited c.args.limit) c.by_score-whole.ensures.range)) c.span_reply.ensures
+    told_as c.span_reply.result _ _
+    (ap (listed c.args.with_scores)
+    (c.limit_span-span.ensures.range list (ranked_counted m s c.requires.sound ∙ sym (c.len.ensures m c.requires.sound)) ∙ ap (limited c.args.limit) c.by_score-whole.ensures.range))
+    c.span_reply.ensures

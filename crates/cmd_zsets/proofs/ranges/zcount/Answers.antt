@@ -12,7 +12,8 @@ use Rattle.cmd_zsets.proofs.ranges.zcount.Goals as goal
 
 pub returns-in-Missing : goal.returns-in-Missing
 returns-in-Missing g c = record {
-  gives = told_none (sight g.B.BlockStore.blocks c.args.keyspace.now c.args.at.now) c.args.key.now (λ scores. Number (pos (length (within c.args.min c.args.max (ranked scores)))) ∷ []) (Number (pos 0) ∷ [])
+  gives = told_none (sight g.B.BlockStore.blocks c.args.keyspace.now c.args.at.now) c.args.key.now (λ scores. Number (pos (length (within c.args.min c.args.max (ranked scores)))) ∷ [])
+      (Number (pos 0) ∷ [])
       c.count_reply.result c.in-Missing.ensures (ap (λ n. Number (pos n) ∷ []) (none_counted c.args.min c.args.max)) c.count_reply.ensures;
 }
 
@@ -25,5 +26,7 @@ returns-in-There g c =
     record {
       gives = told_zset (sight g.B.BlockStore.blocks c.args.keyspace.now c.args.at.now) m c.args.key.now s
           (λ scores. Number (pos (length (within c.args.min c.args.max (ranked scores)))) ∷ []) c.count_reply-in-There.result c.in-There.ensures
-          (told_as c.count_reply-in-There.result _ _ (ap (λ n. Number (pos n) ∷ []) (span_long c.by_score-span.result list (omega (arith, long, c.by_score-span.ensures.inside)) ∙ ap length c.by_score-span.ensures.range)) c.count_reply-in-There.ensures);
+          (told_as c.count_reply-in-There.result _ _
+          (ap (λ n. Number (pos n) ∷ []) (span_long c.by_score-span.result list (omega (arith, long, c.by_score-span.ensures.inside)) ∙ ap length c.by_score-span.ensures.range))
+          c.count_reply-in-There.ensures);
     }

@@ -13,7 +13,8 @@ use Rattle.cmd_zsets.proofs.ranges.zrange.Goals as goal
 
 pub returns-in-Missing : goal.returns-in-Missing
 returns-in-Missing g c = record {
-  gives = told_none (sight g.B.BlockStore.blocks c.args.keyspace.now c.args.at.now) c.args.key.now (λ scores. listed c.args.with_scores (list_range (met c.args.from (ranked scores)) c.args.a c.args.b)) (Array 0 ∷ [])
+  gives = told_none (sight g.B.BlockStore.blocks c.args.keyspace.now c.args.at.now) c.args.key.now
+      (λ scores. listed c.args.with_scores (list_range (met c.args.from (ranked scores)) c.args.a c.args.b)) (Array 0 ∷ [])
       c.empty_reply.result c.in-Missing.ensures (ap (listed c.args.with_scores) (none_ranged c.args.from c.args.a c.args.b) ∙ none_listed c.args.with_scores) c.empty_reply.ensures;
 }
 

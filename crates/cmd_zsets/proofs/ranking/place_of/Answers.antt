@@ -39,4 +39,6 @@ returns-in-Some-score g c =
     let score : c.in-Some-score.score ≡ h.score = some_same (sym c.in-Some-score.is ∙ c.score.ensures ∙ h.has) in
     let fits : FitsSigned w64 c.in-Some-score.score = search rules in
     both_same (c.rank_met.ensures.rank ∙ ap (λ n. rank_of c.args.from n c.in-Some.rank) size) (to_z-of_z w64 c.in-Some-score.score fits ∙ score)
-    ∙ sym (placed c.args.from map (ranked map) c.in-Some.rank (h.score, c.args.member.now) (model_ranking map) (ap (λ (l : _). slice_get l c.in-Some.rank) (sym (ranked_is m s c.requires.sound)) ∙ h.there))
+    ∙ sym
+    (placed c.args.from map (ranked map) c.in-Some.rank (h.score, c.args.member.now) (model_ranking map)
+    (ap (λ (l : _). slice_get l c.in-Some.rank) (sym (ranked_is m s c.requires.sound)) ∙ h.there))

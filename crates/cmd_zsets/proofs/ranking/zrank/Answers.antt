@@ -8,7 +8,8 @@ use Rattle.cmd_zsets.proofs.ranking.zrank.Goals as goal
 
 pub returns-in-Missing : goal.returns-in-Missing
 returns-in-Missing g c = record {
-  gives = told_none (sight g.B.BlockStore.blocks c.args.keyspace.now c.args.at.now) c.args.key.now (λ scores. tell_place c.args.with_score (place_from 0 c.args.member.now (met c.args.from (ranked scores)))) (tell_place c.args.with_score None)
+  gives = told_none (sight g.B.BlockStore.blocks c.args.keyspace.now c.args.at.now) c.args.key.now
+      (λ scores. tell_place c.args.with_score (place_from 0 c.args.member.now (met c.args.from (ranked scores)))) (tell_place c.args.with_score None)
       c.place_reply.result c.in-Missing.ensures (ap (tell_place c.args.with_score) (none_placed c.args.from c.args.member.now)) c.place_reply.ensures;
 }
 

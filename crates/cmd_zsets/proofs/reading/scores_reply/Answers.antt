@@ -7,4 +7,5 @@ pub into_reply-requires : goal.into_reply-requires
 into_reply-requires g c = scores_reply (scores_in (g.B.BlockStore.blocks c.args.store.now) c.args.zset) c.args.members.now _ _ _ c.new-parts.ensures c.in_ok-push.ensures.ok c.in_ok-push_scores.ensures
 
 pub returns : goal.returns
-returns g c = c.into_reply.ensures ∙ scores_parts (scores_in (g.B.BlockStore.blocks c.args.store.now) c.args.zset) c.args.members.now _ _ _ c.new-parts.ensures c.in_ok-push.ensures.ok c.in_ok-push_scores.ensures
+returns g c = c.into_reply.ensures ∙ scores_parts (scores_in (g.B.BlockStore.blocks c.args.store.now) c.args.zset) c.args.members.now _ _ _ c.new-parts.ensures c.in_ok-push.ensures.ok
+    c.in_ok-push_scores.ensures

@@ -10,7 +10,10 @@ use Rattle.cmd_zsets.proofs.spans.push_span.Goals as goal
 pub returns-in-Rising : goal.returns-in-Rising
 returns-in-Rising g c =
     let list = ranked (scores (g.B.BlockStore.blocks c.args.store.now) c.args.zset.now) in
-    subst (λ (from : Direction). OnOk c.push_rising.result (c.push_rising.new.parts ≡ c.args.parts.now ++ told_all c.args.with_scores (take c.args.span.count (drop c.args.span.start (met from list))))) (sym c.in-Rising.is) c.push_rising.ensures
+    subst
+    (λ (from : Direction). OnOk c.push_rising.result
+    (c.push_rising.new.parts ≡ c.args.parts.now ++ told_all c.args.with_scores (take c.args.span.count (drop c.args.span.start (met from list))))) (sym c.in-Rising.is)
+    c.push_rising.ensures
 
 pub overflow_sub-lowest-in-Falling : goal.overflow_sub-lowest-in-Falling
 overflow_sub-lowest-in-Falling g c =

@@ -16,7 +16,9 @@ returns-then-not-is_in_range c =
     let fits : FitsSigned w128 c.in-Some.sum.now = search rules in
     let out : is_score c.in-Some.sum.now ≡ false = ap is_score (sym (to_z-of_z w128 c.in-Some.sum.now fits)) ∙ sym c.if-not-is_in_range.ensures in
     let more = rest_more deref_pair c.loop-sum.sum-iterator left c.next.result (c.in-Some.field-0-0, c.in-Some.sum) c.in-Some.is c.next.ensures.steps in
-    sym (ap are_scores (entries_gathered sums c.into_iter-sum-iterator.ensures.into_iter_gives.5) ∙ sym c.loop-sum.invariant ∙ ap (λ l. are_scores (map entry_of l)) more ∙ ap (λ b. b && are_scores (map entry_of left)) out)
+    sym
+    (ap are_scores (entries_gathered sums c.into_iter-sum-iterator.ensures.into_iter_gives.5) ∙ sym c.loop-sum.invariant ∙ ap (λ l. are_scores (map entry_of l)) more
+    ∙ ap (λ b. b && are_scores (map entry_of left)) out)
 
 pub returns : goal.returns
 returns c =

@@ -31,7 +31,8 @@ pub score_of-requires : goal.score_of-requires
 score_of-requires g c =
     let left = map entry_of c.pop_first.new.self.entries in
     let fits : FitsSigned w128 c.in-Some.sum = search rules in
-    subst (λ n. is_score n ≡ true) (sym (to_z-of_z w128 c.in-Some.sum fits)) (and_parts (is_score c.in-Some.sum) (are_scores left) (ap (λ l. are_scores (map entry_of l)) (sym c.in-Some.ensures.removal) ∙ c.members.invariant.range)).0
+    subst (λ n. is_score n ≡ true) (sym (to_z-of_z w128 c.in-Some.sum fits))
+    (and_parts (is_score c.in-Some.sum) (are_scores left) (ap (λ l. are_scores (map entry_of l)) (sym c.in-Some.ensures.removal) ∙ c.members.invariant.range)).0
 
 pub returns-in_err-give_score-clause-settings : goal.returns-in_err-give_score-clause-settings
 returns-in_err-give_score-clause-settings g c = settings_then _ _ _ c.members.invariant.settings c.give_score.ensures.settings
@@ -65,7 +66,8 @@ members-preserved g c =
       sound = c.give_score.ensures.sound;
       settings = settings_then _ _ _ inv.settings c.give_score.ensures.settings;
       range = (and_parts (is_score sum) (are_scores (map entry_of c.pop_first.new.self.entries)) (ap (λ l. are_scores (map entry_of l)) (sym c.in-Some.ensures.removal) ∙ inv.range)).1;
-      is = λ q. ap (λ s. or_else (get (gathered c.pop_first.new.self) q) (get s q)) one ∙ one_over c.members.sums c.pop_first.new.self name sum zset c.in-Some.ensures.removal c.in-Some.ensures.updates.1 q ∙ inv.is q;
+      is = λ q. ap (λ s. or_else (get (gathered c.pop_first.new.self) q) (get s q)) one
+          ∙ one_over c.members.sums c.pop_first.new.self name sum zset c.in-Some.ensures.removal c.in-Some.ensures.updates.1 q ∙ inv.is q;
       least = λ h. subst (λ s. IsLeast (FitsScored limits s) form) (sym one) (least_more limits zset name.items sum from form (inv.least h) risen);
       changes = Changes-then _ _ _ _ _ _ inv.changes c.give_score.ensures.changes;
       served = Served-then _ _ _ inv.served c.give_score.ensures.served;

@@ -10,4 +10,5 @@ returns g c =
     let keyspace = c.args.keyspace.now in
     let same : c.in-Zset.zset.value ≡ c.deref.result.now = search rules in
     subst (FoundZset (sight blocks keyspace c.args.at.now) (blocks keyspace.store) c.args.key.now) same
-    (found_zset keyspace.bases _ c.args.at.now c.args.key.now c.value_at-value.result.now c.in-Zset.zset c.in-Zset.is c.requires.ready.sound (c.value_at-value.ensures c.args.key.now c.args.at.now.moment c.requires.there.there))
+    (found_zset keyspace.bases _ c.args.at.now c.args.key.now c.value_at-value.result.now c.in-Zset.zset c.in-Zset.is c.requires.ready.sound
+    (c.value_at-value.ensures c.args.key.now c.args.at.now.moment c.requires.there.there))

@@ -21,7 +21,8 @@ loop-at-preserved g c =
     elim c.if-is_entry.branch [
       | then-is_entry w ↦ record {
         changes = rw add-one (subst (λ (s : _). Changes m (g.B.BlockStore.blocks s) (key_refs c.args.table) (refs_from (λ _. []) c.args.table (suc c.loop-at.at))) (sym w.store-is)
-            (key_goes_on c.args.table c.loop-at.at m mid c.loop-at.invariant.changes w.entry.result.0 w.entry.result.1.now w.entry.ensures (g.B.BlockStore.blocks w.give_back.new.self) w.give_back.ensures.ended));
+            (key_goes_on c.args.table c.loop-at.at m mid c.loop-at.invariant.changes w.entry.result.0 w.entry.result.1.now w.entry.ensures (g.B.BlockStore.blocks w.give_back.new.self)
+            w.give_back.ensures.ended));
         served = subst (Served g.B.BlockStore.step c.args.store.now) (sym w.store-is) (Served-next _ _ _ c.loop-at.invariant.served w.give_back.ensures.step);
       }
       | else-is_entry w ↦ record {
@@ -33,7 +34,8 @@ loop-at-preserved g c =
 
 pub returns-clause-changes : goal.returns-clause-changes
 returns-clause-changes g c =
-    end_all (λ _. []) c.args.table c.loop-at.at (g.B.BlockStore.blocks c.args.store.now) (g.B.BlockStore.blocks c.loop-at.store) c.loop-at.invariant.changes (λ i some. let below = c.top-at-end.ensures.above i some in omega (arith, below, c.loop-at-test.false))
+    end_all (λ _. []) c.args.table c.loop-at.at (g.B.BlockStore.blocks c.args.store.now) (g.B.BlockStore.blocks c.loop-at.store) c.loop-at.invariant.changes
+    (λ i some. let below = c.top-at-end.ensures.above i some in omega (arith, below, c.loop-at-test.false))
 
 pub returns-clause-served : goal.returns-clause-served
 returns-clause-served g c = c.loop-at.invariant.served

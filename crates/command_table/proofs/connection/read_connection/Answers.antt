@@ -10,7 +10,8 @@ pub returns-in-Ping : goal.returns-in-Ping
 returns-in-Ping c = rw c.in-Ping.is (lifted Connection (ping_words (drop 1 c.args.request.now)) c.ping.result c.ping.ensures)
 
 pub returns-in-Echo : goal.returns-in-Echo
-returns-in-Echo c = rw c.in-Echo.is (fixed_made Connection (Plain ∷ []) (λ a. (a, tt)) (λ a. Ok (connections.Echo a.0)) connections.Echo (λ a. refl) c.args.request.now c.one.result _ c.one.ensures (search rules))
+returns-in-Echo c = rw c.in-Echo.is
+    (fixed_made Connection (Plain ∷ []) (λ a. (a, tt)) (λ a. Ok (connections.Echo a.0)) connections.Echo (λ a. refl) c.args.request.now c.one.result _ c.one.ensures (search rules))
 
 pub returns-in-Select : goal.returns-in-Select
 returns-in-Select c = rw c.in-Select.is (lifted Connection (fixed (Database ∷ []) (λ a. Ok (connections.Select a.0)) (drop 1 c.args.request.now)) c.select.result c.select.ensures)

@@ -11,7 +11,8 @@ returns-in_err-score-clause-says c =
     let fault = c.in_err-score.field-0.0 in
     let whole : c.args.from + c.args.count ≤ length words = omega (arith, c.if-len-from.false, c.len.ensures.len, c.requires) in
     let l : i < c.args.count = search rules in
-    let refused : Passes (own_weights c.args.count (drop c.args.from words)) (Err fault) = scores_fail words c.args.from i c.args.count c.loop-index.invariant.0 fault whole l c.loop-index.invariant.1 c.in_err-score.ensures in
+    let refused : Passes (own_weights c.args.count (drop c.args.from words)) (Err fault) =
+    scores_fail words c.args.from i c.args.count c.loop-index.invariant.0 fault whole l c.loop-index.invariant.1 c.in_err-score.ensures in
     search rules
 
 pub loop-index-preserved : goal.loop-index-preserved

@@ -36,8 +36,12 @@ loop-index-preserved c =
     let fits : SFits w64 n = search rules in
     let same = to_z-of_z w64 n fits in
     let pushed : c.push.new.self ≡ c.loop-index.list ++ (n, at words (3 + i)) ∷ [] = search (rules, same) in
-    let keys = keys_of words c.args.count in
-    (held.0, held.1, ap (λ l. l ++ weighed (drop (i + 1) held.0) (drop (i + 1) keys)) pushed ∙ sym (weigh_step words c.args.count c.args.weights held.0 c.loop-index.list i n l c.requires.within held.1 c.in_ok-own.ensures) ∙ held.2)
+    let keys = keys_of words c.args.count in (
+      held.0,
+      held.1,
+      ap (λ l. l ++ weighed (drop (i + 1) held.0) (drop (i + 1) keys)) pushed
+          ∙ sym (weigh_step words c.args.count c.args.weights held.0 c.loop-index.list i n l c.requires.within held.1 c.in_ok-own.ensures) ∙ held.2,
+    )
 
 pub returns-then-is_err : goal.returns-then-is_err
 returns-then-is_err c =
@@ -51,4 +55,5 @@ returns c =
     let held = c.loop-index.invariant in
     let keys = keys_of words c.args.count in
     let end : c.loop-index.index ≡ c.args.count = search rules in
-    all_weighed words c.args.count c.args.weights held.0 c.loop-index.list c.requires.within held.1 (subst (λ m. c.loop-index.list ++ weighed (drop m held.0) (drop m keys) ≡ weighed held.0 keys) end held.2)
+    all_weighed words c.args.count c.args.weights held.0 c.loop-index.list c.requires.within held.1
+    (subst (λ m. c.loop-index.list ++ weighed (drop m held.0) (drop m keys) ≡ weighed held.0 keys) end held.2)

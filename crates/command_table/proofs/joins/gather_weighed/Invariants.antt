@@ -7,4 +7,5 @@ use Rattle.command_table.proofs.joins.gather_weighed.Given as goal
 
 -- the list and the keys that are left with their weights are all keys with theirs
 abbrev pub invariant-loop-index : goal.invariant-loop-index
-invariant-loop-index l = (own : List ℤ) × (weights_at l.request l.count l.weights ≡ Ok own) × (l.list ++ weighed (drop l.index own) (drop l.index (keys_of l.request l.count)) ≡ weighed own (keys_of l.request l.count))
+invariant-loop-index l = (own : List ℤ) × (weights_at l.request l.count l.weights ≡ Ok own)
+    × (l.list ++ weighed (drop l.index own) (drop l.index (keys_of l.request l.count)) ≡ weighed own (keys_of l.request l.count))

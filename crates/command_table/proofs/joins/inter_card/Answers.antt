@@ -21,14 +21,16 @@ pub returns-in_err-limit : goal.returns-in_err-limit
 returns-in_err-limit c =
     let words = c.args.request.now in
     let many : 3 ≤ length words = omega (arith, c.if-len-lt3.false, c.len.ensures.len) in
-    let refused : ReadsSet (inter_card_words (drop 1 words)) (Err c.in_err-limit.field-0.0) = card_limit_refused words many c.in_ok-count.count c.in_ok-count.ensures.says c.in_err-limit.field-0.0 c.in_err-limit.ensures in
+    let refused : ReadsSet (inter_card_words (drop 1 words)) (Err c.in_err-limit.field-0.0) =
+    card_limit_refused words many c.in_ok-count.count c.in_ok-count.ensures.says c.in_err-limit.field-0.0 c.in_err-limit.ensures in
     search rules
 
 pub returns-in_err-keys : goal.returns-in_err-keys
 returns-in_err-keys c =
     let words = c.args.request.now in
     let many : 3 ≤ length words = omega (arith, c.if-len-lt3.false, c.len.ensures.len) in
-    let refused : ReadsSet (inter_card_words (drop 1 words)) (Err c.in_err-keys.field-0.0) = card_keys_missing words many c.in_ok-count.count c.in_ok-count.ensures.says c.in_ok-limit.limit c.in_err-keys.field-0.0 c.in_ok-limit.ensures c.in_err-keys.ensures in
+    let refused : ReadsSet (inter_card_words (drop 1 words)) (Err c.in_err-keys.field-0.0) =
+    card_keys_missing words many c.in_ok-count.count c.in_ok-count.ensures.says c.in_ok-limit.limit c.in_err-keys.field-0.0 c.in_ok-limit.ensures c.in_err-keys.ensures in
     search rules
 
 pub returns : goal.returns
@@ -36,4 +38,6 @@ returns c =
     let words = c.args.request.now in
     let many : 3 ≤ length words = omega (arith, c.if-len-lt3.false, c.len.ensures.len) in
     let same : c.in_ok-limit.limit ≡ c.limit.inside.0 = search rules in
-    ap (λ r. and_then r (λ command. Ok (Sets command))) (card_keys_told words many c.in_ok-count.count c.in_ok-count.ensures.says c.in_ok-limit.limit c.in_ok-limit.ensures c.in_ok-keys.keys c.in_ok-keys.ensures ∙ ap (λ limit. Ok (sets.SInterCard c.in_ok-keys.keys limit)) same)
+    ap (λ r. and_then r (λ command. Ok (Sets command)))
+    (card_keys_told words many c.in_ok-count.count c.in_ok-count.ensures.says c.in_ok-limit.limit c.in_ok-limit.ensures c.in_ok-keys.keys c.in_ok-keys.ensures
+    ∙ ap (λ limit. Ok (sets.SInterCard c.in_ok-keys.keys limit)) same)

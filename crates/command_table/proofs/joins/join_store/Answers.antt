@@ -19,18 +19,23 @@ pub returns-in_err-options : goal.returns-in_err-options
 returns-in_err-options c =
     let words = c.args.request.now in
     let many : 4 ≤ length words = omega (arith, c.if-len-lt4.false, c.len.ensures.len) in
-    let refused : ReadsZset (join_words c.args.join (drop 1 words)) (Err c.in_err-options.field-0.0) = join_options_refused c.args.join words many c.in_ok-count.count c.in_ok-count.ensures.says c.in_err-options.field-0.0 c.in_err-options.ensures in
+    let refused : ReadsZset (join_words c.args.join (drop 1 words)) (Err c.in_err-options.field-0.0) =
+    join_options_refused c.args.join words many c.in_ok-count.count c.in_ok-count.ensures.says c.in_err-options.field-0.0 c.in_err-options.ensures in
     search rules
 
 pub returns-in_err-keys : goal.returns-in_err-keys
 returns-in_err-keys c =
     let words = c.args.request.now in
     let many : 4 ≤ length words = omega (arith, c.if-len-lt4.false, c.len.ensures.len) in
-    let refused : ReadsZset (join_words c.args.join (drop 1 words)) (Err c.in_err-keys.field-0.0) = join_keys_missing c.args.join words many c.in_ok-count.count c.in_ok-count.ensures.says c.in_ok-options.options c.in_ok-options.ensures c.in_err-keys.field-0.0 c.in_err-keys.ensures in
+    let refused : ReadsZset (join_words c.args.join (drop 1 words)) (Err c.in_err-keys.field-0.0) =
+    join_keys_missing c.args.join words many c.in_ok-count.count c.in_ok-count.ensures.says c.in_ok-options.options c.in_ok-options.ensures c.in_err-keys.field-0.0
+    c.in_err-keys.ensures in
     search rules
 
 pub returns : goal.returns
 returns c =
     let words = c.args.request.now in
     let many : 4 ≤ length words = omega (arith, c.if-len-lt4.false, c.len.ensures.len) in
-    rw c.plain.ensures (ap among_all (join_made c.args.join words many c.in_ok-count.count c.in_ok-count.ensures.says c.in_ok-options.options c.in_ok-options.ensures c.in_ok-keys.keys c.in_ok-keys.ensures))
+    rw c.plain.ensures
+    (ap among_all
+    (join_made c.args.join words many c.in_ok-count.count c.in_ok-count.ensures.says c.in_ok-options.options c.in_ok-options.ensures c.in_ok-keys.keys c.in_ok-keys.ensures))

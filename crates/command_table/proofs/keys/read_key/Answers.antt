@@ -7,47 +7,71 @@ use Rattle.command_table.proofs.Arms.{fixed_made, gathered, lifted, options_made
 use Rattle.command_table.proofs.keys.read_key.Goals as goal
 
 pub returns-in-Expire : goal.returns-in-Expire
-returns-in-Expire c = rw c.in-Expire.is (expire_made keys.Expire (λ a. ((a.0, (a.1, tt)), a.2)) (λ a. keys.Expire a.0 a.1 a.2) (λ a. refl) c.args.request.now c.expire.result _ c.expire.ensures (search rules))
+returns-in-Expire c = rw c.in-Expire.is
+    (expire_made keys.Expire (λ a. ((a.0, (a.1, tt)), a.2)) (λ a. keys.Expire a.0 a.1 a.2) (λ a. refl) c.args.request.now c.expire.result _ c.expire.ensures (search rules))
 
 pub returns-in-PExpire : goal.returns-in-PExpire
-returns-in-PExpire c = rw c.in-PExpire.is (expire_made keys.PExpire (λ a. ((a.0, (a.1, tt)), a.2)) (λ a. keys.PExpire a.0 a.1 a.2) (λ a. refl) c.args.request.now c.expire-in-PExpire.result _ c.expire-in-PExpire.ensures (search rules))
+returns-in-PExpire c = rw c.in-PExpire.is
+    (expire_made keys.PExpire (λ a. ((a.0, (a.1, tt)), a.2)) (λ a. keys.PExpire a.0 a.1 a.2) (λ a. refl) c.args.request.now c.expire-in-PExpire.result _ c.expire-in-PExpire.ensures
+    (search rules))
 
 pub returns-in-ExpireAt : goal.returns-in-ExpireAt
-returns-in-ExpireAt c = rw c.in-ExpireAt.is (expire_made keys.ExpireAt (λ a. ((a.0, (a.1, tt)), a.2)) (λ a. keys.ExpireAt a.0 a.1 a.2) (λ a. refl) c.args.request.now c.expire-in-ExpireAt.result _ c.expire-in-ExpireAt.ensures (search rules))
+returns-in-ExpireAt c = rw c.in-ExpireAt.is
+    (expire_made keys.ExpireAt (λ a. ((a.0, (a.1, tt)), a.2)) (λ a. keys.ExpireAt a.0 a.1 a.2) (λ a. refl) c.args.request.now c.expire-in-ExpireAt.result _ c.expire-in-ExpireAt.ensures
+    (search rules))
 
 pub returns-in-PExpireAt : goal.returns-in-PExpireAt
-returns-in-PExpireAt c = rw c.in-PExpireAt.is (expire_made keys.PExpireAt (λ a. ((a.0, (a.1, tt)), a.2)) (λ a. keys.PExpireAt a.0 a.1 a.2) (λ a. refl) c.args.request.now c.expire-in-PExpireAt.result _ c.expire-in-PExpireAt.ensures (search rules))
+returns-in-PExpireAt c = rw c.in-PExpireAt.is
+    (expire_made keys.PExpireAt (λ a. ((a.0, (a.1, tt)), a.2)) (λ a. keys.PExpireAt a.0 a.1 a.2) (λ a. refl) c.args.request.now c.expire-in-PExpireAt.result _ c.expire-in-PExpireAt.ensures
+    (search rules))
 
 pub returns-in-Ttl : goal.returns-in-Ttl
-returns-in-Ttl c = rw c.in-Ttl.is (fixed_made Keys (Plain ∷ []) (λ a. (a, tt)) (λ a. Ok (keys.Ttl a.0)) keys.Ttl (λ a. refl) c.args.request.now c.one-in-Ttl.result _ c.one-in-Ttl.ensures (search rules))
+returns-in-Ttl c = rw c.in-Ttl.is
+    (fixed_made Keys (Plain ∷ []) (λ a. (a, tt)) (λ a. Ok (keys.Ttl a.0)) keys.Ttl (λ a. refl) c.args.request.now c.one-in-Ttl.result _ c.one-in-Ttl.ensures (search rules))
 
 pub returns-in-PTtl : goal.returns-in-PTtl
-returns-in-PTtl c = rw c.in-PTtl.is (fixed_made Keys (Plain ∷ []) (λ a. (a, tt)) (λ a. Ok (keys.PTtl a.0)) keys.PTtl (λ a. refl) c.args.request.now c.one-in-PTtl.result _ c.one-in-PTtl.ensures (search rules))
+returns-in-PTtl c = rw c.in-PTtl.is
+    (fixed_made Keys (Plain ∷ []) (λ a. (a, tt)) (λ a. Ok (keys.PTtl a.0)) keys.PTtl (λ a. refl) c.args.request.now c.one-in-PTtl.result _ c.one-in-PTtl.ensures (search rules))
 
 pub returns-in-ExpireTime : goal.returns-in-ExpireTime
-returns-in-ExpireTime c = rw c.in-ExpireTime.is (fixed_made Keys (Plain ∷ []) (λ a. (a, tt)) (λ a. Ok (keys.ExpireTime a.0)) keys.ExpireTime (λ a. refl) c.args.request.now c.one-in-ExpireTime.result _ c.one-in-ExpireTime.ensures (search rules))
+returns-in-ExpireTime c = rw c.in-ExpireTime.is
+    (fixed_made Keys (Plain ∷ []) (λ a. (a, tt)) (λ a. Ok (keys.ExpireTime a.0)) keys.ExpireTime (λ a. refl) c.args.request.now c.one-in-ExpireTime.result _ c.one-in-ExpireTime.ensures
+    (search rules))
 
 pub returns-in-PExpireTime : goal.returns-in-PExpireTime
-returns-in-PExpireTime c = rw c.in-PExpireTime.is (fixed_made Keys (Plain ∷ []) (λ a. (a, tt)) (λ a. Ok (keys.PExpireTime a.0)) keys.PExpireTime (λ a. refl) c.args.request.now c.one-in-PExpireTime.result _ c.one-in-PExpireTime.ensures (search rules))
+returns-in-PExpireTime c = rw c.in-PExpireTime.is
+    (fixed_made Keys (Plain ∷ []) (λ a. (a, tt)) (λ a. Ok (keys.PExpireTime a.0)) keys.PExpireTime (λ a. refl) c.args.request.now c.one-in-PExpireTime.result _ c.one-in-PExpireTime.ensures
+    (search rules))
 
 pub returns-in-Persist : goal.returns-in-Persist
-returns-in-Persist c = rw c.in-Persist.is (fixed_made Keys (Plain ∷ []) (λ a. (a, tt)) (λ a. Ok (keys.Persist a.0)) keys.Persist (λ a. refl) c.args.request.now c.one-in-Persist.result _ c.one-in-Persist.ensures (search rules))
+returns-in-Persist c = rw c.in-Persist.is
+    (fixed_made Keys (Plain ∷ []) (λ a. (a, tt)) (λ a. Ok (keys.Persist a.0)) keys.Persist (λ a. refl) c.args.request.now c.one-in-Persist.result _ c.one-in-Persist.ensures (search rules))
 
 pub returns-in-KeysLike : goal.returns-in-KeysLike
-returns-in-KeysLike c = rw c.in-KeysLike.is (fixed_made Keys (Plain ∷ []) (λ a. (a, tt)) (λ a. Ok (keys.KeysLike a.0)) keys.KeysLike (λ a. refl) c.args.request.now c.one-in-KeysLike.result _ c.one-in-KeysLike.ensures (search rules))
+returns-in-KeysLike c = rw c.in-KeysLike.is
+    (fixed_made Keys (Plain ∷ []) (λ a. (a, tt)) (λ a. Ok (keys.KeysLike a.0)) keys.KeysLike (λ a. refl) c.args.request.now c.one-in-KeysLike.result _ c.one-in-KeysLike.ensures
+    (search rules))
 
 pub returns-in-Rename : goal.returns-in-Rename
-returns-in-Rename c = rw c.in-Rename.is (fixed_made Keys (Plain ∷ Plain ∷ []) (λ a. (a.0, (a.1, tt))) (λ a. Ok (keys.Rename a.0 a.1.0)) (λ a. keys.Rename a.0 a.1) (λ a. refl) c.args.request.now c.two.result _ c.two.ensures (search rules))
+returns-in-Rename c = rw c.in-Rename.is
+    (fixed_made Keys (Plain ∷ Plain ∷ []) (λ a. (a.0, (a.1, tt))) (λ a. Ok (keys.Rename a.0 a.1.0)) (λ a. keys.Rename a.0 a.1) (λ a. refl) c.args.request.now c.two.result _ c.two.ensures
+    (search rules))
 
 pub returns-in-RenameNx : goal.returns-in-RenameNx
-returns-in-RenameNx c = rw c.in-RenameNx.is (fixed_made Keys (Plain ∷ Plain ∷ []) (λ a. (a.0, (a.1, tt))) (λ a. Ok (keys.RenameNx a.0 a.1.0)) (λ a. keys.RenameNx a.0 a.1) (λ a. refl) c.args.request.now c.two-in-RenameNx.result _ c.two-in-RenameNx.ensures (search rules))
+returns-in-RenameNx c = rw c.in-RenameNx.is
+    (fixed_made Keys (Plain ∷ Plain ∷ []) (λ a. (a.0, (a.1, tt))) (λ a. Ok (keys.RenameNx a.0 a.1.0)) (λ a. keys.RenameNx a.0 a.1) (λ a. refl) c.args.request.now c.two-in-RenameNx.result _
+    c.two-in-RenameNx.ensures (search rules))
 
 pub returns-in-MoveKey : goal.returns-in-MoveKey
-returns-in-MoveKey c = rw c.in-MoveKey.is (fixed_made Keys (Plain ∷ Database ∷ []) (λ a. (a.0, (a.1, tt))) (λ a. Ok (keys.MoveKey a.0 a.1.0)) (λ a. keys.MoveKey a.0 a.1) (λ a. refl) c.args.request.now c.one_and_database.result _ c.one_and_database.ensures (search rules))
+returns-in-MoveKey c = rw c.in-MoveKey.is
+    (fixed_made Keys (Plain ∷ Database ∷ []) (λ a. (a.0, (a.1, tt))) (λ a. Ok (keys.MoveKey a.0 a.1.0)) (λ a. keys.MoveKey a.0 a.1) (λ a. refl) c.args.request.now c.one_and_database.result
+    _ c.one_and_database.ensures (search rules))
 
 pub returns-in-CopyKey : goal.returns-in-CopyKey
 returns-in-CopyKey c =
-    rw c.in-CopyKey.is (options_made Keys (Plain ∷ Plain ∷ []) copy_options no_copy_options (λ a. ((a.0, (a.1, tt)), a.2)) (λ a options. Ok (keys.Copy a.0 a.1.0 options)) (λ a. keys.Copy a.0 a.1 a.2) (λ a. refl) c.args.request.now c.two_and_options.result _ (rw c.no_copy_options.ensures at c.two_and_options.ensures) (search rules))
+    rw c.in-CopyKey.is
+    (options_made Keys (Plain ∷ Plain ∷ []) copy_options no_copy_options (λ a. ((a.0, (a.1, tt)), a.2)) (λ a options. Ok (keys.Copy a.0 a.1.0 options)) (λ a. keys.Copy a.0 a.1 a.2)
+    (λ a. refl) c.args.request.now c.two_and_options.result _ (rw c.no_copy_options.ensures at c.two_and_options.ensures) (search rules))
 
 pub returns-in-Del : goal.returns-in-Del
 returns-in-Del c = rw c.in-Del.is (gathered Keys 1 (λ w. w) keys.Del (λ list. refl) c.args.request.now c.words.result _ c.words.ensures (search rules))
@@ -71,4 +95,5 @@ pub returns-in-RandomKey : goal.returns-in-RandomKey
 returns-in-RandomKey c = rw c.in-RandomKey.is (lifted Keys (fixed [] (λ a. Ok keys.RandomKey) (drop 1 c.args.request.now)) c.alone.result c.alone.ensures)
 
 pub returns-in-Scan : goal.returns-in-Scan
-returns-in-Scan c = rw c.in-Scan.is (lifted Keys (with_options (Cursor ∷ []) scan_options no_scan_options (λ a options. Ok (keys.Scan a.0 options)) (drop 1 c.args.request.now)) c.scan.result c.scan.ensures)
+returns-in-Scan c = rw c.in-Scan.is
+    (lifted Keys (with_options (Cursor ∷ []) scan_options no_scan_options (λ a options. Ok (keys.Scan a.0 options)) (drop 1 c.args.request.now)) c.scan.result c.scan.ensures)

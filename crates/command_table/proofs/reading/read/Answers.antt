@@ -14,4 +14,5 @@ pub returns-in-Some-clause-asked : goal.returns-in-Some-clause-asked
 returns-in-Some-clause-asked c =
     let words = c.args.request.now in
     let request : IsRequest words = search rules in
-    asked words c.read_named.result request (reads_by_name words (name_of c.in-Some.name) c.read_named.result request.some (ap in_lower_case (sym c.word.ensures) ∙ c.in-Some.ensures) c.read_named.ensures)
+    asked words c.read_named.result request
+    (reads_by_name words (name_of c.in-Some.name) c.read_named.result request.some (ap in_lower_case (sym c.word.ensures) ∙ c.in-Some.ensures) c.read_named.ensures)

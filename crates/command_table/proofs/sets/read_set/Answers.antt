@@ -15,19 +15,26 @@ pub returns-in-SRem : goal.returns-in-SRem
 returns-in-SRem c = rw c.in-SRem.is (keyed_made Sets 1 (λ w. w) sets.SRem (λ key list. refl) c.args.request.now c.one_and_words-in-SRem.result _ c.one_and_words-in-SRem.ensures (search rules))
 
 pub returns-in-SIsMember : goal.returns-in-SIsMember
-returns-in-SIsMember c = rw c.in-SIsMember.is (fixed_made Sets (Plain ∷ Plain ∷ []) (λ a. (a.0, (a.1, tt))) (λ a. Ok (sets.SIsMember a.0 a.1.0)) (λ a. sets.SIsMember a.0 a.1) (λ a. refl) c.args.request.now c.two.result _ c.two.ensures (search rules))
+returns-in-SIsMember c = rw c.in-SIsMember.is
+    (fixed_made Sets (Plain ∷ Plain ∷ []) (λ a. (a.0, (a.1, tt))) (λ a. Ok (sets.SIsMember a.0 a.1.0)) (λ a. sets.SIsMember a.0 a.1) (λ a. refl) c.args.request.now c.two.result _
+    c.two.ensures (search rules))
 
 pub returns-in-SMIsMember : goal.returns-in-SMIsMember
-returns-in-SMIsMember c = rw c.in-SMIsMember.is (keyed_made Sets 1 (λ w. w) sets.SMIsMember (λ key list. refl) c.args.request.now c.one_and_words-in-SMIsMember.result _ c.one_and_words-in-SMIsMember.ensures (search rules))
+returns-in-SMIsMember c = rw c.in-SMIsMember.is
+    (keyed_made Sets 1 (λ w. w) sets.SMIsMember (λ key list. refl) c.args.request.now c.one_and_words-in-SMIsMember.result _ c.one_and_words-in-SMIsMember.ensures (search rules))
 
 pub returns-in-SMembers : goal.returns-in-SMembers
-returns-in-SMembers c = rw c.in-SMembers.is (fixed_made Sets (Plain ∷ []) (λ a. (a, tt)) (λ a. Ok (sets.SMembers a.0)) sets.SMembers (λ a. refl) c.args.request.now c.one.result _ c.one.ensures (search rules))
+returns-in-SMembers c = rw c.in-SMembers.is
+    (fixed_made Sets (Plain ∷ []) (λ a. (a, tt)) (λ a. Ok (sets.SMembers a.0)) sets.SMembers (λ a. refl) c.args.request.now c.one.result _ c.one.ensures (search rules))
 
 pub returns-in-SCard : goal.returns-in-SCard
-returns-in-SCard c = rw c.in-SCard.is (fixed_made Sets (Plain ∷ []) (λ a. (a, tt)) (λ a. Ok (sets.SCard a.0)) sets.SCard (λ a. refl) c.args.request.now c.one-in-SCard.result _ c.one-in-SCard.ensures (search rules))
+returns-in-SCard c = rw c.in-SCard.is
+    (fixed_made Sets (Plain ∷ []) (λ a. (a, tt)) (λ a. Ok (sets.SCard a.0)) sets.SCard (λ a. refl) c.args.request.now c.one-in-SCard.result _ c.one-in-SCard.ensures (search rules))
 
 pub returns-in-SMove : goal.returns-in-SMove
-returns-in-SMove c = rw c.in-SMove.is (fixed_made Sets (Plain ∷ Plain ∷ Plain ∷ []) (λ a. (a.0, (a.1, (a.2, tt)))) (λ a. Ok (sets.SMove a.0 a.1.0 a.1.1.0)) (λ a. sets.SMove a.0 a.1 a.2) (λ a. refl) c.args.request.now c.three.result _ c.three.ensures (search rules))
+returns-in-SMove c = rw c.in-SMove.is
+    (fixed_made Sets (Plain ∷ Plain ∷ Plain ∷ []) (λ a. (a.0, (a.1, (a.2, tt)))) (λ a. Ok (sets.SMove a.0 a.1.0 a.1.1.0)) (λ a. sets.SMove a.0 a.1 a.2) (λ a. refl) c.args.request.now
+    c.three.result _ c.three.ensures (search rules))
 
 pub returns-in-SPop : goal.returns-in-SPop
 returns-in-SPop c = rw c.in-SPop.is (popped_made Sets sets.SPop c.args.request.now c.one_and_perhaps.result _ c.one_and_perhaps.ensures (search rules))
@@ -45,13 +52,16 @@ pub returns-in-SDiff : goal.returns-in-SDiff
 returns-in-SDiff c = rw c.in-SDiff.is (gathered Sets 1 (λ w. w) (sets.SJoin Diff) (λ list. refl) c.args.request.now c.words-in-SDiff.result _ c.words-in-SDiff.ensures (search rules))
 
 pub returns-in-SInterStore : goal.returns-in-SInterStore
-returns-in-SInterStore c = rw c.in-SInterStore.is (keyed_made Sets 1 (λ w. w) (sets.SJoinStore Inter) (λ key list. refl) c.args.request.now c.one_and_words-in-SInterStore.result _ c.one_and_words-in-SInterStore.ensures (search rules))
+returns-in-SInterStore c = rw c.in-SInterStore.is
+    (keyed_made Sets 1 (λ w. w) (sets.SJoinStore Inter) (λ key list. refl) c.args.request.now c.one_and_words-in-SInterStore.result _ c.one_and_words-in-SInterStore.ensures (search rules))
 
 pub returns-in-SUnionStore : goal.returns-in-SUnionStore
-returns-in-SUnionStore c = rw c.in-SUnionStore.is (keyed_made Sets 1 (λ w. w) (sets.SJoinStore Union) (λ key list. refl) c.args.request.now c.one_and_words-in-SUnionStore.result _ c.one_and_words-in-SUnionStore.ensures (search rules))
+returns-in-SUnionStore c = rw c.in-SUnionStore.is
+    (keyed_made Sets 1 (λ w. w) (sets.SJoinStore Union) (λ key list. refl) c.args.request.now c.one_and_words-in-SUnionStore.result _ c.one_and_words-in-SUnionStore.ensures (search rules))
 
 pub returns-in-SDiffStore : goal.returns-in-SDiffStore
-returns-in-SDiffStore c = rw c.in-SDiffStore.is (keyed_made Sets 1 (λ w. w) (sets.SJoinStore Diff) (λ key list. refl) c.args.request.now c.one_and_words-in-SDiffStore.result _ c.one_and_words-in-SDiffStore.ensures (search rules))
+returns-in-SDiffStore c = rw c.in-SDiffStore.is
+    (keyed_made Sets 1 (λ w. w) (sets.SJoinStore Diff) (λ key list. refl) c.args.request.now c.one_and_words-in-SDiffStore.result _ c.one_and_words-in-SDiffStore.ensures (search rules))
 
 pub returns-in-SInterCard : goal.returns-in-SInterCard
 returns-in-SInterCard c = rw c.in-SInterCard.is c.inter_card.ensures

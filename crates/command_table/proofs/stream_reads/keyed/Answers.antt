@@ -13,7 +13,8 @@ loop-index-init c =
     let key : end - c.args.count - c.args.count ≡ c.args.from = omega (arith, c.requires) in
     let place : end - c.args.count ≡ c.args.from + c.args.count = omega (arith, c.requires) in
     let means = keyed sign (drop c.args.from words) (drop (c.args.from + c.args.count) words) in
-    let same : keyed sign (drop (end - c.args.count - c.args.count) words) (drop (end - c.args.count) words) ≡ means = ap (λ n. keyed sign (drop n words) (drop (end - c.args.count) words)) key ∙ ap (λ n. keyed sign (drop c.args.from words) (drop n words)) place in
+    let same : keyed sign (drop (end - c.args.count - c.args.count) words) (drop (end - c.args.count) words) ≡ means =
+    ap (λ n. keyed sign (drop n words) (drop (end - c.args.count) words)) key ∙ ap (λ n. keyed sign (drop c.args.from words) (drop n words)) place in
     search rules
 
 pub returns-in_err-id : goal.returns-in_err-id
@@ -42,7 +43,8 @@ loop-index-preserved c =
     let more = more_kept c.loop-index.list c.with_key-list.result kept (c.plain.result, id) c.loop-index.invariant.0.2 c.with_key-list.ensures in (
       (
         kept ++ (at words key, id) ∷ [],
-        c.loop-index.invariant.0.1 ∙ keyed_on sign words kept key i id (omega (arith, within)) within c.in_ok-id.ensures ∙ ap (λ n. in_front (kept ++ (at words key, id) ∷ []) (keyed sign (drop n words) (drop (i + 1) words))) next,
+        c.loop-index.invariant.0.1 ∙ keyed_on sign words kept key i id (omega (arith, within)) within c.in_ok-id.ensures
+            ∙ ap (λ n. in_front (kept ++ (at words key, id) ∷ []) (keyed sign (drop n words) (drop (i + 1) words))) next,
         subst (λ w. IfOk c.with_key-list.result (λ l. l ≡ kept ++ (w, id) ∷ [])) named more,
       ),
       omega (arith, some),

@@ -17,7 +17,8 @@ returns-in_err-list c =
     let is : bytes_eq (in_lower_case (at words i)) (codes "streams") ≡ true = search rules in
     let fault = c.in_err-list.field-0.0 in
     let means = streams_read sign None (drop c.args.from words) in
-    let refused : Gathers means (Err fault) = limited_fails limit fault (keys_and_ids sign (drop (i + 1) words)) means (c.loop-index.invariant.0 ∙ streams_found sign limit words i within is) c.in_err-list.ensures in
+    let refused : Gathers means (Err fault) = limited_fails limit fault (keys_and_ids sign (drop (i + 1) words)) means
+    (c.loop-index.invariant.0 ∙ streams_found sign limit words i within is) c.in_err-list.ensures in
     search rules
 
 pub loop-index-preserved : goal.loop-index-preserved
@@ -38,4 +39,5 @@ pub returns : goal.returns
 returns c =
     let words = c.args.request.now in
     let i = c.loop-index.index in
-    c.loop-index.invariant.0 ∙ streams_short c.args.sign.now c.loop-index.limit (drop i words) (omega (arith, c.loop-index-test.false, c.len.ensures.len, c.loop-index.invariant.1, length-drop i words))
+    c.loop-index.invariant.0 ∙ streams_short c.args.sign.now c.loop-index.limit (drop i words)
+    (omega (arith, c.loop-index-test.false, c.len.ensures.len, c.loop-index.invariant.1, length-drop i words))

@@ -11,13 +11,18 @@ pub returns-in-XAdd : goal.returns-in-XAdd
 returns-in-XAdd c = rw c.in-XAdd.is c.append.ensures
 
 pub returns-in-XLen : goal.returns-in-XLen
-returns-in-XLen c = rw c.in-XLen.is (fixed_made Streams (Plain ∷ []) (λ a. (a, tt)) (λ a. Ok (streams.XLen a.0)) streams.XLen (λ a. refl) c.args.request.now c.one.result _ c.one.ensures (search rules))
+returns-in-XLen c = rw c.in-XLen.is
+    (fixed_made Streams (Plain ∷ []) (λ a. (a, tt)) (λ a. Ok (streams.XLen a.0)) streams.XLen (λ a. refl) c.args.request.now c.one.result _ c.one.ensures (search rules))
 
 pub returns-in-XRange : goal.returns-in-XRange
-returns-in-XRange c = rw c.in-XRange.is (lifted Streams (with_options (Plain ∷ FirstId ∷ LastId ∷ []) (count_option at_most ∷ []) None (λ a o. Ok (streams.XRange a.0 a.1.0 a.1.1.0 Rising o)) (drop 1 c.args.request.now)) c.rising.result c.rising.ensures)
+returns-in-XRange c = rw c.in-XRange.is
+    (lifted Streams (with_options (Plain ∷ FirstId ∷ LastId ∷ []) (count_option at_most ∷ []) None (λ a o. Ok (streams.XRange a.0 a.1.0 a.1.1.0 Rising o)) (drop 1 c.args.request.now))
+    c.rising.result c.rising.ensures)
 
 pub returns-in-XRevRange : goal.returns-in-XRevRange
-returns-in-XRevRange c = rw c.in-XRevRange.is (lifted Streams (with_options (Plain ∷ LastId ∷ FirstId ∷ []) (count_option at_most ∷ []) None (λ a o. Ok (streams.XRange a.0 a.1.1.0 a.1.0 Falling o)) (drop 1 c.args.request.now)) c.falling.result c.falling.ensures)
+returns-in-XRevRange c = rw c.in-XRevRange.is
+    (lifted Streams (with_options (Plain ∷ LastId ∷ FirstId ∷ []) (count_option at_most ∷ []) None (λ a o. Ok (streams.XRange a.0 a.1.1.0 a.1.0 Falling o)) (drop 1 c.args.request.now))
+    c.falling.result c.falling.ensures)
 
 pub returns-in-XDel : goal.returns-in-XDel
 returns-in-XDel c = rw c.in-XDel.is c.delete.ensures
@@ -38,4 +43,5 @@ pub returns-in-XAck : goal.returns-in-XAck
 returns-in-XAck c = rw c.in-XAck.is c.ack.ensures
 
 pub returns-in-XPending : goal.returns-in-XPending
-returns-in-XPending c = rw c.in-XPending.is (lifted Streams (with_options (Plain ∷ Plain ∷ []) no_options tt (λ a o. Ok (streams.XPending a.0 a.1.0)) (drop 1 c.args.request.now)) c.pending.result c.pending.ensures)
+returns-in-XPending c = rw c.in-XPending.is
+    (lifted Streams (with_options (Plain ∷ Plain ∷ []) no_options tt (λ a o. Ok (streams.XPending a.0 a.1.0)) (drop 1 c.args.request.now)) c.pending.result c.pending.ensures)

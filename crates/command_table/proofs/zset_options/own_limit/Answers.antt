@@ -18,4 +18,5 @@ returns c =
     let many : c.args.index + 3 ≤ length words = omega (arith, c.if-len-index-lt3.false, c.len.ensures.len, c.requires) in
     let a : SFits w64 c.in_ok-offset.offset = search rules in
     let b : SFits w64 c.in_ok-count.count = search rules in
-    rw (to_z-of_z w64 c.in_ok-offset.offset a, to_z-of_z w64 c.in_ok-count.count b) (limit_made words c.args.index c.in_ok-offset.offset c.in_ok-count.count many c.in_ok-offset.ensures c.in_ok-count.ensures)
+    rw (to_z-of_z w64 c.in_ok-offset.offset a, to_z-of_z w64 c.in_ok-count.count b)
+    (limit_made words c.args.index c.in_ok-offset.offset c.in_ok-count.count many c.in_ok-offset.ensures c.in_ok-count.ensures)

@@ -10,4 +10,6 @@ pub returns : goal.returns
 returns c =
     let words = c.args.request.now in
     let many : 4 ≤ length words = omega (arith, c.if-len-lt4.false, c.len.ensures.len) in
-    subst (λ m. ReadsZset m c.scored.result) (sym (add_then words c.options_in_front-from.result.0 c.options_in_front-from.result.1 many c.options_in_front-from.ensures.says c.options_in_front-from.ensures.behind)) c.scored.ensures
+    subst (λ m. ReadsZset m c.scored.result)
+    (sym (add_then words c.options_in_front-from.result.0 c.options_in_front-from.result.1 many c.options_in_front-from.ensures.says c.options_in_front-from.ensures.behind))
+    c.scored.ensures

@@ -7,4 +7,5 @@ pub returns-then-len-from-ne2 : goal.returns-then-len-from-ne2
 returns-then-len-from-ne2 c =
     let words = c.args.request.now in
     let pairs = c.in_ok-check_scores.ensures in
-    increment_breaks (at words 1) c.args.options (drop c.args.from words) pairs.0 c.requires.incr pairs.1 (λ two. omega (arith, two, c.if-len-from-ne2.true, c.len.ensures.len, length-drop c.args.from words))
+    increment_breaks (at words 1) c.args.options (drop c.args.from words) pairs.0 c.requires.incr pairs.1
+    (λ two. omega (arith, two, c.if-len-from-ne2.true, c.len.ensures.len, length-drop c.args.from words))

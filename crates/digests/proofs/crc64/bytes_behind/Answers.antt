@@ -19,5 +19,7 @@ loop-byte-preserved c =
     let more : take (i + 1) c.args.bytes.now ≡ take i c.args.bytes.now ++ (byte ∷ []) = grind (arith, common_steps, c.loop-byte-test.true) in
     let fits : byte < 256 = omega (arith, c.type_inv.bytes i) in
     let low : bit_xor state byte % 256 < 256 = omega arith in
-    let found : c.entry.result ≡ bit_steps 8 (bit_xor state byte % 256) = c.entry.ensures ∙ lookup 1 c.args.table.now (bit_xor state byte % 256) c.requires.entries (omega (arith, c.requires.all, low)) in
-    by_table state byte c.entry.result fits found ∙ ap (λ (s : ℕ). crc_of s (byte ∷ [])) c.loop-byte.invariant ∙ crc-append c.args.start (take i c.args.bytes.now) (byte ∷ []) ∙ ap (crc_of c.args.start) (sym more)
+    let found : c.entry.result ≡ bit_steps 8 (bit_xor state byte % 256) = c.entry.ensures
+    ∙ lookup 1 c.args.table.now (bit_xor state byte % 256) c.requires.entries (omega (arith, c.requires.all, low)) in
+    by_table state byte c.entry.result fits found ∙ ap (λ (s : ℕ). crc_of s (byte ∷ [])) c.loop-byte.invariant ∙ crc-append c.args.start (take i c.args.bytes.now) (byte ∷ [])
+    ∙ ap (crc_of c.args.start) (sym more)

@@ -14,4 +14,5 @@ returns c =
     let front : c.split_at.result.0.now ≡ take n c.args.bytes.now = c.split_at.ensures.front in
     let back : c.split_at.result.1.now ≡ drop n c.args.bytes.now = c.split_at.ensures.back in
     c.bytes_behind.ensures ∙ ap (λ (s : ℕ). crc_of s c.split_at.result.1.now) c.rows.ensures ∙ crc-append c.args.start c.split_at.result.0.now c.split_at.result.1.now
-    ∙ ap (λ (z : List ℕ). crc_of c.args.start (z ++ c.split_at.result.1.now)) front ∙ ap (λ (z : List ℕ). crc_of c.args.start (take n c.args.bytes.now ++ z)) back ∙ ap (crc_of c.args.start) (take-append-drop n c.args.bytes.now)
+    ∙ ap (λ (z : List ℕ). crc_of c.args.start (z ++ c.split_at.result.1.now)) front ∙ ap (λ (z : List ℕ). crc_of c.args.start (take n c.args.bytes.now ++ z)) back
+    ∙ ap (crc_of c.args.start) (take-append-drop n c.args.bytes.now)

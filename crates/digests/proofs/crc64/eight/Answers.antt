@@ -23,9 +23,11 @@ loop-i-preserved c =
     let low : bit_xor rest byte % 256 < 256 = omega arith in
     let all : length table ≡ 256 = c.told-tables i at in
     let count : suc (length behind) ≡ 8 - i = omega (arith, length-drop (i + 1) bytes, c.requires.row, c.loop-i-test.true) in
-    let found : c.entry-sum.result ≡ eights (8 - i) (bit_xor rest byte % 256) = c.entry-sum.ensures ∙ lookup (8 - i) table (bit_xor rest byte % 256) (table_at 8 c.args.tables.now i [] c.requires.tables at) (omega (arith, all, low)) in
+    let found : c.entry-sum.result ≡ eights (8 - i) (bit_xor rest byte % 256) = c.entry-sum.ensures
+    ∙ lookup (8 - i) table (bit_xor rest byte % 256) (table_at 8 c.args.tables.now i [] c.requires.tables at) (omega (arith, all, low)) in
     let step : crc_of rest (drop i bytes) ≡ bit_xor c.entry-sum.result (crc_of (rest / 256) behind) =
-    ap (crc_of rest) front ∙ by_first rest byte behind fits ∙ ap (λ (m : ℕ). bit_xor (eights m (bit_xor rest byte % 256)) (crc_of (rest / 256) behind)) count ∙ ap (λ (x : ℕ). bit_xor x (crc_of (rest / 256) behind)) (sym found) in
+    ap (crc_of rest) front ∙ by_first rest byte behind fits ∙ ap (λ (m : ℕ). bit_xor (eights m (bit_xor rest byte % 256)) (crc_of (rest / 256) behind)) count
+    ∙ ap (λ (x : ℕ). bit_xor x (crc_of (rest / 256) behind)) (sym found) in
     c.loop-i.invariant ∙ ap (bit_xor sum) step ∙ sym (xor_assoc sum c.entry-sum.result (crc_of (rest / 256) behind))
 
 pub returns : goal.returns

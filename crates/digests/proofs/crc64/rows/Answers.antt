@@ -15,5 +15,6 @@ loop-i-preserved c =
     let eight : at + 8 - at ≡ 8 = omega arith in
     let next : at + 8 ≡ 8 * (c.loop-i.i + 1) = omega arith in
     let row : List ℕ = take (at + 8 - at) (drop at bytes) in
-    let more : take at bytes ++ row ≡ take (8 * (c.loop-i.i + 1)) bytes = ap (λ (k : ℕ). take at bytes ++ take k (drop at bytes)) eight ∙ sym (take-add at 8 bytes) ∙ ap (λ (k : ℕ). take k bytes) next in
+    let more : take at bytes ++ row ≡ take (8 * (c.loop-i.i + 1)) bytes = ap (λ (k : ℕ). take at bytes ++ take k (drop at bytes)) eight ∙ sym (take-add at 8 bytes)
+    ∙ ap (λ (k : ℕ). take k bytes) next in
     c.eight-state.ensures ∙ ap (λ (s : ℕ). crc_of s row) c.loop-i.invariant ∙ crc-append c.args.start (take at bytes) row ∙ ap (crc_of c.args.start) more

@@ -20,8 +20,12 @@ unfolding sip
 returns c =
     let all : c.loop-word.word ≡ length c.args.bytes.now / 8 = omega arith in
     let message : List ℕ = padded c.args.bytes.now in
-    let so_far : c.loop-word.state ≡ compressed c.args.c message (length c.args.bytes.now / 8) (initial c.args.k0 c.args.k1) = c.loop-word.invariant ∙ ap (λ (n : ℕ). compressed c.args.c message n (initial c.args.k0 c.args.k1)) all in
-    let word : c.read_u64.result ≡ word_at message (length c.args.bytes.now / 8) = c.read_u64.ensures ∙ word-last c.args.bytes.now c.last_bytes-last.result (c.last_bytes-last.ensures ∙ ap (λ (t : List ℕ). t ++ replicate (7 - length t) 0 ++ (length c.args.bytes.now % 256) ∷ []) (take-rest c.args.bytes.now (8 * (length c.args.bytes.now / 8)))) in
+    let so_far : c.loop-word.state ≡ compressed c.args.c message (length c.args.bytes.now / 8) (initial c.args.k0 c.args.k1) = c.loop-word.invariant
+    ∙ ap (λ (n : ℕ). compressed c.args.c message n (initial c.args.k0 c.args.k1)) all in
+    let word : c.read_u64.result ≡ word_at message (length c.args.bytes.now / 8) = c.read_u64.ensures
+    ∙ word-last c.args.bytes.now c.last_bytes-last.result
+    (c.last_bytes-last.ensures ∙ ap (λ (t : List ℕ). t ++ replicate (7 - length t) 0 ++ (length c.args.bytes.now % 256) ∷ [])
+    (take-rest c.args.bytes.now (8 * (length c.args.bytes.now / 8)))) in
     c.finish.ensures
     ∙ ap (λ (s : State). finished c.args.d s)
     (c.absorb.ensures

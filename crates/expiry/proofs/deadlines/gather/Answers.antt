@@ -20,17 +20,25 @@ under n h = grind (arith, nat_tests)
 pub entry-requires : goal.entry-requires
 entry-requires c =
     let t = c.args.table.now in
-    item_there t c.args.moment (scanned t.older t.newer c.args.cursor).0 c.args.cursor (scanned t.older t.newer c.args.cursor).1 c.in-Some.at c.loop-next.found (spans_of t c.args.cursor c.len-len.ensures.placed) (subst (λ o. Gathers t c.args.moment (scanned t.older t.newer c.args.cursor).0 o c.loop-next.found) c.in-Some.is c.loop-next.invariant)
+    item_there t c.args.moment (scanned t.older t.newer c.args.cursor).0 c.args.cursor (scanned t.older t.newer c.args.cursor).1 c.in-Some.at c.loop-next.found
+    (spans_of t c.args.cursor c.len-len.ensures.placed)
+    (subst (λ o. Gathers t c.args.moment (scanned t.older t.newer c.args.cursor).0 o c.loop-next.found) c.in-Some.is c.loop-next.invariant)
 
 pub returns-then-is_full-clause-found : goal.returns-then-is_full-clause-found
 returns-then-is_full-clause-found c =
     let t = c.args.table.now in
-    over_found t c.args.moment (scanned t.older t.newer c.args.cursor).0 c.in-Some.at c.loop-next.found _ _ (subst (λ o. Gathers t c.args.moment (scanned t.older t.newer c.args.cursor).0 o c.loop-next.found) c.in-Some.is c.loop-next.invariant) c.entry.ensures c.if-deadline-moment.true (tells _ c.if-is_full.ensures.value)
+    over_found t c.args.moment (scanned t.older t.newer c.args.cursor).0 c.in-Some.at c.loop-next.found _ _
+    (subst (λ o. Gathers t c.args.moment (scanned t.older t.newer c.args.cursor).0 o c.loop-next.found) c.in-Some.is c.loop-next.invariant) c.entry.ensures c.if-deadline-moment.true
+    (tells _ c.if-is_full.ensures.value)
 
 pub returns-then-is_full-clause-all : goal.returns-then-is_full-clause-all
 returns-then-is_full-clause-all c =
     let t = c.args.table.now in
-    sym (lt-leb _ _ (over_many t c.args.moment (scanned t.older t.newer c.args.cursor).0 c.in-Some.at c.loop-next.found _ _ (subst (λ o. Gathers t c.args.moment (scanned t.older t.newer c.args.cursor).0 o c.loop-next.found) c.in-Some.is c.loop-next.invariant) c.entry.ensures c.if-deadline-moment.true (tells _ c.if-is_full.ensures.value)))
+    sym
+    (lt-leb _ _
+    (over_many t c.args.moment (scanned t.older t.newer c.args.cursor).0 c.in-Some.at c.loop-next.found _ _
+    (subst (λ o. Gathers t c.args.moment (scanned t.older t.newer c.args.cursor).0 o c.loop-next.found) c.in-Some.is c.loop-next.invariant) c.entry.ensures c.if-deadline-moment.true
+    (tells _ c.if-is_full.ensures.value)))
 
 pub returns-then-is_full-clause-spans : goal.returns-then-is_full-clause-spans
 returns-then-is_full-clause-spans c = spans_of c.args.table.now c.args.cursor c.len-len.ensures.placed
@@ -38,7 +46,8 @@ returns-then-is_full-clause-spans c = spans_of c.args.table.now c.args.cursor c.
 pub scan_after-next-requires : goal.scan_after-next-requires
 scan_after-next-requires c =
     let t = c.args.table.now in
-    met_there t c.args.moment (scanned t.older t.newer c.args.cursor).0 c.in-Some.at c.loop-next.found (subst (λ o. Gathers t c.args.moment (scanned t.older t.newer c.args.cursor).0 o c.loop-next.found) c.in-Some.is c.loop-next.invariant)
+    met_there t c.args.moment (scanned t.older t.newer c.args.cursor).0 c.in-Some.at c.loop-next.found
+    (subst (λ o. Gathers t c.args.moment (scanned t.older t.newer c.args.cursor).0 o c.loop-next.found) c.in-Some.is c.loop-next.invariant)
 
 pub loop-next-smaller : goal.loop-next-smaller
 loop-next-smaller c =
@@ -63,12 +72,14 @@ loop-next-preserved c =
           (omega (arith, ap length pushed, length-append c.loop-next.found (c.entry.result.0 ∷ []))))
       | else-deadline-moment w ↦
           more t c.args.moment xs c.in-Some.at c.scan_after-next.result c.loop-next.found c.if-deadline-moment.found once g c.scan_after-next.ensures
-          (w.found-is ∙ sym (append-nil c.loop-next.found) ∙ ap (λ l. c.loop-next.found ++ l) (sym (gone_no t c.args.moment c.in-Some.at c.entry.result.0 c.entry.result.1.now c.entry.ensures w.if-deadline-moment.false)))
+          (w.found-is ∙ sym (append-nil c.loop-next.found) ∙ ap (λ l. c.loop-next.found ++ l)
+          (sym (gone_no t c.args.moment c.in-Some.at c.entry.result.0 c.entry.result.1.now c.entry.ensures w.if-deadline-moment.false)))
           (omega (arith, ap length w.found-is, c.loop-next.invariant.few))
     ]
 
 pub returns-clause-found : goal.returns-clause-found
-returns-clause-found c = whole_found c.args.table.now c.args.moment (scanned c.args.table.now.older c.args.table.now.newer c.args.cursor).0 c.loop-next.next c.loop-next.found c.loop-next.invariant c.in_default.is
+returns-clause-found c = whole_found c.args.table.now c.args.moment (scanned c.args.table.now.older c.args.table.now.newer c.args.cursor).0 c.loop-next.next c.loop-next.found
+    c.loop-next.invariant c.in_default.is
 
 pub returns-clause-spans : goal.returns-clause-spans
 returns-clause-spans c = spans_of c.args.table.now c.args.cursor c.len-len.ensures.placed

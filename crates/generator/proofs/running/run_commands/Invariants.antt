@@ -10,7 +10,9 @@ use Rattle.generator.proofs.running.run_commands.Given as goal
 abbrev pub invariant-loop-past : goal.invariant-loop-past
 invariant-loop-past g l = record {
   replies : List (List Part);
-  went : way g.E.Server.executes g.E.Server.works 0 (record { engine = l.initial.engine; pacers = following (λ b. (goal.Pacer-dyn g (b.vtable, b.value)).pacing b.value) l.initial.conductor }) (commands l.seed l.past) replies (record { engine = l.engine; pacers = following (λ b. (goal.Pacer-dyn g (b.vtable, b.value)).pacing b.value) l.conductor });
+  went : way g.E.Server.executes g.E.Server.works 0
+      (record { engine = l.initial.engine; pacers = following (λ b. (goal.Pacer-dyn g (b.vtable, b.value)).pacing b.value) l.initial.conductor }) (commands l.seed l.past) replies
+      (record { engine = l.engine; pacers = following (λ b. (goal.Pacer-dyn g (b.vtable, b.value)).pacing b.value) l.conductor });
   dice : l.running.dice ≡ drawn l.seed (2 * l.past);
   sum : l.running.crc ≡ crc_of 0 (spelled replies);
 }

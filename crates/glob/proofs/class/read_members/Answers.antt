@@ -15,6 +15,7 @@ loop-at-preserved c =
     ] in
     record {
       room = omega arith;
-      takes = takes_step ms c.loop-at.at c.args.byte c.loop-at.takes c.if-holds.takes m c.loop-at-test.true c.if-members-at-eq93.false c.read_member-member.ensures.member c.read_member-member.ensures.some now ∙ c.loop-at.invariant.takes;
+      takes = takes_step ms c.loop-at.at c.args.byte c.loop-at.takes c.if-holds.takes m c.loop-at-test.true c.if-members-at-eq93.false c.read_member-member.ensures.member
+          c.read_member-member.ensures.some now ∙ c.loop-at.invariant.takes;
       rest = rest_loop_step ms c.loop-at.at m c.loop-at-test.true c.if-members-at-eq93.false c.read_member-member.ensures.member c.read_member-member.ensures.some ∙ c.loop-at.invariant.rest;
     }

@@ -16,22 +16,26 @@ loop-at-init g c =
     let m = g.B.BlockStore.blocks c.args.store.now in
     let h = c.new-table.ensures in
     record {
-      hashed = subst (λ map. IsHashed m m (no_fields c.args.seed) c.new-table.result map) (sym (none_before m c.args.source.now)) (new_hashed m c.new-table.result c.args.seed (new_is c.new-table.result c.args.seed h.empty h.older h.newer h.position h.seed h.top) (h.keyed m));
+      hashed = subst (λ map. IsHashed m m (no_fields c.args.seed) c.new-table.result map) (sym (none_before m c.args.source.now))
+          (new_hashed m c.new-table.result c.args.seed (new_is c.new-table.result c.args.seed h.empty h.older h.newer h.position h.seed h.top) (h.keyed m));
       served = no_step;
     }
 
 pub copy_field-requires-clause-source : goal.copy_field-requires-clause-source
 copy_field-requires-clause-source g c =
-    source_keyed (g.B.BlockStore.blocks c.args.store.now) (g.B.BlockStore.blocks c.loop-at.store) c.args.seed c.args.source.now c.loop-at.table c.loop-at.at c.requires.keyed c.requires.owned c.loop-at.invariant.hashed
+    source_keyed (g.B.BlockStore.blocks c.args.store.now) (g.B.BlockStore.blocks c.loop-at.store) c.args.seed c.args.source.now c.loop-at.table c.loop-at.at c.requires.keyed
+    c.requires.owned c.loop-at.invariant.hashed
 
 pub copy_field-requires-clause-source_owned : goal.copy_field-requires-clause-source_owned
 copy_field-requires-clause-source_owned g c =
-    source_owned (g.B.BlockStore.blocks c.args.store.now) (g.B.BlockStore.blocks c.loop-at.store) c.args.seed c.args.source.now c.loop-at.table c.loop-at.at c.requires.keyed c.requires.owned c.loop-at.invariant.hashed
+    source_owned (g.B.BlockStore.blocks c.args.store.now) (g.B.BlockStore.blocks c.loop-at.store) c.args.seed c.args.source.now c.loop-at.table c.loop-at.at c.requires.keyed
+    c.requires.owned c.loop-at.invariant.hashed
 
 pub copy_field-requires-clause-absent : goal.copy_field-requires-clause-absent
 copy_field-requires-clause-absent g c =
     let e = some_of (item c.args.source.now c.loop-at.at) (c.is_entry.ensures.0 c.if-is_entry.true) in
-    next_absent (g.B.BlockStore.blocks c.args.store.now) (g.B.BlockStore.blocks c.loop-at.store) c.args.seed c.args.source.now c.loop-at.table c.loop-at.at c.requires.keyed c.requires.owned c.loop-at.invariant.hashed e.0 e.1
+    next_absent (g.B.BlockStore.blocks c.args.store.now) (g.B.BlockStore.blocks c.loop-at.store) c.args.seed c.args.source.now c.loop-at.table c.loop-at.at c.requires.keyed
+    c.requires.owned c.loop-at.invariant.hashed e.0 e.1
 
 pub returns-in-Err-clause-served : goal.returns-in-Err-clause-served
 returns-in-Err-clause-served g c = Served-then _ _ _ (Served-then _ _ _ c.loop-at.invariant.served c.in-Err.ensures.served) c.end_table.ensures.served
@@ -63,7 +67,8 @@ loop-at-preserved g c =
           rw add-one
           record {
             hashed = subst (λ s. IsHashed m (g.B.BlockStore.blocks s) (no_fields c.args.seed) c.if-is_entry.table (map_of_pairs (pairs_before m t (suc at)))) (sym w.store-is)
-                (subst (λ v. IsHashed m mid (no_fields c.args.seed) v (map_of_pairs (pairs_before m t (suc at)))) (sym w.table-is) (subst (λ map. IsHashed m mid (no_fields c.args.seed) u map) same inv.hashed));
+                (subst (λ v. IsHashed m mid (no_fields c.args.seed) v (map_of_pairs (pairs_before m t (suc at)))) (sym w.table-is)
+                (subst (λ map. IsHashed m mid (no_fields c.args.seed) u map) same inv.hashed));
             served = subst (Served g.B.BlockStore.step c.args.store.now) (sym w.store-is) inv.served;
           })
     ]

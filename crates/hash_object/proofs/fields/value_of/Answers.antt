@@ -7,7 +7,8 @@ bytes-requires g c = value_live (g.B.BlockStore.blocks c.args.store.now) c.args.
 
 pub returns-in-Some : goal.returns-in-Some
 returns-in-Some g c =
-    found_value (g.B.BlockStore.blocks c.args.store.now) c.args.table.now c.requires.keyed c.in-Some.at c.args.field.now _ c.in-Some.ensures.found c.entry.ensures.found ∙ ap (λ (o : Option (List ℕ)). Some (unwrap_or o [])) c.bytes.ensures
+    found_value (g.B.BlockStore.blocks c.args.store.now) c.args.table.now c.requires.keyed c.in-Some.at c.args.field.now _ c.in-Some.ensures.found c.entry.ensures.found
+    ∙ ap (λ (o : Option (List ℕ)). Some (unwrap_or o [])) c.bytes.ensures
 
 pub returns-in-None : goal.returns-in-None
 returns-in-None g c = fields_lacks (g.B.BlockStore.blocks c.args.store.now) c.args.table.now c.requires.keyed c.args.field.now c.in-None.ensures.none

@@ -12,7 +12,8 @@ loop-at-init g c = record { changes = end_begins value_block c.args.table (g.B.B
 
 pub end_entry-requires : goal.end_entry-requires
 end_entry-requires g c =
-    end_owned value_block c.args.table c.loop-at.at (g.B.BlockStore.blocks c.args.store.now) (g.B.BlockStore.blocks c.loop-at.store) c.loop-at.invariant.changes c.entry.result.0 c.entry.result.1.now c.entry.ensures
+    end_owned value_block c.args.table c.loop-at.at (g.B.BlockStore.blocks c.args.store.now) (g.B.BlockStore.blocks c.loop-at.store) c.loop-at.invariant.changes c.entry.result.0
+    c.entry.result.1.now c.entry.ensures
 
 pub loop-at-preserved : goal.loop-at-preserved
 loop-at-preserved g c =
@@ -21,7 +22,8 @@ loop-at-preserved g c =
     elim c.if-is_entry.branch [
       | then-is_entry w ↦ record {
         changes = rw add-one (subst (λ (s : _). Changes m (g.B.BlockStore.blocks s) (blocks_of c.args.table) (refs_from value_block c.args.table (suc c.loop-at.at))) (sym w.store-is)
-            (end_goes_on value_block c.args.table c.loop-at.at m mid c.loop-at.invariant.changes w.entry.result.0 w.entry.result.1.now w.entry.ensures (g.B.BlockStore.blocks w.end_entry.new.store) w.end_entry.ensures.changes));
+            (end_goes_on value_block c.args.table c.loop-at.at m mid c.loop-at.invariant.changes w.entry.result.0 w.entry.result.1.now w.entry.ensures
+            (g.B.BlockStore.blocks w.end_entry.new.store) w.end_entry.ensures.changes));
         served = subst (Served g.B.BlockStore.step c.args.store.now) (sym w.store-is) (Served-then _ _ _ c.loop-at.invariant.served w.end_entry.ensures.served);
       }
       | else-is_entry w ↦ record {
@@ -33,4 +35,5 @@ loop-at-preserved g c =
 
 pub returns-clause-changes : goal.returns-clause-changes
 returns-clause-changes g c =
-    end_all value_block c.args.table c.loop-at.at (g.B.BlockStore.blocks c.args.store.now) (g.B.BlockStore.blocks c.loop-at.store) c.loop-at.invariant.changes (λ i some. let below = c.top-at-end.ensures.above i some in omega (arith, below, c.loop-at-test.false))
+    end_all value_block c.args.table c.loop-at.at (g.B.BlockStore.blocks c.args.store.now) (g.B.BlockStore.blocks c.loop-at.store) c.loop-at.invariant.changes
+    (λ i some. let below = c.top-at-end.ensures.above i some in omega (arith, below, c.loop-at-test.false))

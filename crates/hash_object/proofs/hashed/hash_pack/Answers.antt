@@ -51,7 +51,8 @@ returns-in-Err-clause-err_blocks g c =
     let mid = g.B.BlockStore.blocks c.loop.store in
     let n = g.B.BlockStore.blocks c.end_table.new.store in
     let ended : Changes mid n (blocks_of c.loop.table) [] =
-    subst (λ (b : Blocks). Changes b n (blocks_of c.loop.table) []) c.in-Err.ensures.err_blocks (subst (λ t. Changes (g.B.BlockStore.blocks c.hash_elements.new.store) n (blocks_of t) []) c.in-Err.ensures.err_table c.end_table.ensures.changes) in
+    subst (λ (b : Blocks). Changes b n (blocks_of c.loop.table) []) c.in-Err.ensures.err_blocks
+    (subst (λ t. Changes (g.B.BlockStore.blocks c.hash_elements.new.store) n (blocks_of t) []) c.in-Err.ensures.err_table c.end_table.ensures.changes) in
     all_same m n (Changes-then m mid n [] (blocks_of c.loop.table) [] c.loop.invariant.hashed.changes ended)
 
 pub loop-preserved : goal.loop-preserved
@@ -75,7 +76,8 @@ loop-preserved g c =
     record {
       place = c.next_place-next.ensures i at;
       hashed = subst (λ map. IsHashed m n (no_fields c.args.seed) c.hash_elements.new.table map) more
-          (hashed_then m mid n (no_fields c.args.seed) c.loop.table c.hash_elements.new.table (map_of_pairs (take i list)) (insert (fields_in mid c.loop.table) k v) inv.hashed c.in_default.ensures.hashed);
+          (hashed_then m mid n (no_fields c.args.seed) c.loop.table c.hash_elements.new.table (map_of_pairs (take i list)) (insert (fields_in mid c.loop.table) k v) inv.hashed
+          c.in_default.ensures.hashed);
       served = Served-then _ _ _ inv.served c.hash_elements.ensures.served;
     }
 

@@ -13,7 +13,8 @@ pub returns-clause-hashed : goal.returns-clause-hashed
 returns-clause-hashed g c =
     let m = g.B.BlockStore.blocks c.args.store.now in
     let e = c.requires.entry in
-    overwritten_hashed m (g.B.BlockStore.blocks c.write.new.self) c.args.table.now c.args.at (record { key = e.0; hash = e.1.hash; value = c.args.old }) c.args.value.now c.requires.keyed c.requires.owned e.1.found
+    overwritten_hashed m (g.B.BlockStore.blocks c.write.new.self) c.args.table.now c.args.at (record { key = e.0; hash = e.1.hash; value = c.args.old }) c.args.value.now c.requires.keyed
+    c.requires.owned e.1.found
     (c.write.ensures.written ∙ ap (λ bytes. with_block m c.args.old (Some bytes)) (overwritten-all (bytes_at m c.args.old) c.args.value.now c.requires.same))
 
 pub returns-clause-served : goal.returns-clause-served

@@ -16,7 +16,8 @@ returns-in_err-shrink-in-Some-clause-hashed g c = λ _.
     let m = g.B.BlockStore.blocks c.args.store.now in
     let n = g.B.BlockStore.blocks c.end_entry.new.store in
     let e = c.in-Some.ensures in
-    let k = taken_keyed m c.args.table.now c.remove.new.self c.args.field.now c.in-Some.key c.in-Some.value c.requires.keyed c.requires.owned e.removed n c.shrink.new.self e.keyed c.end_entry.ensures.changes in
+    let k = taken_keyed m c.args.table.now c.remove.new.self c.args.field.now c.in-Some.key c.in-Some.value c.requires.keyed c.requires.owned e.removed n c.shrink.new.self e.keyed
+    c.end_entry.ensures.changes in
     taken_hashed m c.args.table.now c.remove.new.self c.args.field.now c.in-Some.key c.in-Some.value c.requires.keyed c.requires.owned e.removed n c.shrink.new.self e.keyed c.end_entry.ensures.changes
     c.remove.ensures.grown (c.shrink.ensures.keyed n k) c.shrink.ensures.items c.shrink.ensures.seed (c.shrink.ensures.grown n)
 
@@ -30,7 +31,8 @@ returns-in_ok-shrink-in-Some-clause-hashed g c = λ _.
     let m = g.B.BlockStore.blocks c.args.store.now in
     let n = g.B.BlockStore.blocks c.end_entry.new.store in
     let e = c.in-Some.ensures in
-    let k = taken_keyed m c.args.table.now c.remove.new.self c.args.field.now c.in-Some.key c.in-Some.value c.requires.keyed c.requires.owned e.removed n c.shrink.new.self e.keyed c.end_entry.ensures.changes in
+    let k = taken_keyed m c.args.table.now c.remove.new.self c.args.field.now c.in-Some.key c.in-Some.value c.requires.keyed c.requires.owned e.removed n c.shrink.new.self e.keyed
+    c.end_entry.ensures.changes in
     taken_hashed m c.args.table.now c.remove.new.self c.args.field.now c.in-Some.key c.in-Some.value c.requires.keyed c.requires.owned e.removed n c.shrink.new.self e.keyed c.end_entry.ensures.changes
     c.remove.ensures.grown (c.shrink.ensures.keyed n k) c.shrink.ensures.items c.shrink.ensures.seed (c.shrink.ensures.grown n)
 

@@ -6,7 +6,8 @@ settle-new-requires g c = c.requires.keyed.live c.args.at _ c.entry.ensures.foun
 
 pub returns-clause-settled : goal.returns-clause-settled
 returns-clause-settled g c =
-    field_settled (g.B.BlockStore.blocks c.args.store.now) (g.B.BlockStore.blocks c.settle-new.new.store) c.args.table.now c.swap_ref.new.self c.args.at c.entry.result.0 c.settle-new.result c.entry.result.1.now c.requires.keyed c.requires.owned c.entry.ensures
+    field_settled (g.B.BlockStore.blocks c.args.store.now) (g.B.BlockStore.blocks c.settle-new.new.store) c.args.table.now c.swap_ref.new.self c.args.at c.entry.result.0
+    c.settle-new.result c.entry.result.1.now c.requires.keyed c.requires.owned c.entry.ensures
     c.settle-new.ensures.bytes c.settle-new.ensures.changes c.swap_ref.ensures
 
 pub returns-clause-calm : goal.returns-clause-calm

@@ -16,7 +16,8 @@ pub settle_mark-requires-clause-keyed : goal.settle_mark-requires-clause-keyed
 settle_mark-requires-clause-keyed g c = c.loop-mark.invariant.settled.keyed
 
 pub settle_mark-requires-clause-owned : goal.settle_mark-requires-clause-owned
-settle_mark-requires-clause-owned g c = Changes-owned (g.B.BlockStore.blocks c.args.store.now) (g.B.BlockStore.blocks c.loop-mark.store) (blocks_of c.args.table.now) (blocks_of c.loop-mark.table) c.loop-mark.invariant.settled.changes
+settle_mark-requires-clause-owned g c = Changes-owned (g.B.BlockStore.blocks c.args.store.now) (g.B.BlockStore.blocks c.loop-mark.store) (blocks_of c.args.table.now)
+    (blocks_of c.loop-mark.table) c.loop-mark.invariant.settled.changes
 
 pub loop-mark-preserved : goal.loop-mark-preserved
 loop-mark-preserved g c =
@@ -24,14 +25,17 @@ loop-mark-preserved g c =
     let inv = c.loop-mark.invariant in
     let one = c.settle_mark.ensures in
     record {
-      settled = settled_more m (g.B.BlockStore.blocks c.loop-mark.store) (g.B.BlockStore.blocks c.settle_mark.new.store) c.args.table.now c.loop-mark.table c.settle_mark.new.table c.args.part.start c.loop-mark.mark (omega arith) inv.settled one.settled;
-      calm = calm_more (g.B.BlockStore.heap c.loop-mark.store) (g.B.BlockStore.heap c.settle_mark.new.store) c.loop-mark.table c.settle_mark.new.table c.args.part.start c.loop-mark.mark one.calmer one.settled.others inv.calm one.calm;
+      settled = settled_more m (g.B.BlockStore.blocks c.loop-mark.store) (g.B.BlockStore.blocks c.settle_mark.new.store) c.args.table.now c.loop-mark.table c.settle_mark.new.table
+          c.args.part.start c.loop-mark.mark (omega arith) inv.settled one.settled;
+      calm = calm_more (g.B.BlockStore.heap c.loop-mark.store) (g.B.BlockStore.heap c.settle_mark.new.store) c.loop-mark.table c.settle_mark.new.table c.args.part.start c.loop-mark.mark
+          one.calmer one.settled.others inv.calm one.calm;
       calmer = Calmer-next (g.B.BlockStore.heap c.args.store.now) (g.B.BlockStore.heap c.loop-mark.store) (g.B.BlockStore.heap c.settle_mark.new.store) inv.calmer one.calmer;
     }
 
 pub returns-clause-settled : goal.returns-clause-settled
 returns-clause-settled g c =
-    settled_weaker (g.B.BlockStore.blocks c.args.store.now) (g.B.BlockStore.blocks c.loop-mark.store) c.args.table.now c.loop-mark.table (λ i. (i < c.args.part.start) ⊎ (c.loop-mark.mark ≤ i)) (λ i. (i < c.args.part.start) ⊎ (c.args.part.end ≤ i))
+    settled_weaker (g.B.BlockStore.blocks c.args.store.now) (g.B.BlockStore.blocks c.loop-mark.store) c.args.table.now c.loop-mark.table
+    (λ i. (i < c.args.part.start) ⊎ (c.loop-mark.mark ≤ i)) (λ i. (i < c.args.part.start) ⊎ (c.args.part.end ≤ i))
     (λ i h. elim h [
       | inl low ↦ inl low
       | inr high ↦ inr (omega (arith, high, c.loop-mark.auto.mark, c.requires.order, c.loop-mark-test.false))

@@ -11,8 +11,10 @@ settle-new-requires g c = value_live (g.B.BlockStore.blocks c.args.store.now) c.
 pub returns-clause-settled : goal.returns-clause-settled
 returns-clause-settled g c =
     let sw = c.swap_value-old.ensures in
-    let was : c.swap_value-old.result ≡ c.entry.result.1.now = same_value (item c.args.table.now c.args.at) sw.swaps.key c.entry.result.0 sw.swaps.hash c.entry.ensures.hash c.swap_value-old.result c.entry.result.1.now sw.swaps.found c.entry.ensures.found in
-    value_settled (g.B.BlockStore.blocks c.args.store.now) (g.B.BlockStore.blocks c.settle-new.new.store) c.args.table.now c.swap_value-old.new.self c.args.at c.swap_value-old.result c.settle-new.result c.requires.keyed c.requires.owned
+    let was : c.swap_value-old.result ≡ c.entry.result.1.now = same_value (item c.args.table.now c.args.at) sw.swaps.key c.entry.result.0 sw.swaps.hash c.entry.ensures.hash
+    c.swap_value-old.result c.entry.result.1.now sw.swaps.found c.entry.ensures.found in
+    value_settled (g.B.BlockStore.blocks c.args.store.now) (g.B.BlockStore.blocks c.settle-new.new.store) c.args.table.now c.swap_value-old.new.self c.args.at c.swap_value-old.result
+    c.settle-new.result c.requires.keyed c.requires.owned
     (c.settle-new.ensures.bytes ∙ ap (g.B.BlockStore.blocks c.args.store.now) (sym was))
     (subst (λ q. Changes (g.B.BlockStore.blocks c.args.store.now) (g.B.BlockStore.blocks c.settle-new.new.store) (q ∷ []) (c.settle-new.result ∷ [])) (sym was) c.settle-new.ensures.changes)
     sw.swaps sw.keyed sw.tables

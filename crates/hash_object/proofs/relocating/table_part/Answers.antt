@@ -12,7 +12,15 @@ loop-mark-preserved c =
     let t = c.args.table.now in
     let more = units_more t c.args.start c.loop-mark.mark c.loop-mark.auto.mark in
     record {
-      used = omega (arith, c.loop-mark.invariant.used, c.unit_at-unit.ensures, more, ap (units_in (Table t) c.args.start) (add-one c.loop-mark.mark), ap (units_in (Table t) c.loop-mark.mark) (add-one c.loop-mark.mark));
+      used = omega (
+        arith,
+        c.loop-mark.invariant.used,
+        c.unit_at-unit.ensures,
+        more,
+        ap (units_in (Table t) c.args.start) (add-one c.loop-mark.mark),
+        ap (units_in (Table t) c.loop-mark.mark)
+            (add-one c.loop-mark.mark),
+      );
       within = omega (arith, c.loop-mark.invariant.within, c.if-unit-room.false);
     }
 

@@ -8,4 +8,5 @@ loop-place-preserved c = record {
 }
 
 pub returns : goal.returns
-returns c = capped_end c.loop-place.value c.args.number c.args.count c.loop-place._place c.min-place-end.result c.loop-place.invariant.value c.min-place-end.ensures c.loop-place.auto._place-end c.loop-place-test.false
+returns c = capped_end c.loop-place.value c.args.number c.args.count c.loop-place._place c.min-place-end.result c.loop-place.invariant.value c.min-place-end.ensures
+    c.loop-place.auto._place-end c.loop-place-test.false

@@ -42,7 +42,8 @@ pub returns-in_ok-put-2-clause-intset : goal.returns-in_ok-put-2-clause-intset
 returns-in_ok-put-2-clause-intset c =
     let at : IsPlace (numbers_of c.args.set.now.items) c.args.n c.in-Err.place = rw (to_z-of_z w64 c.args.n c.ranges.n, c.as_slice.ensures.value) at c.in-Err.ensures.absent in
     let listed = rw c.as_slice-else-needed-width.ensures.value at c.in_ok-wide.ensures.intset.listed in
-    edited_intset _ _ _ (rw (to_z-of_z w64 c.args.n c.ranges.n, ← listed) at c.in_ok-put-2.ensures.ok) (rising-insert (numbers_of c.args.set.now.items) c.args.n c.in-Err.place c.requires.intset.rising at)
+    edited_intset _ _ _ (rw (to_z-of_z w64 c.args.n c.ranges.n, ← listed) at c.in_ok-put-2.ensures.ok)
+    (rising-insert (numbers_of c.args.set.now.items) c.args.n c.in-Err.place c.requires.intset.rising at)
 
 pub returns-in_ok-put-2-clause-added : goal.returns-in_ok-put-2-clause-added
 returns-in_ok-put-2-clause-added c =

@@ -14,7 +14,8 @@ returns-then-not-is_rising c =
     let sized : IsWidth c.told_width.result = c.if-not-is_width.ensures.0 refl in (
       record { told = c.if-bytes-lt4.false; width = rw c.told_width.ensures at sized },
       (rw (← c.told_width-width.ensures, ← c.told_count.ensures.value) (omega arith)),
-      (λ rising. let t = c.is_rising.ensures.1 (rw (c.told_width-width.ensures, c.told_count-count.ensures.value, c.packed_part-packed.ensures, ← numbers_of-is c.args.bytes.now) rising) in absurd (cc)),
+      (λ rising. let t = c.is_rising.ensures.1 (rw (c.told_width-width.ensures, c.told_count-count.ensures.value, c.packed_part-packed.ensures, ← numbers_of-is c.args.bytes.now) rising) in
+          absurd (cc)),
     )
 
 pub returns : goal.returns

@@ -10,7 +10,15 @@ returns-in-None-clause-held g c = same_held g.B.BlockStore.blocks g.B.BlockStore
 
 pub returns-else-from-clause-world : goal.returns-else-from-clause-world
 returns-else-from-clause-world g c =
-    expire_now (means c.args.at.now.db c.args.keyspace.now.bases (g.B.BlockStore.blocks c.args.keyspace.now.store)) (means c.args.at.now.db c.drop_hashed.new.self.bases (g.B.BlockStore.blocks c.drop_hashed.new.self.store)) c.args.at.now.moment c.args.key.now c.args.due _ (rw c.in-Some.is at c.requires.sees.until).stands (search rules) c.drop_hashed.ensures.means
+    expire_now (means c.args.at.now.db c.args.keyspace.now.bases (g.B.BlockStore.blocks c.args.keyspace.now.store))
+    (means c.args.at.now.db c.drop_hashed.new.self.bases (g.B.BlockStore.blocks c.drop_hashed.new.self.store)) c.args.at.now.moment c.args.key.now c.args.due _
+    (rw c.in-Some.is at c.requires.sees.until).stands (search rules) c.drop_hashed.ensures.means
 
 pub returns-else-from-clause-held : goal.returns-else-from-clause-held
-returns-else-from-clause-held g c = record { sound = c.drop_hashed.ensures.sound [] c.requires.ready.sound; served = c.drop_hashed.ensures.served; settings = c.drop_hashed.ensures.settings; within = c.drop_hashed.ensures.within }
+returns-else-from-clause-held g c = record {
+  sound = c.drop_hashed.ensures.sound [] c.requires.ready.sound;
+  served = c.drop_hashed.ensures.served;
+  settings = c.drop_hashed.ensures.settings;
+  within =
+      c.drop_hashed.ensures.within;
+}

@@ -12,7 +12,8 @@ drop_hashed-requires-clause-hashed g c =
 
 pub returns-clause-world : goal.returns-clause-world
 returns-clause-world g c =
-    ap (λ w. live w c.args.at.now.moment) c.drop_hashed.ensures.means ∙ live_remove (means c.args.at.now.db c.args.keyspace.now.bases (g.B.BlockStore.blocks c.args.keyspace.now.store)) c.args.at.now.moment c.args.key.now
+    ap (λ w. live w c.args.at.now.moment) c.drop_hashed.ensures.means
+    ∙ live_remove (means c.args.at.now.db c.args.keyspace.now.bases (g.B.BlockStore.blocks c.args.keyspace.now.store)) c.args.at.now.moment c.args.key.now
 
 pub returns-clause-held : goal.returns-clause-held
 returns-clause-held g c = record {
@@ -25,4 +26,5 @@ returns-clause-held g c = record {
 pub returns-clause-gone : goal.returns-clause-gone
 returns-clause-gone g c =
     let blocks = g.B.BlockStore.blocks in
-    none_stands c.args.keyspace.now.bases c.drop_hashed.new.self.bases (blocks c.args.keyspace.now.store) (blocks c.drop_hashed.new.self.store) c.args.at.now.db c.args.key.now (c.drop_hashed.ensures.sound [] c.requires.ready.sound).arranged c.drop_hashed.ensures.means
+    none_stands c.args.keyspace.now.bases c.drop_hashed.new.self.bases (blocks c.args.keyspace.now.store) (blocks c.drop_hashed.new.self.store) c.args.at.now.db c.args.key.now
+    (c.drop_hashed.ensures.sound [] c.requires.ready.sound).arranged c.drop_hashed.ensures.means

@@ -7,11 +7,13 @@ use Rattle.keyspace.proofs.edit.edit_new.Goals as goal
 pub put_sought-requires-clause-intact : goal.put_sought-requires-clause-intact
 put_sought-requires-clause-intact g c =
     let bases = c.args.keyspace.now.bases in
-    new_intact c.args.at.now bases (g.B.BlockStore.blocks c.args.keyspace.now.store) (g.B.BlockStore.blocks c.edit.new.store) c.args.key.now c.args.fresh c.edit.new.value c.requires.ready.sound c.requires.blank c.edit.ensures.changes (c.edit.ensures.sound bases.limits bases.seed c.requires.sound)
+    new_intact c.args.at.now bases (g.B.BlockStore.blocks c.args.keyspace.now.store) (g.B.BlockStore.blocks c.edit.new.store) c.args.key.now c.args.fresh c.edit.new.value
+    c.requires.ready.sound c.requires.blank c.edit.ensures.changes (c.edit.ensures.sound bases.limits bases.seed c.requires.sound)
 
 pub put_sought-requires-clause-seeks : goal.put_sought-requires-clause-seeks
 put_sought-requires-clause-seeks g c =
-    new_seeks c.args.at.now c.args.keyspace.now.bases (g.B.BlockStore.blocks c.args.keyspace.now.store) (g.B.BlockStore.blocks c.edit.new.store) c.args.key.now c.args.fresh c.edit.new.value c.requires.ready.sound c.requires.blank c.edit.ensures.changes c.args.sought c.requires.seeks
+    new_seeks c.args.at.now c.args.keyspace.now.bases (g.B.BlockStore.blocks c.args.keyspace.now.store) (g.B.BlockStore.blocks c.edit.new.store) c.args.key.now c.args.fresh
+    c.edit.new.value c.requires.ready.sound c.requires.blank c.edit.ensures.changes c.args.sought c.requires.seeks
 
 pub release-requires-clause-sound : goal.release-requires-clause-sound
 release-requires-clause-sound g c =
@@ -21,7 +23,9 @@ release-requires-clause-sound g c =
 pub returns-in-Ok-clause-made : goal.returns-in-Ok-clause-made
 returns-in-Ok-clause-made g c =
     let blocks = g.B.BlockStore.blocks in
-    makes_new g.E.Edit.makes c.args.edit.now c.edit.new.self blocks c.args.keyspace.now c.put_sought.new.self c.args.at.now c.args.key.now c.args.fresh c.edit.new.value (blocks c.edit.new.store) c.requires.ready.sound c.requires.blank c.edit.ensures.changes c.in-Ok.ensures.makes c.put_sought.result c.put_sought.ensures.means c.put_sought.ensures.has
+    makes_new g.E.Edit.makes c.args.edit.now c.edit.new.self blocks c.args.keyspace.now c.put_sought.new.self c.args.at.now c.args.key.now c.args.fresh c.edit.new.value
+    (blocks c.edit.new.store) c.requires.ready.sound c.requires.blank c.edit.ensures.changes c.in-Ok.ensures.makes c.put_sought.result c.put_sought.ensures.means
+    c.put_sought.ensures.has
 
 pub returns-in-Ok-clause-held : goal.returns-in-Ok-clause-held
 returns-in-Ok-clause-held g c =
@@ -30,10 +34,12 @@ returns-in-Ok-clause-held g c =
     let m = blocks c.args.keyspace.now.store in
     let after = blocks c.edit.new.store in
     record {
-      sound = new_sound c.args.at.now bases m after c.args.key.now c.args.fresh c.edit.new.value c.requires.ready.sound c.requires.blank c.edit.ensures.changes c.put_sought.new.self.bases (blocks c.put_sought.new.self.store) c.put_sought.ensures.sound;
+      sound = new_sound c.args.at.now bases m after c.args.key.now c.args.fresh c.edit.new.value c.requires.ready.sound c.requires.blank c.edit.ensures.changes c.put_sought.new.self.bases
+          (blocks c.put_sought.new.self.store) c.put_sought.ensures.sound;
       served = Served-then _ _ _ c.edit.ensures.served c.put_sought.ensures.served;
       settings = c.put_sought.ensures.settings;
-      within = new_within c.args.at.now bases m after c.args.key.now c.args.fresh c.edit.new.value c.requires.ready.sound c.requires.blank c.edit.ensures.changes c.put_sought.new.self.bases (blocks c.put_sought.new.self.store) (one_key c.args.at.now.db c.args.key.now) c.put_sought.ensures.within;
+      within = new_within c.args.at.now bases m after c.args.key.now c.args.fresh c.edit.new.value c.requires.ready.sound c.requires.blank c.edit.ensures.changes
+          c.put_sought.new.self.bases (blocks c.put_sought.new.self.store) (one_key c.args.at.now.db c.args.key.now) c.put_sought.ensures.within;
     }
 
 pub returns-in-Err-clause-held : goal.returns-in-Err-clause-held
@@ -47,5 +53,6 @@ returns-in-Err-clause-held g c =
       sound = undone_sound c.args.at.now bases m after c.args.key.now c.args.fresh c.edit.new.value c.requires.ready.sound c.requires.blank c.edit.ensures.changes later c.release.ensures.changes;
       served = Served-then _ _ _ c.edit.ensures.served c.release.ensures.served;
       settings = same_settings bases;
-      within = undone_within c.args.at.now bases m after c.args.key.now c.args.fresh c.edit.new.value c.requires.ready.sound c.requires.blank c.edit.ensures.changes later c.release.ensures.changes (one_key c.args.at.now.db c.args.key.now);
+      within = undone_within c.args.at.now bases m after c.args.key.now c.args.fresh c.edit.new.value c.requires.ready.sound c.requires.blank c.edit.ensures.changes later
+          c.release.ensures.changes (one_key c.args.at.now.db c.args.key.now);
     }

@@ -13,7 +13,8 @@ edit-done-requires-clause-sound g c =
       mid.limits,
       mid.seed,
       subst (λ b. IsSound mid.limits mid.seed b c.lift_at-lifted.result.value) (sym (ap blocks c.lift_at-lifted.ensures.store))
-          (lifted_sound c.args.keyspace.now.bases mid (blocks c.args.keyspace.now.store) c.args.at.now.db c.args.at.now.moment c.args.key.now c.lift_at-lifted.result c.requires.ready.sound.arranged c.lift_at-lifted.ensures.settings lifts),
+          (lifted_sound c.args.keyspace.now.bases mid (blocks c.args.keyspace.now.store) c.args.at.now.db c.args.at.now.moment c.args.key.now c.lift_at-lifted.result
+          c.requires.ready.sound.arranged c.lift_at-lifted.ensures.settings lifts),
     )
 
 pub edit-done-requires-clause-takes : goal.edit-done-requires-clause-takes
@@ -30,9 +31,11 @@ lower-requires-clause-intact g c =
     let mid = c.lift_at-lifted.new.self.bases in
     let lifts = c.lift_at-lifted.ensures.lifts c.args.key.now c.args.at.now.moment c.requires.there in
     let sound = c.lift_at-lifted.ensures.sound c.args.key.now c.args.at.now.moment c.requires.there [] c.requires.ready.sound in
-    edit_intact c.args.at.now c.args.keyspace.now.bases mid (blocks c.args.keyspace.now.store) (blocks c.lift_at-lifted.new.self.store) (blocks c.edit-done.new.store) c.args.key.now c.lift_at-lifted.result c.edit-done.new.value (ap blocks c.lift_at-lifted.ensures.store) lifts sound c.edit-done.ensures.changes
+    edit_intact c.args.at.now c.args.keyspace.now.bases mid (blocks c.args.keyspace.now.store) (blocks c.lift_at-lifted.new.self.store) (blocks c.edit-done.new.store) c.args.key.now
+    c.lift_at-lifted.result c.edit-done.new.value (ap blocks c.lift_at-lifted.ensures.store) lifts sound c.edit-done.ensures.changes
     (c.edit-done.ensures.sound mid.limits mid.seed (subst (λ b. IsSound mid.limits mid.seed b c.lift_at-lifted.result.value) (sym (ap blocks c.lift_at-lifted.ensures.store))
-    (lifted_sound c.args.keyspace.now.bases mid (blocks c.args.keyspace.now.store) c.args.at.now.db c.args.at.now.moment c.args.key.now c.lift_at-lifted.result c.requires.ready.sound.arranged c.lift_at-lifted.ensures.settings lifts)))
+    (lifted_sound c.args.keyspace.now.bases mid (blocks c.args.keyspace.now.store) c.args.at.now.db c.args.at.now.moment c.args.key.now c.lift_at-lifted.result
+    c.requires.ready.sound.arranged c.lift_at-lifted.ensures.settings lifts)))
 
 pub returns-in-Ok-clause-held : goal.returns-in-Ok-clause-held
 returns-in-Ok-clause-held g c =
@@ -41,10 +44,14 @@ returns-in-Ok-clause-held g c =
     let lifts = c.lift_at-lifted.ensures.lifts c.args.key.now c.args.at.now.moment c.requires.there in
     let sound = c.lift_at-lifted.ensures.sound c.args.key.now c.args.at.now.moment c.requires.there [] c.requires.ready.sound in
     record {
-      sound = edit_sound c.args.at.now c.args.keyspace.now.bases mid (blocks c.args.keyspace.now.store) (blocks c.lift_at-lifted.new.self.store) (blocks c.edit-done.new.store) c.args.key.now c.lift_at-lifted.result c.edit-done.new.value (ap blocks c.lift_at-lifted.ensures.store) lifts sound c.edit-done.ensures.changes c.lower.new.self.bases (blocks c.lower.new.self.store) (ap blocks c.lower.ensures.store) c.lower.ensures.sound;
+      sound = edit_sound c.args.at.now c.args.keyspace.now.bases mid (blocks c.args.keyspace.now.store) (blocks c.lift_at-lifted.new.self.store) (blocks c.edit-done.new.store)
+          c.args.key.now c.lift_at-lifted.result c.edit-done.new.value (ap blocks c.lift_at-lifted.ensures.store) lifts sound c.edit-done.ensures.changes c.lower.new.self.bases
+          (blocks c.lower.new.self.store) (ap blocks c.lower.ensures.store) c.lower.ensures.sound;
       served = search rules;
       settings = search rules;
-      within = edit_within c.args.at.now c.args.keyspace.now.bases mid (blocks c.args.keyspace.now.store) (blocks c.lift_at-lifted.new.self.store) (blocks c.edit-done.new.store) c.args.key.now c.lift_at-lifted.result c.edit-done.new.value (ap blocks c.lift_at-lifted.ensures.store) lifts sound c.edit-done.ensures.changes c.lower.new.self.bases (blocks c.lower.new.self.store) (ap blocks c.lower.ensures.store) (c.lift_at-lifted.ensures.within c.args.key.now c.args.at.now.moment c.requires.there) c.lower.ensures.within;
+      within = edit_within c.args.at.now c.args.keyspace.now.bases mid (blocks c.args.keyspace.now.store) (blocks c.lift_at-lifted.new.self.store) (blocks c.edit-done.new.store)
+          c.args.key.now c.lift_at-lifted.result c.edit-done.new.value (ap blocks c.lift_at-lifted.ensures.store) lifts sound c.edit-done.ensures.changes c.lower.new.self.bases
+          (blocks c.lower.new.self.store) (ap blocks c.lower.ensures.store) (c.lift_at-lifted.ensures.within c.args.key.now c.args.at.now.moment c.requires.there) c.lower.ensures.within;
     }
 
 pub returns-in-Err-clause-held : goal.returns-in-Err-clause-held
@@ -54,10 +61,14 @@ returns-in-Err-clause-held g c =
     let lifts = c.lift_at-lifted.ensures.lifts c.args.key.now c.args.at.now.moment c.requires.there in
     let sound = c.lift_at-lifted.ensures.sound c.args.key.now c.args.at.now.moment c.requires.there [] c.requires.ready.sound in
     record {
-      sound = edit_sound c.args.at.now c.args.keyspace.now.bases mid (blocks c.args.keyspace.now.store) (blocks c.lift_at-lifted.new.self.store) (blocks c.edit-done.new.store) c.args.key.now c.lift_at-lifted.result c.edit-done.new.value (ap blocks c.lift_at-lifted.ensures.store) lifts sound c.edit-done.ensures.changes c.lower.new.self.bases (blocks c.lower.new.self.store) (ap blocks c.lower.ensures.store) c.lower.ensures.sound;
+      sound = edit_sound c.args.at.now c.args.keyspace.now.bases mid (blocks c.args.keyspace.now.store) (blocks c.lift_at-lifted.new.self.store) (blocks c.edit-done.new.store)
+          c.args.key.now c.lift_at-lifted.result c.edit-done.new.value (ap blocks c.lift_at-lifted.ensures.store) lifts sound c.edit-done.ensures.changes c.lower.new.self.bases
+          (blocks c.lower.new.self.store) (ap blocks c.lower.ensures.store) c.lower.ensures.sound;
       served = search rules;
       settings = search rules;
-      within = edit_within c.args.at.now c.args.keyspace.now.bases mid (blocks c.args.keyspace.now.store) (blocks c.lift_at-lifted.new.self.store) (blocks c.edit-done.new.store) c.args.key.now c.lift_at-lifted.result c.edit-done.new.value (ap blocks c.lift_at-lifted.ensures.store) lifts sound c.edit-done.ensures.changes c.lower.new.self.bases (blocks c.lower.new.self.store) (ap blocks c.lower.ensures.store) (c.lift_at-lifted.ensures.within c.args.key.now c.args.at.now.moment c.requires.there) c.lower.ensures.within;
+      within = edit_within c.args.at.now c.args.keyspace.now.bases mid (blocks c.args.keyspace.now.store) (blocks c.lift_at-lifted.new.self.store) (blocks c.edit-done.new.store)
+          c.args.key.now c.lift_at-lifted.result c.edit-done.new.value (ap blocks c.lift_at-lifted.ensures.store) lifts sound c.edit-done.ensures.changes c.lower.new.self.bases
+          (blocks c.lower.new.self.store) (ap blocks c.lower.ensures.store) (c.lift_at-lifted.ensures.within c.args.key.now c.args.at.now.moment c.requires.there) c.lower.ensures.within;
     }
 
 pub returns-in-Ok-clause-edits : goal.returns-in-Ok-clause-edits
@@ -75,7 +86,12 @@ returns-in-Ok-clause-edits g c =
       stands = lifts.stands;
       had = lifts.had;
       made = subst (λ b. g.E.Edit.makes c.args.edit.now c.edit-done.new.self (shape b was) (shape (blocks c.lower.new.self.store) now)) (ap blocks c.lift_at-lifted.ensures.store)
-          (subst (λ b. g.E.Edit.makes c.args.edit.now c.edit-done.new.self (shape (blocks c.lift_at-lifted.new.self.store) was) (shape b now)) (sym (ap blocks c.lower.ensures.store)) c.in-Ok.ensures.makes);
-      world = edit_means c.args.at.now c.args.keyspace.now.bases mid (blocks c.args.keyspace.now.store) (blocks c.lift_at-lifted.new.self.store) (blocks c.edit-done.new.store) c.args.key.now c.lift_at-lifted.result c.edit-done.new.value (ap blocks c.lift_at-lifted.ensures.store) lifts sound c.edit-done.ensures.changes c.lower.new.self.bases (blocks c.lower.new.self.store) (ap blocks c.lower.ensures.store) c.lower.ensures.means;
-      only = edit_has c.args.at.now c.args.keyspace.now.bases mid (blocks c.args.keyspace.now.store) (blocks c.lift_at-lifted.new.self.store) (blocks c.edit-done.new.store) c.args.key.now c.lift_at-lifted.result c.edit-done.new.value (ap blocks c.lift_at-lifted.ensures.store) lifts sound c.edit-done.ensures.changes c.lower.new.self.bases (blocks c.lower.new.self.store) (ap blocks c.lower.ensures.store) c.lower.ensures.has;
+          (subst (λ b. g.E.Edit.makes c.args.edit.now c.edit-done.new.self (shape (blocks c.lift_at-lifted.new.self.store) was) (shape b now)) (sym (ap blocks c.lower.ensures.store))
+          c.in-Ok.ensures.makes);
+      world = edit_means c.args.at.now c.args.keyspace.now.bases mid (blocks c.args.keyspace.now.store) (blocks c.lift_at-lifted.new.self.store) (blocks c.edit-done.new.store)
+          c.args.key.now c.lift_at-lifted.result c.edit-done.new.value (ap blocks c.lift_at-lifted.ensures.store) lifts sound c.edit-done.ensures.changes c.lower.new.self.bases
+          (blocks c.lower.new.self.store) (ap blocks c.lower.ensures.store) c.lower.ensures.means;
+      only = edit_has c.args.at.now c.args.keyspace.now.bases mid (blocks c.args.keyspace.now.store) (blocks c.lift_at-lifted.new.self.store) (blocks c.edit-done.new.store) c.args.key.now
+          c.lift_at-lifted.result c.edit-done.new.value (ap blocks c.lift_at-lifted.ensures.store) lifts sound c.edit-done.ensures.changes c.lower.new.self.bases
+          (blocks c.lower.new.self.store) (ap blocks c.lower.ensures.store) c.lower.ensures.has;
     }

@@ -17,7 +17,8 @@ returns-clause-entries c =
     let next = sym c.place_of-at.ensures.next ∙ ap (λ (b : List ℕ). offset_of b (i + 1)) value in
     let inner = c.cut.ensures ∙ ap (λ (k : ℕ). take k old ++ drop (c.place_of-at.result.0 + c.place_of-at.result.1) old) at ∙ ap (λ (k : ℕ). take (offset_of old i) old ++ drop k old) next in
     let inside : c.place_of-at.result.0 + c.place_of-at.result.1 < length old = omega (arith, c.place_of-at.ensures.inside, ap length value) in
-    let small : length c.cut.new.pack.items < 2 ^ 32 = length-cut old c.cut.new.pack.items c.place_of-at.result.0 c.place_of-at.result.1 c.cut.ensures (omega (arith, inside)) (omega (arith, c.place_of-at.ensures.small, ap length value)) in
+    let small : length c.cut.new.pack.items < 2 ^ 32 = length-cut old c.cut.new.pack.items c.place_of-at.result.0 c.place_of-at.result.1 c.cut.ensures (omega (arith, inside))
+    (omega (arith, c.place_of-at.ensures.small, ap length value)) in
     let same = c.told_count-count.ensures ∙ ap told c.deref.ensures.value in
     one_taken_out old c.cut.new.pack.items c.write_header.new.pack.items i c.fewer_told.result c.requires.packed c.requires.index inner c.write_header.ensures small
     (omega arith) (c.fewer_told.ensures ∙ ap (λ (k : ℕ). fewer k 1) same)

@@ -12,7 +12,8 @@ overflow_sub-end c =
 
 pub fewer_told-requires : goal.fewer_told-requires
 fewer_told-requires c =
-    told_enough c.args.pack.now.items c.told_count-count.result (c.args.to - c.args.from) c.requires.packed (c.told_count-count.ensures ∙ ap told c.deref.ensures.value) (omega (arith, c.requires.inside))
+    told_enough c.args.pack.now.items c.told_count-count.result (c.args.to - c.args.from) c.requires.packed (c.told_count-count.ensures ∙ ap told c.deref.ensures.value)
+    (omega (arith, c.requires.inside))
 
 pub returns-clause-entries : goal.returns-clause-entries
 returns-clause-entries c =

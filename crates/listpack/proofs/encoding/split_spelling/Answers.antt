@@ -6,4 +6,5 @@ pub returns-in_default-clause-none : goal.returns-in_default-clause-none
 returns-in_default-clause-none c = let p = needed-pos c.args.rest.now in omega (arith, p)
 
 pub returns-then-needed-rest-clause-some : goal.returns-then-needed-rest-clause-some
-returns-then-needed-rest-clause-some c = split_parts c.args.rest.now _ _ c.in_ok-needed.needed (omega arith) c.in_ok-needed.ensures.some c.if-needed-rest.true c.split_at.ensures.front c.split_at.ensures.back
+returns-then-needed-rest-clause-some c = split_parts c.args.rest.now _ _ c.in_ok-needed.needed (omega arith) c.in_ok-needed.ensures.some c.if-needed-rest.true c.split_at.ensures.front
+    c.split_at.ensures.back

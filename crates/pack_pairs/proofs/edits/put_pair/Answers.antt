@@ -17,7 +17,12 @@ insert-requires-2-clause-index c =
 
 pub insert-requires-2-clause-fits : goal.insert-requires-2-clause-fits
 insert-requires-2-clause-fits c =
-    omega (arith, put_len c.args.pack.items c.insert.new.pack.items c.requires.pack.written (2 * c.args.index) c.args.second.now _ c.in_ok-insert.ensures.entries c.in_ok-insert.ensures.list c.requires.pack.pack, c.requires.fits)
+    omega (
+      arith,
+      put_len c.args.pack.items c.insert.new.pack.items c.requires.pack.written (2 * c.args.index) c.args.second.now _ c.in_ok-insert.ensures.entries c.in_ok-insert.ensures.list
+          c.requires.pack.pack,
+      c.requires.fits,
+    )
 
 pub returns-clause-pack : goal.returns-clause-pack
 returns-clause-pack c =

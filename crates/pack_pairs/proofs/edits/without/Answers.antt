@@ -6,13 +6,34 @@ use Rattle.pack_pairs.proofs.Packs.{texts_len, pack_is_long, pair_out}
 use Rattle.pack_pairs.proofs.edits.without.Goals as goal
 
 pub overflow_mul-index : goal.overflow_mul-index
-overflow_mul-index c = omega (arith, c.requires.index, texts_len c.args.bytes.now c.requires.pack, pack_is_long c.args.bytes.now c.requires.pack, ap (λ (bs : List ℕ). length bs) c.in_ok-pack.ensures.items, c.in_ok-pack.pack.small)
+overflow_mul-index c = omega (
+  arith,
+  c.requires.index,
+  texts_len c.args.bytes.now c.requires.pack,
+  pack_is_long c.args.bytes.now c.requires.pack,
+  ap (λ (bs : List ℕ). length bs) c.in_ok-pack.ensures.items,
+  c.in_ok-pack.pack.small,
+)
 
 pub overflow_mul-index-2 : goal.overflow_mul-index-2
-overflow_mul-index-2 c = omega (arith, c.requires.index, texts_len c.args.bytes.now c.requires.pack, pack_is_long c.args.bytes.now c.requires.pack, ap (λ (bs : List ℕ). length bs) c.in_ok-pack.ensures.items, c.in_ok-pack.pack.small)
+overflow_mul-index-2 c = omega (
+  arith,
+  c.requires.index,
+  texts_len c.args.bytes.now c.requires.pack,
+  pack_is_long c.args.bytes.now c.requires.pack,
+  ap (λ (bs : List ℕ). length bs) c.in_ok-pack.ensures.items,
+  c.in_ok-pack.pack.small,
+)
 
 pub overflow_add-index : goal.overflow_add-index
-overflow_add-index c = omega (arith, c.requires.index, texts_len c.args.bytes.now c.requires.pack, pack_is_long c.args.bytes.now c.requires.pack, ap (λ (bs : List ℕ). length bs) c.in_ok-pack.ensures.items, c.in_ok-pack.pack.small)
+overflow_add-index c = omega (
+  arith,
+  c.requires.index,
+  texts_len c.args.bytes.now c.requires.pack,
+  pack_is_long c.args.bytes.now c.requires.pack,
+  ap (λ (bs : List ℕ). length bs) c.in_ok-pack.ensures.items,
+  c.in_ok-pack.pack.small,
+)
 
 pub remove_range-requires-clause-inside : goal.remove_range-requires-clause-inside
 remove_range-requires-clause-inside c = omega (arith, c.requires.index, texts_len c.args.bytes.now c.requires.pack, ap (λ (bs : List ℕ). length (texts bs)) c.in_ok-pack.ensures.items)

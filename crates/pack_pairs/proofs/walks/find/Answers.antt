@@ -12,7 +12,8 @@ returns-then-is_text_of-clause-found c =
     let bytes = c.args.bytes.now in
     let i = c.loop-index.index in
     let at : IsPairAt bytes i c.in-Some.at = subst (λ (o : Option ℕ). MatchOption o (i ≡ length (pairs bytes)) (λ at. IsPairAt bytes i at)) c.in-Some.is c.loop-index.invariant.place in
-    first_here c.args.first.now (pairs bytes) i (pair_inside bytes i c.in-Some.at c.requires at) c.loop-index.invariant.out (sym (c.first_step-behind.ensures.first i at) ∙ c.is_text_of.ensures.0 c.if-is_text_of.true ∙ c.of-sought.ensures)
+    first_here c.args.first.now (pairs bytes) i (pair_inside bytes i c.in-Some.at c.requires at) c.loop-index.invariant.out
+    (sym (c.first_step-behind.ensures.first i at) ∙ c.is_text_of.ensures.0 c.if-is_text_of.true ∙ c.of-sought.ensures)
 
 pub unreachable-requires : goal.unreachable-requires
 unreachable-requires c =
@@ -28,7 +29,9 @@ loop-index-preserved c =
     let at : IsPairAt bytes i c.in-Some.at = subst (λ (o : Option ℕ). MatchOption o (i ≡ length (pairs bytes)) (λ at. IsPairAt bytes i at)) c.in-Some.is c.loop-index.invariant.place in
     record {
       place = c.first_step-behind.ensures.next i at;
-      out = none_more c.args.first.now (pairs bytes) i (pair_inside bytes i c.in-Some.at c.requires at) c.loop-index.invariant.out (λ same. let t : IsTrue c.is_text_of.result = c.is_text_of.ensures.1 (c.first_step-behind.ensures.first i at ∙ same ∙ sym c.of-sought.ensures) in let f = c.if-is_text_of.false in let never : ⊥ = cc in never);
+      out = none_more c.args.first.now (pairs bytes) i (pair_inside bytes i c.in-Some.at c.requires at) c.loop-index.invariant.out
+          (λ same. let t : IsTrue c.is_text_of.result = c.is_text_of.ensures.1 (c.first_step-behind.ensures.first i at ∙ same ∙ sym c.of-sought.ensures) in let f = c.if-is_text_of.false in
+          let never : ⊥ = cc in never);
     }
 
 pub returns-clause-none : goal.returns-clause-none

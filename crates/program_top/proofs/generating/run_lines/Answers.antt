@@ -10,4 +10,6 @@ count_in-requires g c = is_count c.args.options.seed c.args.count c.in_ok-sums.s
 
 pub returns : goal.returns
 returns g c =
-    IfOk-weaker c.lines.result _ _ (λ text are. generates_on (options_read c.args.options) c.args.count _ _ text.items c.in-Ok.engine _ c.in_ok-sums.sums.size c.count_in.result c.in_ok-sums.sums.crc c.in-Ok.ensures.begun (c.new-conductor.ensures ∙ conducted _ _ _) c.in_ok-sums.ensures c.count_in.ensures are) c.lines.ensures
+    IfOk-weaker c.lines.result _ _
+    (λ text are. generates_on (options_read c.args.options) c.args.count _ _ text.items c.in-Ok.engine _ c.in_ok-sums.sums.size c.count_in.result c.in_ok-sums.sums.crc
+    c.in-Ok.ensures.begun (c.new-conductor.ensures ∙ conducted _ _ _) c.in_ok-sums.ensures c.count_in.ensures are) c.lines.ensures

@@ -10,10 +10,12 @@ load-requires g c = record { empty = inl c.requires.new.empty }
 
 pub returns-in-Ok-clause-loads : goal.returns-in-Ok-clause-loads
 returns-in-Ok-clause-loads g c =
-    file_loaded _ c.args.limit c.args.name.now (world_of c.load.new.self) _ c.args.moment (last_is c.args.engine.now.last _ c.args.moment c.requires.new.last c.in-Ok.ensures.moment) _ (c.in-Ok.ensures.loads c.requires.new.alive)
+    file_loaded _ c.args.limit c.args.name.now (world_of c.load.new.self) _ c.args.moment (last_is c.args.engine.now.last _ c.args.moment c.requires.new.last c.in-Ok.ensures.moment) _
+    (c.in-Ok.ensures.loads c.requires.new.alive)
 
 pub returns-in-Ok-clause-first : goal.returns-in-Ok-clause-first
-returns-in-Ok-clause-first g c = first_then c.args.engine.now c.load.new.self c.args.engine.now.bases.seed c.args.engine.now.bases.limits c.requires.first c.in-Ok.ensures.keeps c.in-Ok.ensures.served c.in-Ok.ensures.walk any_key c.in-Ok.ensures.within (c.in-Ok.ensures.form c.requires.new.alive)
+returns-in-Ok-clause-first g c = first_then c.args.engine.now c.load.new.self c.args.engine.now.bases.seed c.args.engine.now.bases.limits c.requires.first c.in-Ok.ensures.keeps
+    c.in-Ok.ensures.served c.in-Ok.ensures.walk any_key c.in-Ok.ensures.within (c.in-Ok.ensures.form c.requires.new.alive)
 
 pub returns-in-Ok-clause-moment : goal.returns-in-Ok-clause-moment
 returns-in-Ok-clause-moment g c = last_is c.args.engine.now.last _ c.args.moment c.requires.new.last c.in-Ok.ensures.moment
@@ -23,10 +25,12 @@ returns-in-Ok-clause-host g c = c.in-Ok.ensures.counts
 
 pub returns-in-Err-clause-loads : goal.returns-in-Err-clause-loads
 returns-in-Err-clause-loads g c =
-    fault_ends _ c.args.limit c.args.name.now (world_of c.load.new.self) _ c.args.moment (last_is c.args.engine.now.last _ c.args.moment c.requires.new.last c.in-Err.ensures.moment) c.in-Err.fault _ c.not_loaded.ensures (c.in-Err.ensures.loads c.requires.new.alive)
+    fault_ends _ c.args.limit c.args.name.now (world_of c.load.new.self) _ c.args.moment (last_is c.args.engine.now.last _ c.args.moment c.requires.new.last c.in-Err.ensures.moment)
+    c.in-Err.fault _ c.not_loaded.ensures (c.in-Err.ensures.loads c.requires.new.alive)
 
 pub returns-in-Err-clause-first : goal.returns-in-Err-clause-first
-returns-in-Err-clause-first g c = first_then c.args.engine.now c.load.new.self c.args.engine.now.bases.seed c.args.engine.now.bases.limits c.requires.first c.in-Err.ensures.keeps c.in-Err.ensures.served c.in-Err.ensures.walk anything c.in-Err.ensures.within (c.in-Err.ensures.form c.requires.new.alive)
+returns-in-Err-clause-first g c = first_then c.args.engine.now c.load.new.self c.args.engine.now.bases.seed c.args.engine.now.bases.limits c.requires.first c.in-Err.ensures.keeps
+    c.in-Err.ensures.served c.in-Err.ensures.walk anything c.in-Err.ensures.within (c.in-Err.ensures.form c.requires.new.alive)
 
 pub returns-in-Err-clause-moment : goal.returns-in-Err-clause-moment
 returns-in-Err-clause-moment g c = last_is c.args.engine.now.last _ c.args.moment c.requires.new.last c.in-Err.ensures.moment

@@ -12,7 +12,9 @@ pub returns-in-Err-clause-host : goal.returns-in-Err-clause-host
 returns-in-Err-clause-host g c = unused_memory c.args.options.max_input _ _ c.in-Err.ending c.in-Err.ensures.memory
 
 pub returns-in-Ok-load_file-clause-host : goal.returns-in-Ok-load_file-clause-host
-returns-in-Ok-load_file-clause-host g c = uses_named c.args.options.max_input _ _ (g.H.Host.seen c.args.host.now) _ false (ap (λ file. (options_read (record c.args.options { file = file })).file) c.in-Some.is) c.in-Ok-load_file.ensures.host c.in-Ok-load_file.ensures.few
+returns-in-Ok-load_file-clause-host g c = uses_named c.args.options.max_input _ _ (g.H.Host.seen c.args.host.now) _ false
+    (ap (λ file. (options_read (record c.args.options { file = file })).file) c.in-Some.is) c.in-Ok-load_file.ensures.host c.in-Ok-load_file.ensures.few
 
 pub returns-in-Err-load_file-clause-host : goal.returns-in-Err-load_file-clause-host
-returns-in-Err-load_file-clause-host g c = uses_named c.args.options.max_input _ _ (g.H.Host.seen c.args.host.now) _ _ (ap (λ file. (options_read (record c.args.options { file = file })).file) c.in-Some.is) c.in-Err-load_file.ensures.host c.in-Err-load_file.ensures.few
+returns-in-Err-load_file-clause-host g c = uses_named c.args.options.max_input _ _ (g.H.Host.seen c.args.host.now) _ _
+    (ap (λ file. (options_read (record c.args.options { file = file })).file) c.in-Some.is) c.in-Err-load_file.ensures.host c.in-Err-load_file.ensures.few

@@ -11,8 +11,10 @@ run_given-requires g c = c.in-Ok.ensures.taken
 pub returns-in-Ok : goal.returns-in-Ok
 returns-in-Ok g c =
     let f = finishes_as _ _ _ _ c.run_given.result c.in-Ok.ensures.options c.run_given.ensures in
-    answers_as _ _ c.run_given.result f.line _ (run_words_seen _ _ _ c.run_given.result (read f.run)) _ c.status.ensures (record { ending = c.run_given.result; is = c.status.ensures; run = read f.run })
+    answers_as _ _ c.run_given.result f.line _ (run_words_seen _ _ _ c.run_given.result (read f.run)) _ c.status.ensures
+    (record { ending = c.run_given.result; is = c.status.ensures; run = read f.run })
 
 pub returns-in-Err : goal.returns-in-Err
 returns-in-Err g c =
-    answers_as _ (record { host = _; input = _; output = _; notes = _; clock = _; pacers = [] }) endings.Memory c.note.ensures _ (unread refl refl) _ c.status-in-Err.ensures (record { ending = endings.Memory; is = c.status-in-Err.ensures; run = unread refl refl })
+    answers_as _ (record { host = _; input = _; output = _; notes = _; clock = _; pacers = [] }) endings.Memory c.note.ensures _ (unread refl refl) _ c.status-in-Err.ensures
+    (record { ending = endings.Memory; is = c.status-in-Err.ensures; run = unread refl refl })

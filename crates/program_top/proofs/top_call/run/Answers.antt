@@ -9,6 +9,8 @@ returns-in-Ok g c =
     let s = c.in-Ok.ensures.starts in
     let n = c.serve_noted.ensures in
     record {
-      run = begun _ _ c.serve_noted.result (begins_engine (options_read c.args.options) _ c.in-Ok.engine _ c.moment_of-moment.result _ c.moment_of-moment.ensures s.0 s.1 s.2 (c.new-conductor.ensures ∙ conducted _ _ _)) c.in-Ok.ensures.host n.goes (reads_none _ _) c.served_to.ensures;
+      run = begun _ _ c.serve_noted.result
+          (begins_engine (options_read c.args.options) _ c.in-Ok.engine _ c.moment_of-moment.result _ c.moment_of-moment.ensures s.0 s.1 s.2 (c.new-conductor.ensures ∙ conducted _ _ _))
+          c.in-Ok.ensures.host n.goes (reads_none _ _) c.served_to.ensures;
       line = rw c.served_to.ensures n.line;
     }

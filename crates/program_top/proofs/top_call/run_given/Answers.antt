@@ -8,4 +8,5 @@ returns-in-Run g c = run_read c.args.given c.in-Run.options _ _ c.run.result c.i
 pub returns-in-Generate : goal.returns-in-Generate
 returns-in-Generate g c =
     let wrote = c.generate-ending in
-    generate_read c.args.given c.in-Generate.count c.in-Generate.options _ _ wrote.result c.in-Generate.is (record { run = record { wrote = wrote.ensures; others = refl }; line = c.note-in-Generate.ensures })
+    generate_read c.args.given c.in-Generate.count c.in-Generate.options _ _ wrote.result c.in-Generate.is
+    (record { run = record { wrote = wrote.ensures; others = refl }; line = c.note-in-Generate.ensures })

@@ -44,7 +44,8 @@ loop-j-preserved c =
       next = next_next bytes j c.next-place.result (c.next-place.ensures.place j here');
       so_far = elim c.if-not-takes.branch [
         | then-not-takes+in_ok-append_element w ↦ subst (λ v. IsSoFar c.args.reach c.args.start xs (j + 1) v.items) (sym w.left-is)
-            (so_far_kept c.args.reach c.args.start xs j left w.append_element.new.pack.items x inside is (sym c.takes.ensures ∙ w.if-not-takes.true) s w.in_ok-append_element.ensures.packed w.in_ok-append_element.ensures.list)
+            (so_far_kept c.args.reach c.args.start xs j left w.append_element.new.pack.items x inside is (sym c.takes.ensures ∙ w.if-not-takes.true) s w.in_ok-append_element.ensures.packed
+            w.in_ok-append_element.ensures.list)
         | else-not-takes w ↦ subst (λ v. IsSoFar c.args.reach c.args.start xs (j + 1) v.items) (sym w.left-is)
             (so_far_gone c.args.reach c.args.start xs j left x inside is (sym c.takes.ensures ∙ w.if-not-takes.false) s)
       ];

@@ -26,7 +26,8 @@ pub copy_node-requires : goal.copy_node-requires
 copy_node-requires g c =
     let m = g.B.BlockStore.blocks c.args.store.now in
     let n : c.len-k-end.result ≡ length c.args.nodes.now.items = search rules in
-    still_live m (g.B.BlockStore.blocks c.loop-k.store) c.args.nodes.now.items c.loop-k.copy.items _ c.loop-k.k c.index.result.now c.requires (omega (arith, n)) c.index.ensures c.loop-k.invariant.placed
+    still_live m (g.B.BlockStore.blocks c.loop-k.store) c.args.nodes.now.items c.loop-k.copy.items _ c.loop-k.k c.index.result.now c.requires (omega (arith, n)) c.index.ensures
+    c.loop-k.invariant.placed
 
 pub loop-k-preserved : goal.loop-k-preserved
 loop-k-preserved g c =
@@ -35,7 +36,8 @@ loop-k-preserved g c =
     let len : c.len-k-end.result ≡ length c.args.nodes.now.items = search rules in
     let inv = c.loop-k.invariant in
     let h = c.in-Ok.ensures in
-    let next = one_copied m (g.B.BlockStore.blocks c.loop-k.store) n c.args.nodes.now.items c.loop-k.copy.items c.loop-k.k c.index.result.now c.in-Ok.node c.requires (omega (arith, len)) c.index.ensures
+    let next = one_copied m (g.B.BlockStore.blocks c.loop-k.store) n c.args.nodes.now.items c.loop-k.copy.items c.loop-k.k c.index.result.now c.in-Ok.node c.requires (omega (arith, len))
+    c.index.ensures
     inv.placed h.placed h.count h.container in
     record {
       placed = subst (λ (xs : List Node). Placed m n (map (piece_for m) (take (c.loop-k.k + 1) c.args.nodes.now.items)) xs) (sym c.push_back_reserved.ensures.items) next;

@@ -8,5 +8,6 @@ settle-at-requires g c = node_live (g.B.BlockStore.blocks c.args.store.now) c.ar
 
 pub returns-clause-settled : goal.returns-clause-settled
 returns-clause-settled g c =
-    node_settled (g.B.BlockStore.blocks c.args.store.now) (g.B.BlockStore.blocks c.settle-at.new.store) c.args.nodes.now.items _ c.args.k c.index-node.result.now c.settle-at.result c.requires.chain c.requires.inside c.index-node.ensures
+    node_settled (g.B.BlockStore.blocks c.args.store.now) (g.B.BlockStore.blocks c.settle-at.new.store) c.args.nodes.now.items _ c.args.k c.index-node.result.now c.settle-at.result
+    c.requires.chain c.requires.inside c.index-node.ensures
     c.settle-at.ensures.bytes c.settle-at.ensures.changes refl

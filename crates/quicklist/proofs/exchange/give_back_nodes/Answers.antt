@@ -23,6 +23,7 @@ loop-i-preserved g c =
     let inside : c.args.k + i < length nodes = omega (arith, c.requires.inside) in
     let was = next_live m mid nodes c.args.k i c.index.result.now inside c.index.ensures c.requires.owned c.loop-i.invariant.changes in
     record {
-      changes = more_ended m mid n nodes c.args.k i c.requires.owned c.loop-i.invariant.changes (one_ended mid n nodes (c.args.k + i) c.index.result.now inside c.index.ensures was c.give_back.ensures.ended);
+      changes = more_ended m mid n nodes c.args.k i c.requires.owned c.loop-i.invariant.changes
+          (one_ended mid n nodes (c.args.k + i) c.index.result.now inside c.index.ensures was c.give_back.ensures.ended);
       served = Served-next _ _ _ c.loop-i.invariant.served c.give_back.ensures.step;
     }

@@ -42,7 +42,8 @@ end_nodes-requires-clause-inside g c =
 pub end_nodes-requires-clause-owned : goal.end_nodes-requires-clause-owned
 end_nodes-requires-clause-owned g c =
     let ins = c.loop-i.invariant.inserted in
-    let own = placed_owned (g.B.BlockStore.blocks c.args.store.now) (g.B.BlockStore.blocks c.loop-i.store) c.args.nodes.now.items c.loop-i.nodes.items ins.0 (take c.loop-i.i c.args.pieces.now) c.args.k c.requires.chain.owned ins.1 ins.2 in
+    let own = placed_owned (g.B.BlockStore.blocks c.args.store.now) (g.B.BlockStore.blocks c.loop-i.store) c.args.nodes.now.items c.loop-i.nodes.items ins.0
+    (take c.loop-i.i c.args.pieces.now) c.args.k c.requires.chain.owned ins.1 ins.2 in
     λ r. subst (λ m. times r (refs_of c.loop-i.nodes.items) ≤ live m r) (sym c.in-Err.ensures.err_blocks) (own r)
 
 -- what stands behind the last piece
@@ -70,7 +71,18 @@ loop-i-preserved g c =
     let len_before : deque_len c.loop-i.nodes ≡ length c.loop-i.nodes.items = search rules in
     record {
       inserted = (ins.0 ++ c.in-Ok.node ∷ [], subst (λ ps. Placed m n ps (ins.0 ++ c.in-Ok.node ∷ [])) (sym more) placed, now);
-      room = omega (arith, c.loop-i.invariant.room, c.insert_node.ensures.capacity, len, len_before, was, grown old c.insert_node.new.nodes.items (ins.0 ++ c.in-Ok.node ∷ []) c.args.k c.requires.index now, length-append ins.0 (c.in-Ok.node ∷ []), long);
+      room = omega (
+        arith,
+        c.loop-i.invariant.room,
+        c.insert_node.ensures.capacity,
+        len,
+        len_before,
+        was,
+        grown old c.insert_node.new.nodes.items (ins.0 ++ c.in-Ok.node ∷ []) c.args.k
+            c.requires.index now,
+        length-append ins.0 (c.in-Ok.node ∷ []),
+        long,
+      );
       served = Served-then _ _ _ c.loop-i.invariant.served h.served;
     }
 

@@ -21,12 +21,14 @@ returns-clause-placed g c =
     let container = c.args.piece.container in
     let bytes = c.args.piece.bytes.now in
     let len = c.block_len.result in
-    let is = placed_over m (g.B.BlockStore.blocks c.place.new.self) (g.B.BlockStore.blocks c.write.new.self) at len bytes bytes c.in_ok-at.ensures.placed c.write.ensures.written refl c.block_len.ensures.room in
+    let is = placed_over m (g.B.BlockStore.blocks c.place.new.self) (g.B.BlockStore.blocks c.write.new.self) at len bytes bytes c.in_ok-at.ensures.placed c.write.ensures.written refl
+    c.block_len.ensures.room in
     record {
       block = widened bytes len;
       free = c.in_ok-at.ensures.fresh;
       placed = is;
-      bytes_is = ap (λ k. filled container (bytes_at k at)) is ∙ ap (filled container) (bytes_at-placed m at (widened bytes len)) ∙ filled_widened container bytes len c.requires.is_held c.block_len.ensures.plain;
+      bytes_is = ap (λ k. filled container (bytes_at k at)) is ∙ ap (filled container) (bytes_at-placed m at (widened bytes len))
+          ∙ filled_widened container bytes len c.requires.is_held c.block_len.ensures.plain;
     }
 
 pub returns-clause-served : goal.returns-clause-served

@@ -19,5 +19,7 @@ returns-clause-rewritten g c =
     let alone = c.args.alone.now in
     let is = c.requires.readable.is_node in
     let r = node_room m c.args.node is c.requires.packed in
-    rewritten_behind m (g.B.BlockStore.blocks c.write_from.new.store) c.args.node alone (take (length alone - 6) (drop 6 alone)) (length c.bytes.result.now - 1) (c.args.node.count + 1) is c.requires.packed c.requires.alone
-    (omega (arith, r.0, ap length c.bytes.ensures)) (take_all (length alone - 6) (drop 6 alone) (omega (arith, length-drop 6 alone))) c.requires.short (omega (arith, is.counted, c.requires.one)) (omega (arith, r.3)) c.write_from.ensures.written
+    rewritten_behind m (g.B.BlockStore.blocks c.write_from.new.store) c.args.node alone (take (length alone - 6) (drop 6 alone)) (length c.bytes.result.now - 1) (c.args.node.count + 1) is
+    c.requires.packed c.requires.alone
+    (omega (arith, r.0, ap length c.bytes.ensures)) (take_all (length alone - 6) (drop 6 alone) (omega (arith, length-drop 6 alone))) c.requires.short
+    (omega (arith, is.counted, c.requires.one)) (omega (arith, r.3)) c.write_from.ensures.written

@@ -18,7 +18,8 @@ write-requires-2-clause-room g c =
 pub returns-clause-written : goal.returns-clause-written
 returns-clause-written g c =
     let m = g.B.BlockStore.blocks c.args.store.now in
-    written_twice m (g.B.BlockStore.blocks c.write.new.self) c.args.at c.args.from c.args.tail.now c.write.ensures.written (g.B.BlockStore.blocks c.write-2.new.self) c.header_of-head.result c.write-2.ensures.written
+    written_twice m (g.B.BlockStore.blocks c.write.new.self) c.args.at c.args.from c.args.tail.now c.write.ensures.written (g.B.BlockStore.blocks c.write-2.new.self)
+    c.header_of-head.result c.write-2.ensures.written
     ∙ ap (λ (head : List ℕ). with_block m c.args.at (Some (overwritten (overwritten (bytes_at m c.args.at) c.args.from c.args.tail.now) 0 head))) c.header_of-head.ensures
 
 pub returns-clause-served : goal.returns-clause-served

@@ -28,4 +28,5 @@ write_from-requires-clause-small g c =
 pub returns-clause-rewritten : goal.returns-clause-rewritten
 returns-clause-rewritten g c =
     let off = subst (λ (bytes : List ℕ). IsOffsetIn c.args.node.container bytes c.args.index c.offset_in-from.result) (sym c.bytes.ensures) c.offset_in-from.ensures in
-    rewritten_front (g.B.BlockStore.blocks c.args.store.now) (g.B.BlockStore.blocks c.write_from.new.store) c.args.node c.args.index c.offset_in-from.result c.requires.readable.is_node c.requires.packed off c.write_from.ensures.written
+    rewritten_front (g.B.BlockStore.blocks c.args.store.now) (g.B.BlockStore.blocks c.write_from.new.store) c.args.node c.args.index c.offset_in-from.result c.requires.readable.is_node
+    c.requires.packed off c.write_from.ensures.written

@@ -20,7 +20,8 @@ returns c =
     let next : c.args.place + 1 ≡ suc c.args.place = omega arith in
     let step : 12 * c.args.place + 12 ≡ 12 * suc c.args.place = omega arith in
     let one : c.append-2.new.bytes.items ≡ c.append.new.bytes.items ++ high = c.append-2.ensures.joined ∙ ap (λ xs. c.append.new.bytes.items ++ xs) (take_rest c.split_at.result.1.now 1) in
-    let twelve : c.append-4.new.bytes.items ≡ c.append-3.new.bytes.items ++ high_refs = c.append-4.ensures.joined ∙ ap (λ xs. c.append-3.new.bytes.items ++ xs) (take_rest c.split_at-2.result.1.now 12) in
+    let twelve : c.append-4.new.bytes.items ≡ c.append-3.new.bytes.items ++ high_refs = c.append-4.ensures.joined
+    ∙ ap (λ xs. c.append-3.new.bytes.items ++ xs) (take_rest c.split_at-2.result.1.now 12) in
     c.append-5.ensures.joined
     ∙ ap (λ xs. xs ++ zeros) (twelve
     ∙ ap (λ xs. xs ++ high_refs) (c.append-3.ensures.joined
@@ -28,5 +29,8 @@ returns c =
     ∙ ap (λ xs. xs ++ high) (c.append.ensures.joined
     ∙ ap (λ xs. xs ++ low) head))))
     ∙ narrow (prefix_in node) (links_in node) c.args.place low high low_refs high_refs zeros count c.requires.place (ap (λ n. n - 1) at.count)
-    (c.split_at.ensures.front ∙ ap (take c.args.place) at.edges) (ap (drop 1) (c.split_at.ensures.back ∙ ap (drop c.args.place) at.edges) ∙ drop-drop 1 c.args.place (edges_of (links_in node)) ∙ ap (λ n. drop n (edges_of (links_in node))) next)
-    (c.split_at-2.ensures.front ∙ ap (take (12 * c.args.place)) at.refs) (ap (drop 12) (c.split_at-2.ensures.back ∙ ap (drop (12 * c.args.place)) at.refs) ∙ drop-drop 12 (12 * c.args.place) (refs_bytes (links_in node)) ∙ ap (λ n. drop n (refs_bytes (links_in node))) step)
+    (c.split_at.ensures.front ∙ ap (take c.args.place) at.edges)
+    (ap (drop 1) (c.split_at.ensures.back ∙ ap (drop c.args.place) at.edges) ∙ drop-drop 1 c.args.place (edges_of (links_in node)) ∙ ap (λ n. drop n (edges_of (links_in node))) next)
+    (c.split_at-2.ensures.front ∙ ap (take (12 * c.args.place)) at.refs)
+    (ap (drop 12) (c.split_at-2.ensures.back ∙ ap (drop (12 * c.args.place)) at.refs) ∙ drop-drop 12 (12 * c.args.place) (refs_bytes (links_in node))
+    ∙ ap (λ n. drop n (refs_bytes (links_in node))) step)

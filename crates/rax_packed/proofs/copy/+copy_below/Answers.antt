@@ -44,7 +44,8 @@ child_at-to-requires-clause-inner g t c =
     let new = c.in_ok-new.new in
     let base = base_is b (g.B.BlockStore.blocks c.copy_node.new.store) new _ c.in_ok-new.ensures.fresh c.in_ok-new.ensures.placed in
     let copying = subst (λ x. Copying c.spread-count.result.1 c.args.rest (node_at x c.args.at) x m new c.loop-place.place) base c.loop-place.invariant.copying in
-    turn_inner c.args.rest c.spread-count.result.1 c.spread-count.result.0 b m c.args.at new c.loop-place.place no_link c.bytes.result.now c.requires.tree c.requires.owned c.requires.short c.bytes.ensures c.spread-count.ensures.below c.spread-count.ensures.count c.loop-place-test.true copying
+    turn_inner c.args.rest c.spread-count.result.1 c.spread-count.result.0 b m c.args.at new c.loop-place.place no_link c.bytes.result.now c.requires.tree c.requires.owned c.requires.short
+    c.bytes.ensures c.spread-count.ensures.below c.spread-count.ensures.count c.loop-place-test.true copying
     c.bytes-in-loop-place.result.now c.bytes-in-loop-place.ensures
 
 pub copy_below-requires : goal.copy_below-requires
@@ -54,10 +55,14 @@ copy_below-requires g t c κs inside =
     let new = c.in_ok-new.new in
     let base = base_is b (g.B.BlockStore.blocks c.copy_node.new.store) new _ c.in_ok-new.ensures.fresh c.in_ok-new.ensures.placed in
     let copying = subst (λ x. Copying c.spread-count.result.1 c.args.rest (node_at x c.args.at) x m new c.loop-place.place) base c.loop-place.invariant.copying in
-    let falls = turn_falls c.args.rest c.spread-count.result.1 c.spread-count.result.0 b m c.args.at new c.loop-place.place no_link c.bytes.result.now c.requires.tree c.requires.owned c.requires.short c.bytes.ensures c.spread-count.ensures.below c.spread-count.ensures.count c.loop-place-test.true copying in
-    let tree = turn_tree c.args.rest c.spread-count.result.1 c.spread-count.result.0 b m c.args.at new c.loop-place.place no_link c.bytes.result.now c.requires.tree c.requires.owned c.requires.short c.bytes.ensures c.spread-count.ensures.below c.spread-count.ensures.count c.loop-place-test.true copying in
-    let own = turn_own c.args.rest c.spread-count.result.1 c.spread-count.result.0 b m c.args.at new c.loop-place.place no_link c.bytes.result.now c.requires.tree c.requires.owned c.requires.short c.bytes.ensures c.spread-count.ensures.below c.spread-count.ensures.count c.loop-place-test.true copying in
-    let to = c.child_at-to.ensures no_link ∙ turn_to c.args.rest c.spread-count.result.1 c.spread-count.result.0 b m c.args.at new c.loop-place.place no_link c.bytes.result.now c.requires.tree c.requires.owned c.requires.short c.bytes.ensures c.spread-count.ensures.below c.spread-count.ensures.count c.loop-place-test.true copying
+    let falls = turn_falls c.args.rest c.spread-count.result.1 c.spread-count.result.0 b m c.args.at new c.loop-place.place no_link c.bytes.result.now c.requires.tree c.requires.owned
+    c.requires.short c.bytes.ensures c.spread-count.ensures.below c.spread-count.ensures.count c.loop-place-test.true copying in
+    let tree = turn_tree c.args.rest c.spread-count.result.1 c.spread-count.result.0 b m c.args.at new c.loop-place.place no_link c.bytes.result.now c.requires.tree c.requires.owned
+    c.requires.short c.bytes.ensures c.spread-count.ensures.below c.spread-count.ensures.count c.loop-place-test.true copying in
+    let own = turn_own c.args.rest c.spread-count.result.1 c.spread-count.result.0 b m c.args.at new c.loop-place.place no_link c.bytes.result.now c.requires.tree c.requires.owned
+    c.requires.short c.bytes.ensures c.spread-count.ensures.below c.spread-count.ensures.count c.loop-place-test.true copying in
+    let to = c.child_at-to.ensures no_link ∙ turn_to c.args.rest c.spread-count.result.1 c.spread-count.result.0 b m c.args.at new c.loop-place.place no_link c.bytes.result.now
+    c.requires.tree c.requires.owned c.requires.short c.bytes.ensures c.spread-count.ensures.below c.spread-count.ensures.count c.loop-place-test.true copying
     c.bytes-in-loop-place.result.now c.bytes-in-loop-place.ensures in
     (omega (arith, c.decreases, falls), (inside, (rw to tree, (rw to own, omega (arith, falls, c.requires.short)))))
 
@@ -69,10 +74,12 @@ relink-requires g t c =
     let new = c.in_ok-new.new in
     let base = base_is b (g.B.BlockStore.blocks c.copy_node.new.store) new _ c.in_ok-new.ensures.fresh c.in_ok-new.ensures.placed in
     let copying = subst (λ x. Copying c.spread-count.result.1 c.args.rest (node_at x c.args.at) x m new c.loop-place.place) base c.loop-place.invariant.copying in
-    let to = c.child_at-to.ensures no_link ∙ turn_to c.args.rest c.spread-count.result.1 c.spread-count.result.0 b m c.args.at new c.loop-place.place no_link c.bytes.result.now c.requires.tree c.requires.owned c.requires.short c.bytes.ensures c.spread-count.ensures.below c.spread-count.ensures.count c.loop-place-test.true copying
+    let to = c.child_at-to.ensures no_link ∙ turn_to c.args.rest c.spread-count.result.1 c.spread-count.result.0 b m c.args.at new c.loop-place.place no_link c.bytes.result.now
+    c.requires.tree c.requires.owned c.requires.short c.bytes.ensures c.spread-count.ensures.below c.spread-count.ensures.count c.loop-place-test.true copying
     c.bytes-in-loop-place.result.now c.bytes-in-loop-place.ensures in
     let copy = subst (λ r. IsCopy c.spread-count.result.1 m m2 r c.in-Ok.copy) to c.in-Ok.ensures.copied in
-    let ready = turn_link c.args.rest c.spread-count.result.1 c.spread-count.result.0 b m c.args.at new c.loop-place.place no_link c.bytes.result.now c.requires.tree c.requires.owned c.requires.short c.bytes.ensures c.spread-count.ensures.below c.spread-count.ensures.count c.loop-place-test.true copying m2 c.in-Ok.copy copy in
+    let ready = turn_link c.args.rest c.spread-count.result.1 c.spread-count.result.0 b m c.args.at new c.loop-place.place no_link c.bytes.result.now c.requires.tree c.requires.owned
+    c.requires.short c.bytes.ensures c.spread-count.ensures.below c.spread-count.ensures.count c.loop-place-test.true copying m2 c.in-Ok.copy copy in
     record { live = ready.live; inner = ready.inner; place = ready.within }
 
 pub loop-place-preserved : goal.loop-place-preserved
@@ -84,10 +91,12 @@ loop-place-preserved g t c =
     let new = c.in_ok-new.new in
     let base = base_is b (g.B.BlockStore.blocks c.copy_node.new.store) new _ c.in_ok-new.ensures.fresh c.in_ok-new.ensures.placed in
     let copying = subst (λ x. Copying c.spread-count.result.1 c.args.rest (node_at x c.args.at) x m new c.loop-place.place) base c.loop-place.invariant.copying in
-    let to = c.child_at-to.ensures no_link ∙ turn_to c.args.rest c.spread-count.result.1 c.spread-count.result.0 b m c.args.at new c.loop-place.place no_link c.bytes.result.now c.requires.tree c.requires.owned c.requires.short c.bytes.ensures c.spread-count.ensures.below c.spread-count.ensures.count c.loop-place-test.true copying
+    let to = c.child_at-to.ensures no_link ∙ turn_to c.args.rest c.spread-count.result.1 c.spread-count.result.0 b m c.args.at new c.loop-place.place no_link c.bytes.result.now
+    c.requires.tree c.requires.owned c.requires.short c.bytes.ensures c.spread-count.ensures.below c.spread-count.ensures.count c.loop-place-test.true copying
     c.bytes-in-loop-place.result.now c.bytes-in-loop-place.ensures in
     let copy = subst (λ r. IsCopy c.spread-count.result.1 m m2 r c.in-Ok.copy) to c.in-Ok.ensures.copied in
-    let more = turn_more c.args.rest c.spread-count.result.1 c.spread-count.result.0 b m c.args.at new c.loop-place.place no_link c.bytes.result.now c.requires.tree c.requires.owned c.requires.short c.bytes.ensures c.spread-count.ensures.below c.spread-count.ensures.count c.loop-place-test.true copying m2 c.in-Ok.copy copy
+    let more = turn_more c.args.rest c.spread-count.result.1 c.spread-count.result.0 b m c.args.at new c.loop-place.place no_link c.bytes.result.now c.requires.tree c.requires.owned
+    c.requires.short c.bytes.ensures c.spread-count.ensures.below c.spread-count.ensures.count c.loop-place-test.true copying m2 c.in-Ok.copy copy
     m3 c.relink.ensures.fits c.relink.ensures.written in
     record {
       copying = subst (λ x. Copying c.spread-count.result.1 c.args.rest (node_at x c.args.at) x m3 new (c.loop-place.place + 1)) (sym base) more;
@@ -101,13 +110,16 @@ release_links-requires g t c =
     let new = c.in_ok-new.new in
     let base = base_is b (g.B.BlockStore.blocks c.copy_node.new.store) new _ c.in_ok-new.ensures.fresh c.in_ok-new.ensures.placed in
     let copying = subst (λ x. Copying c.spread-count.result.1 c.args.rest (node_at x c.args.at) x m new c.loop-place.place) base c.loop-place.invariant.copying in
-    let ready = turn_ready c.args.rest c.spread-count.result.1 c.spread-count.result.0 b m c.args.at new c.loop-place.place no_link c.bytes.result.now c.requires.tree c.requires.owned c.requires.short c.bytes.ensures c.spread-count.ensures.below c.spread-count.ensures.count c.loop-place-test.true copying in
-    let falls = turn_falls c.args.rest c.spread-count.result.1 c.spread-count.result.0 b m c.args.at new c.loop-place.place no_link c.bytes.result.now c.requires.tree c.requires.owned c.requires.short c.bytes.ensures c.spread-count.ensures.below c.spread-count.ensures.count c.loop-place-test.true copying in
+    let ready = turn_ready c.args.rest c.spread-count.result.1 c.spread-count.result.0 b m c.args.at new c.loop-place.place no_link c.bytes.result.now c.requires.tree c.requires.owned
+    c.requires.short c.bytes.ensures c.spread-count.ensures.below c.spread-count.ensures.count c.loop-place-test.true copying in
+    let falls = turn_falls c.args.rest c.spread-count.result.1 c.spread-count.result.0 b m c.args.at new c.loop-place.place no_link c.bytes.result.now c.requires.tree c.requires.owned
+    c.requires.short c.bytes.ensures c.spread-count.ensures.below c.spread-count.ensures.count c.loop-place-test.true copying in
     let now = subst (λ (x : Blocks). Ready c.spread-count.result.1 c.loop-place.place x new) (sym c.in-Err.ensures.err) ready in
     record { live = now.live; inner = now.inner; count = (let w = now.within in omega (arith, w)); trees = now.trees; owned = now.owned; short = omega (arith, falls, c.requires.short) }
 
 pub returns-in-Err-clause-served : goal.returns-in-Err-clause-served
-returns-in-Err-clause-served g t c = Served-then _ _ _ (Served-then _ _ _ (Served-then _ _ _ c.in_ok-new.ensures.served c.loop-place.invariant.served) c.in-Err.ensures.served) c.release_links.ensures.served
+returns-in-Err-clause-served g t c = Served-then _ _ _ (Served-then _ _ _ (Served-then _ _ _ c.in_ok-new.ensures.served c.loop-place.invariant.served) c.in-Err.ensures.served)
+    c.release_links.ensures.served
 
 pub returns-in-Err-clause-err : goal.returns-in-Err-clause-err
 returns-in-Err-clause-err g t c =
@@ -117,8 +129,11 @@ returns-in-Err-clause-err g t c =
     let base = base_is b (g.B.BlockStore.blocks c.copy_node.new.store) new _ c.in_ok-new.ensures.fresh c.in_ok-new.ensures.placed in
     let copying = subst (λ x. Copying c.spread-count.result.1 c.args.rest (node_at x c.args.at) x m new c.loop-place.place) base c.loop-place.invariant.copying in
     let after = g.B.BlockStore.blocks c.release_links.new.store in
-    turn_undone c.args.rest c.spread-count.result.1 c.spread-count.result.0 b m c.args.at new c.loop-place.place no_link c.bytes.result.now c.requires.tree c.requires.owned c.requires.short c.bytes.ensures c.spread-count.ensures.below c.spread-count.ensures.count c.loop-place-test.true copying
-    after (subst (λ (x : Blocks). Changes x after (new ∷ refs_below (suc c.spread-count.result.1) x (take c.loop-place.place (links_in (node_at x new)))) []) c.in-Err.ensures.err c.release_links.ensures.changes)
+    turn_undone c.args.rest c.spread-count.result.1 c.spread-count.result.0 b m c.args.at new c.loop-place.place no_link c.bytes.result.now c.requires.tree c.requires.owned
+    c.requires.short c.bytes.ensures c.spread-count.ensures.below c.spread-count.ensures.count c.loop-place-test.true copying
+    after
+    (subst (λ (x : Blocks). Changes x after (new ∷ refs_below (suc c.spread-count.result.1) x (take c.loop-place.place (links_in (node_at x new)))) []) c.in-Err.ensures.err
+    c.release_links.ensures.changes)
 
 pub returns-clause-copied : goal.returns-clause-copied
 returns-clause-copied g t c =
@@ -130,7 +145,8 @@ returns-clause-copied g t c =
     let node : node_at b c.args.at ≡ node_of c.bytes.result.now = node_read b c.args.at c.bytes.result.now c.bytes.ensures in
     let count : c.spread-count.result.0 ≡ length (links_in (node_at b c.args.at)) = c.spread-count.ensures.count ∙ ap (λ q. length (links_in q)) (sym node) in
     let below : c.spread-count.result.1 ≡ c.args.rest - suc (length (prefix_in (node_at b c.args.at))) = c.spread-count.ensures.below ∙ ap (λ q. c.args.rest - suc (length (prefix_in q))) (sym node) in
-    copied_all c.spread-count.result.1 c.args.rest b m c.args.at new c.loop-place.place c.requires.tree below (let past = c.loop-place-test.false in let within = c.loop-place.auto.place-end in omega (arith, past, within, count)) copying
+    copied_all c.spread-count.result.1 c.args.rest b m c.args.at new c.loop-place.place c.requires.tree below
+    (let past = c.loop-place-test.false in let within = c.loop-place.auto.place-end in omega (arith, past, within, count)) copying
 
 pub returns-clause-served : goal.returns-clause-served
 returns-clause-served g t c = Served-then _ _ _ c.in_ok-new.ensures.served c.loop-place.invariant.served

@@ -10,6 +10,7 @@ decreases-copy_below g l = l.rest
 -- without the copy's node the blocks are those before it was placed
 abbrev pub invariant-loop-place : goal.invariant-loop-place
 invariant-loop-place g l = record {
-  copying : Copying l.below l.rest (node_at (with_block (g.B.BlockStore.blocks l.initial.store) l.new None) l.at) (with_block (g.B.BlockStore.blocks l.initial.store) l.new None) (g.B.BlockStore.blocks l.store) l.new l.place;
+  copying : Copying l.below l.rest (node_at (with_block (g.B.BlockStore.blocks l.initial.store) l.new None) l.at) (with_block (g.B.BlockStore.blocks l.initial.store) l.new None)
+      (g.B.BlockStore.blocks l.store) l.new l.place;
   served : Served g.B.BlockStore.step l.initial.store l.store;
 }

@@ -23,7 +23,8 @@ bytes-requires g c =
     let first = take c.args.count (links_in (node_at b c.args.at)) in
     let less = c.loop-place-test.true in
     let within : c.loop-place.place < length first = omega (arith, less, length-take-le c.args.count (links_in (node_at b c.args.at)) c.requires.count) in
-    let same = mid_block (suc c.args.below) c.args.below b c.args.at first c.requires.trees c.requires.owned (g.B.BlockStore.blocks c.loop-place.store) c.loop-place.place no_link within c.loop-place.invariant.changes in
+    let same = mid_block (suc c.args.below) c.args.below b c.args.at first c.requires.trees c.requires.owned (g.B.BlockStore.blocks c.loop-place.store) c.loop-place.place no_link within
+    c.loop-place.invariant.changes in
     subst (λ o. IsSome o) (sym same) c.requires.live
 
 pub release_below-requires : goal.release_below-requires
@@ -35,7 +36,8 @@ release_below-requires g c =
     let within : c.loop-place.place < length first = omega (arith, less, length-take-le c.args.count (links_in (node_at b c.args.at)) c.requires.count) in
     let same = mid_block (suc c.args.below) c.args.below b c.args.at first c.requires.trees c.requires.owned mid c.loop-place.place no_link within c.loop-place.invariant.changes in
     let node : node_at b c.args.at ≡ node_of c.bytes.result.now = node_read b c.args.at c.bytes.result.now (sym same ∙ c.bytes.ensures) in
-    let to : c.child_at-to.result ≡ (get_or first c.loop-place.place no_link).to = c.child_at-to.ensures no_link ∙ ap (λ m. (get_or (links_in m) c.loop-place.place no_link).to) (sym node) ∙ ap (λ (l : Link). l.to) (sym (get_or-take c.args.count (links_in (node_at b c.args.at)) c.loop-place.place no_link less)) in
+    let to : c.child_at-to.result ≡ (get_or first c.loop-place.place no_link).to = c.child_at-to.ensures no_link ∙ ap (λ m. (get_or (links_in m) c.loop-place.place no_link).to) (sym node)
+    ∙ ap (λ (l : Link). l.to) (sym (get_or-take c.args.count (links_in (node_at b c.args.at)) c.loop-place.place no_link less)) in
     let child = mid_child (suc c.args.below) c.args.below b c.args.at first c.requires.trees c.requires.owned mid c.loop-place.place no_link within c.loop-place.invariant.changes in
     let owns = mid_own (suc c.args.below) c.args.below b c.args.at first c.requires.trees c.requires.owned mid c.loop-place.place no_link within c.loop-place.invariant.changes in
     record { tree = rw to child.tree; owned = rw to owns; short = c.requires.short }
@@ -49,9 +51,11 @@ loop-place-preserved g c =
     let within : c.loop-place.place < length first = omega (arith, less, length-take-le c.args.count (links_in (node_at b c.args.at)) c.requires.count) in
     let same = mid_block (suc c.args.below) c.args.below b c.args.at first c.requires.trees c.requires.owned mid c.loop-place.place no_link within c.loop-place.invariant.changes in
     let node : node_at b c.args.at ≡ node_of c.bytes.result.now = node_read b c.args.at c.bytes.result.now (sym same ∙ c.bytes.ensures) in
-    let to : c.child_at-to.result ≡ (get_or first c.loop-place.place no_link).to = c.child_at-to.ensures no_link ∙ ap (λ m. (get_or (links_in m) c.loop-place.place no_link).to) (sym node) ∙ ap (λ (l : Link). l.to) (sym (get_or-take c.args.count (links_in (node_at b c.args.at)) c.loop-place.place no_link less)) in
+    let to : c.child_at-to.result ≡ (get_or first c.loop-place.place no_link).to = c.child_at-to.ensures no_link ∙ ap (λ m. (get_or (links_in m) c.loop-place.place no_link).to) (sym node)
+    ∙ ap (λ (l : Link). l.to) (sym (get_or-take c.args.count (links_in (node_at b c.args.at)) c.loop-place.place no_link less)) in
     record {
-      changes = mid_next (suc c.args.below) c.args.below b c.args.at first c.requires.trees c.requires.owned mid c.loop-place.place no_link within c.loop-place.invariant.changes (g.B.BlockStore.blocks c.release_below.new.store) (rw to at c.release_below.ensures.changes);
+      changes = mid_next (suc c.args.below) c.args.below b c.args.at first c.requires.trees c.requires.owned mid c.loop-place.place no_link within c.loop-place.invariant.changes
+          (g.B.BlockStore.blocks c.release_below.new.store) (rw to at c.release_below.ensures.changes);
       served = Served-then _ _ _ c.loop-place.invariant.served c.release_below.ensures.served;
     }
 
@@ -61,7 +65,8 @@ returns-clause-changes g c =
     let mid = g.B.BlockStore.blocks c.loop-place.store in
     let first = take c.args.count (links_in (node_at b c.args.at)) in
     let most : length first ≤ c.loop-place.place = (let past = c.loop-place-test.false in omega (arith, past, length-take-le c.args.count (links_in (node_at b c.args.at)) c.requires.count)) in
-    let gone : Changes b mid (refs_below (suc c.args.below) b first) [] = subst (λ ls. Changes b mid (refs_below (suc c.args.below) b ls) []) (take_all c.loop-place.place first most) c.loop-place.invariant.changes in
+    let gone : Changes b mid (refs_below (suc c.args.below) b first) [] =
+    subst (λ ls. Changes b mid (refs_below (suc c.args.below) b ls) []) (take_all c.loop-place.place first most) c.loop-place.invariant.changes in
     all_gone (suc c.args.below) c.args.below b c.args.at first c.requires.trees c.requires.owned mid (g.B.BlockStore.blocks c.give_back.new.self) gone c.give_back.ensures.ended
 
 pub returns-clause-served : goal.returns-clause-served
@@ -73,5 +78,6 @@ give_back-requires g c =
     let mid = g.B.BlockStore.blocks c.loop-place.store in
     let first = take c.args.count (links_in (node_at b c.args.at)) in
     let most : length first ≤ c.loop-place.place = (let past = c.loop-place-test.false in omega (arith, past, length-take-le c.args.count (links_in (node_at b c.args.at)) c.requires.count)) in
-    let gone : Changes b mid (refs_below (suc c.args.below) b first) [] = subst (λ ls. Changes b mid (refs_below (suc c.args.below) b ls) []) (take_all c.loop-place.place first most) c.loop-place.invariant.changes in
+    let gone : Changes b mid (refs_below (suc c.args.below) b first) [] =
+    subst (λ ls. Changes b mid (refs_below (suc c.args.below) b ls) []) (take_all c.loop-place.place first most) c.loop-place.invariant.changes in
     subst (λ o. IsSome o) (sym (last_block (suc c.args.below) c.args.below b c.args.at first c.requires.trees c.requires.owned mid gone)) c.requires.live

@@ -19,10 +19,14 @@ pub way_of-requires : goal.way_of-requires
 way_of-requires g t c = tree_node _ _ _ _ c.bytes.result.now c.requires.tree c.bytes.ensures
 
 pub unreachable-requires : goal.unreachable-requires
-unreachable-requires g t c = no_value (found_parts (g.B.BlockStore.blocks c.args.store.now) c.args.at c.bytes.result.now c.args.rest.now c.requires.tree c.bytes.ensures c.in-Parts.field-0 c.in-Parts.ensures) c.requires.stands
+unreachable-requires g t c = no_value
+    (found_parts (g.B.BlockStore.blocks c.args.store.now) c.args.at c.bytes.result.now c.args.rest.now c.requires.tree c.bytes.ensures c.in-Parts.field-0 c.in-Parts.ensures)
+    c.requires.stands
 
 pub unreachable-requires-in-Missing : goal.unreachable-requires-in-Missing
-unreachable-requires-in-Missing g t c = no_value (found_missing (g.B.BlockStore.blocks c.args.store.now) c.args.at c.bytes.result.now c.args.rest.now c.requires.tree c.bytes.ensures c.in-Missing.field-0 c.in-Missing.field-1 c.in-Missing.ensures) c.requires.stands
+unreachable-requires-in-Missing g t c = no_value
+    (found_missing (g.B.BlockStore.blocks c.args.store.now) c.args.at c.bytes.result.now c.args.rest.now c.requires.tree c.bytes.ensures c.in-Missing.field-0 c.in-Missing.field-1
+    c.in-Missing.ensures) c.requires.stands
 
 pub cut_below-below-requires : goal.cut_below-below-requires
 cut_below-below-requires g t c κs within =
@@ -69,7 +73,8 @@ returns-in-Leaf-clause-gone g t c = λ h. cut_leaf (g.B.BlockStore.blocks c.args
 
 pub returns-in-Leaf-clause-ended : goal.returns-in-Leaf-clause-ended
 returns-in-Leaf-clause-ended g t c =
-    λ h. cut_leaf_ended (g.B.BlockStore.blocks c.args.store.now) (g.B.BlockStore.blocks c.give_back.new.self) c.args.at c.in-Leaf.field-0 c.bytes.result.now c.args.rest.now c.requires.tree c.requires.owned c.bytes.ensures c.in-Leaf.ensures c.give_back.ensures.ended
+    λ h. cut_leaf_ended (g.B.BlockStore.blocks c.args.store.now) (g.B.BlockStore.blocks c.give_back.new.self) c.args.at c.in-Leaf.field-0 c.bytes.result.now c.args.rest.now c.requires.tree
+    c.requires.owned c.bytes.ensures c.in-Leaf.ensures c.give_back.ensures.ended
 
 pub returns-in-Leaf-clause-served : goal.returns-in-Leaf-clause-served
 returns-in-Leaf-clause-served g t c = Served-once _ _ c.give_back.ensures.step
@@ -81,7 +86,8 @@ returns-else-not-below-clause-gone g t c = λ h. (
     let all = take_rest c.args.rest.now c.in-Link.from in
     let gone = (rw all at c.cut_below-below.ensures.gone) (was_gone c.cut_below-below.result.gone c.if-not-below.false) in
     let ended = (rw all at c.cut_below-below.ensures.ended) (was_gone c.cut_below-below.result.gone c.if-not-below.false) in
-    cut_alone b c.args.at c.in-Link.to c.bytes.result.now c.args.rest.now c.in-Link.place c.in-Link.from c.requires.tree c.bytes.ensures c.in-Link.ensures c.requires.owned mid gone ended (c.unlink-gone.ensures.alone h))
+    cut_alone b c.args.at c.in-Link.to c.bytes.result.now c.args.rest.now c.in-Link.place c.in-Link.from c.requires.tree c.bytes.ensures c.in-Link.ensures c.requires.owned mid gone ended
+    (c.unlink-gone.ensures.alone h))
 
 pub returns-else-not-below-clause-ended : goal.returns-else-not-below-clause-ended
 returns-else-not-below-clause-ended g t c = λ h. (
@@ -90,7 +96,8 @@ returns-else-not-below-clause-ended g t c = λ h. (
     let all = take_rest c.args.rest.now c.in-Link.from in
     let gone = (rw all at c.cut_below-below.ensures.gone) (was_gone c.cut_below-below.result.gone c.if-not-below.false) in
     let ended = (rw all at c.cut_below-below.ensures.ended) (was_gone c.cut_below-below.result.gone c.if-not-below.false) in
-    cut_alone_ended b c.args.at c.in-Link.to c.bytes.result.now c.args.rest.now c.in-Link.place c.in-Link.from c.requires.tree c.bytes.ensures c.in-Link.ensures c.requires.owned mid gone ended (g.B.BlockStore.blocks c.unlink-gone.new.store) (c.unlink-gone.ensures.alone h) (c.unlink-gone.ensures.ended h))
+    cut_alone_ended b c.args.at c.in-Link.to c.bytes.result.now c.args.rest.now c.in-Link.place c.in-Link.from c.requires.tree c.bytes.ensures c.in-Link.ensures c.requires.owned mid gone
+    ended (g.B.BlockStore.blocks c.unlink-gone.new.store) (c.unlink-gone.ensures.alone h) (c.unlink-gone.ensures.ended h))
 
 pub returns-else-not-below-clause-kept : goal.returns-else-not-below-clause-kept
 returns-else-not-below-clause-kept g t c = λ h. (
@@ -99,7 +106,8 @@ returns-else-not-below-clause-kept g t c = λ h. (
     let all = take_rest c.args.rest.now c.in-Link.from in
     let gone = (rw all at c.cut_below-below.ensures.gone) (was_gone c.cut_below-below.result.gone c.if-not-below.false) in
     let ended = (rw all at c.cut_below-below.ensures.ended) (was_gone c.cut_below-below.result.gone c.if-not-below.false) in
-    cut_unlinked b c.args.at c.in-Link.to c.bytes.result.now c.args.rest.now c.in-Link.place c.in-Link.from c.requires.tree c.bytes.ensures c.in-Link.ensures c.requires.owned mid gone ended (g.B.BlockStore.blocks c.unlink-gone.new.store) (c.unlink-gone.ensures.others h) (c.unlink-gone.ensures.written h))
+    cut_unlinked b c.args.at c.in-Link.to c.bytes.result.now c.args.rest.now c.in-Link.place c.in-Link.from c.requires.tree c.bytes.ensures c.in-Link.ensures c.requires.owned mid gone
+    ended (g.B.BlockStore.blocks c.unlink-gone.new.store) (c.unlink-gone.ensures.others h) (c.unlink-gone.ensures.written h))
 
 pub returns-else-not-below-clause-served : goal.returns-else-not-below-clause-served
 returns-else-not-below-clause-served g t c = Served-then _ _ _ c.cut_below-below.ensures.served c.unlink-gone.ensures.served
@@ -138,7 +146,8 @@ returns-then-not-below-clause-kept_fewer g t c = λ h. (
     let fewer = (rw all at c.cut_below-below.ensures.kept_fewer) (was_kept c.cut_below-below.result.gone c.if-not-below.true) in
     let part = own_below b c.args.at c.in-Link.to c.bytes.result.now key c.in-Link.place c.in-Link.from c.requires.tree c.bytes.ensures c.in-Link.ensures c.requires.owned in
     let done = cut_kept b c.args.at c.in-Link.to c.bytes.result.now key c.in-Link.place c.in-Link.from c.requires.tree c.bytes.ensures c.in-Link.ensures c.requires.owned mid below in
-    let sum = step_many b mid mid (refs_at (length key) b c.args.at) (refs_at (length key) mid c.args.at) (refs_at (length (drop c.in-Link.from key)) b c.in-Link.to) (refs_at (length (drop c.in-Link.from key)) mid c.in-Link.to) c.requires.owned done.changes part below.changes (λ r. refl) in
+    let sum = step_many b mid mid (refs_at (length key) b c.args.at) (refs_at (length key) mid c.args.at) (refs_at (length (drop c.in-Link.from key)) b c.in-Link.to)
+    (refs_at (length (drop c.in-Link.from key)) mid c.in-Link.to) c.requires.owned done.changes part below.changes (λ r. refl) in
     omega (arith, sum, fewer))
 
 pub with_one-requires : goal.with_one-requires
@@ -184,7 +193,8 @@ returns-else-not-below-clause-ended_fewer g t c = λ h. (
     let part = own_below b c.args.at c.in-Link.to c.bytes.result.now key c.in-Link.place c.in-Link.from c.requires.tree c.bytes.ensures c.in-Link.ensures c.requires.owned in
     let same = mid_same b c.args.at c.in-Link.to c.bytes.result.now key c.in-Link.place c.in-Link.from c.requires.tree c.bytes.ensures c.in-Link.ensures c.requires.owned mid gone ended in
     let ready = link_ready b mid c.args.at c.in-Link.to c.bytes.result.now key c.in-Link.place c.in-Link.from c.requires.tree c.bytes.ensures c.in-Link.ensures c.requires.short same in
-    let done = cut_alone_ended b c.args.at c.in-Link.to c.bytes.result.now key c.in-Link.place c.in-Link.from c.requires.tree c.bytes.ensures c.in-Link.ensures c.requires.owned mid gone ended later (c.unlink-gone.ensures.alone h) (c.unlink-gone.ensures.ended h) in
+    let done = cut_alone_ended b c.args.at c.in-Link.to c.bytes.result.now key c.in-Link.place c.in-Link.from c.requires.tree c.bytes.ensures c.in-Link.ensures c.requires.owned mid gone
+    ended later (c.unlink-gone.ensures.alone h) (c.unlink-gone.ensures.ended h) in
     let low = refs_at (length (drop c.in-Link.from key)) b c.in-Link.to in
     let sum = many b later (refs_at (length key) b c.args.at) [] (c.args.at ∷ low) [] c.requires.owned done
     (λ r. omega (arith, (Counts-changed b mid low [] part ended).balance r, live_ended mid c.args.at ready.live r, ap (λ m. live m r) (c.unlink-gone.ensures.ended h))) in
@@ -203,7 +213,9 @@ returns-else-not-below-clause-kept_fewer g t c = λ h. (
     let part = own_below b c.args.at c.in-Link.to c.bytes.result.now key c.in-Link.place c.in-Link.from c.requires.tree c.bytes.ensures c.in-Link.ensures c.requires.owned in
     let same = mid_same b c.args.at c.in-Link.to c.bytes.result.now key c.in-Link.place c.in-Link.from c.requires.tree c.bytes.ensures c.in-Link.ensures c.requires.owned mid gone ended in
     let ready = link_ready b mid c.args.at c.in-Link.to c.bytes.result.now key c.in-Link.place c.in-Link.from c.requires.tree c.bytes.ensures c.in-Link.ensures c.requires.short same in
-    let done = cut_unlinked b c.args.at c.in-Link.to c.bytes.result.now key c.in-Link.place c.in-Link.from c.requires.tree c.bytes.ensures c.in-Link.ensures c.requires.owned mid gone ended later (c.unlink-gone.ensures.others h) (c.unlink-gone.ensures.written h) in
+    let done = cut_unlinked b c.args.at c.in-Link.to c.bytes.result.now key c.in-Link.place c.in-Link.from c.requires.tree c.bytes.ensures c.in-Link.ensures c.requires.owned mid gone ended
+    later (c.unlink-gone.ensures.others h) (c.unlink-gone.ensures.written h) in
     let low = refs_at (length (drop c.in-Link.from key)) b c.in-Link.to in
-    let sum = step_many b mid later (refs_at (length key) b c.args.at) (refs_at (length key) later c.args.at) low [] c.requires.owned done.changes part ended (written_live mid later c.args.at _ ready.live (c.unlink-gone.ensures.written h)) in
+    let sum = step_many b mid later (refs_at (length key) b c.args.at) (refs_at (length key) later c.args.at) low [] c.requires.owned done.changes part ended
+    (written_live mid later c.args.at _ ready.live (c.unlink-gone.ensures.written h)) in
     omega (arith, sum, fewer, c.with_one.ensures.kept h))

@@ -40,7 +40,8 @@ returns-in-Leaf-clause-old g t c = sym (found_leaf _ _ c.bytes.result.now c.args
 
 pub returns-in-Leaf-clause-set : goal.returns-in-Leaf-clause-set
 returns-in-Leaf-clause-set g t c =
-    set_leaf (g.B.BlockStore.blocks c.args.store.now) (g.B.BlockStore.blocks c.write.new.self) c.args.at c.in-Leaf.old c.args.value c.bytes.result.now c.args.rest.now c.requires.tree c.requires.owned c.bytes.ensures c.in-Leaf.ensures c.pack.ensures.fits
+    set_leaf (g.B.BlockStore.blocks c.args.store.now) (g.B.BlockStore.blocks c.write.new.self) c.args.at c.in-Leaf.old c.args.value c.bytes.result.now c.args.rest.now c.requires.tree
+    c.requires.owned c.bytes.ensures c.in-Leaf.ensures c.pack.ensures.fits
     (rw c.pack.ensures.bytes at c.write.ensures.written)
 
 pub returns-in-Leaf-clause-served : goal.returns-in-Leaf-clause-served
@@ -61,37 +62,48 @@ returns-in-Missing-clause-served g t c = Served-same _ _ refl
 pub returns-in-Link-clause-old : goal.returns-in-Link-clause-old
 returns-in-Link-clause-old g t c =
     rw (take_rest c.args.rest.now c.in-Link.from) at c.set_below.ensures.old
-    ∙ sym (found_link (g.B.BlockStore.blocks c.args.store.now) c.args.at c.bytes.result.now c.args.rest.now c.requires.tree c.bytes.ensures c.in-Link.field-0 c.in-Link.from c.in-Link.to c.in-Link.ensures)
+    ∙ sym
+    (found_link (g.B.BlockStore.blocks c.args.store.now) c.args.at c.bytes.result.now c.args.rest.now c.requires.tree c.bytes.ensures c.in-Link.field-0 c.in-Link.from c.in-Link.to
+    c.in-Link.ensures)
 
 pub returns-in-Link-clause-set : goal.returns-in-Link-clause-set
 returns-in-Link-clause-set g t c =
     let b = g.B.BlockStore.blocks c.args.store.now in
     let mid = g.B.BlockStore.blocks c.set_below.new.store in
-    IfSome_then c.set_below.result (rw (take_rest c.args.rest.now c.in-Link.from) at c.set_below.ensures.set) (λ old below. set_link b c.args.at c.in-Link.to c.bytes.result.now c.args.rest.now c.in-Link.field-0 c.in-Link.from c.requires.tree c.bytes.ensures c.in-Link.ensures mid c.args.value c.requires.owned below)
+    IfSome_then c.set_below.result (rw (take_rest c.args.rest.now c.in-Link.from) at c.set_below.ensures.set)
+    (λ old below. set_link b c.args.at c.in-Link.to c.bytes.result.now c.args.rest.now c.in-Link.field-0 c.in-Link.from c.requires.tree c.bytes.ensures c.in-Link.ensures mid
+    c.args.value c.requires.owned below)
 
 pub returns-in-Leaf-clause-stays : goal.returns-in-Leaf-clause-stays
-returns-in-Leaf-clause-stays g t c = written_live (g.B.BlockStore.blocks c.args.store.now) (g.B.BlockStore.blocks c.write.new.self) c.args.at _ (tree_live _ _ _ _ c.requires.tree) c.write.ensures.written
+returns-in-Leaf-clause-stays g t c = written_live (g.B.BlockStore.blocks c.args.store.now) (g.B.BlockStore.blocks c.write.new.self) c.args.at _ (tree_live _ _ _ _ c.requires.tree)
+    c.write.ensures.written
 
 pub returns-in-Leaf-clause-keys : goal.returns-in-Leaf-clause-keys
 returns-in-Leaf-clause-keys g t c =
-    leaf_keys_stay (g.B.BlockStore.blocks c.args.store.now) (g.B.BlockStore.blocks c.write.new.self) c.args.at c.in-Leaf.old c.args.value c.bytes.result.now c.args.rest.now c.requires.tree c.requires.owned c.bytes.ensures c.in-Leaf.ensures c.pack.ensures.fits
+    leaf_keys_stay (g.B.BlockStore.blocks c.args.store.now) (g.B.BlockStore.blocks c.write.new.self) c.args.at c.in-Leaf.old c.args.value c.bytes.result.now c.args.rest.now c.requires.tree
+    c.requires.owned c.bytes.ensures c.in-Leaf.ensures c.pack.ensures.fits
     (rw c.pack.ensures.bytes at c.write.ensures.written)
 
 pub returns-in-Leaf-clause-marks : goal.returns-in-Leaf-clause-marks
 returns-in-Leaf-clause-marks g t c =
-    leaf_marks_stay (g.B.BlockStore.blocks c.args.store.now) (g.B.BlockStore.blocks c.write.new.self) c.args.at c.in-Leaf.old c.args.value c.bytes.result.now c.args.rest.now c.requires.tree c.requires.owned c.bytes.ensures c.in-Leaf.ensures c.pack.ensures.fits
+    leaf_marks_stay (g.B.BlockStore.blocks c.args.store.now) (g.B.BlockStore.blocks c.write.new.self) c.args.at c.in-Leaf.old c.args.value c.bytes.result.now c.args.rest.now
+    c.requires.tree c.requires.owned c.bytes.ensures c.in-Leaf.ensures c.pack.ensures.fits
     (rw c.pack.ensures.bytes at c.write.ensures.written)
 
 pub returns-in-Link-clause-keys : goal.returns-in-Link-clause-keys
 returns-in-Link-clause-keys g t c =
     let b = g.B.BlockStore.blocks c.args.store.now in
     let mid = g.B.BlockStore.blocks c.set_below.new.store in
-    IfSome_then c.set_below.result (rw (take_rest c.args.rest.now c.in-Link.from) at c.set_below.ensures.keys) (λ old same. link_keys_stay b mid c.args.at c.in-Link.to c.bytes.result.now c.args.rest.now c.in-Link.field-0 c.in-Link.from c.args.value c.requires.tree c.bytes.ensures c.in-Link.ensures same)
+    IfSome_then c.set_below.result (rw (take_rest c.args.rest.now c.in-Link.from) at c.set_below.ensures.keys)
+    (λ old same. link_keys_stay b mid c.args.at c.in-Link.to c.bytes.result.now c.args.rest.now c.in-Link.field-0 c.in-Link.from c.args.value c.requires.tree c.bytes.ensures
+    c.in-Link.ensures same)
 
 pub returns-in-Link-clause-marks : goal.returns-in-Link-clause-marks
 returns-in-Link-clause-marks g t c =
     let b = g.B.BlockStore.blocks c.args.store.now in
     let mid = g.B.BlockStore.blocks c.set_below.new.store in
     let all = take_rest c.args.rest.now c.in-Link.from in
-    IfSome_then c.set_below.result (both c.set_below.result _ _ (rw all at c.set_below.ensures.set) (both c.set_below.result _ _ (rw all at c.set_below.ensures.keys) (rw all at c.set_below.ensures.marks)))
-    (λ old all. link_marks_stay b mid c.args.at c.in-Link.to c.bytes.result.now c.args.rest.now c.in-Link.field-0 c.in-Link.from c.args.value c.requires.tree c.bytes.ensures c.in-Link.ensures c.requires.owned all.0 all.1.0 all.1.1)
+    IfSome_then c.set_below.result
+    (both c.set_below.result _ _ (rw all at c.set_below.ensures.set) (both c.set_below.result _ _ (rw all at c.set_below.ensures.keys) (rw all at c.set_below.ensures.marks)))
+    (λ old all. link_marks_stay b mid c.args.at c.in-Link.to c.bytes.result.now c.args.rest.now c.in-Link.field-0 c.in-Link.from c.args.value c.requires.tree c.bytes.ensures
+    c.in-Link.ensures c.requires.owned all.0 all.1.0 all.1.1)

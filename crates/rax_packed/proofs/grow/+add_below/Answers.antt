@@ -46,7 +46,8 @@ relink-requires g t c =
     let b = g.B.BlockStore.blocks c.args.store.now in
     let mid = g.B.BlockStore.blocks c.add_below.new.store in
     let below = rw (take_rest c.args.rest.now c.in-Link.from) at c.in_ok-new-in-Link.ensures.added in
-    let same = kept_block b c.args.at c.in-Link.to c.bytes.result.now c.args.rest.now c.in-Link.place c.in-Link.from c.requires.tree c.bytes.ensures c.in-Link.ensures mid (refs_at (length (drop c.in-Link.from c.args.rest.now)) mid c.in_ok-new-in-Link.new.at) c.requires.owned below.changes in
+    let same = kept_block b c.args.at c.in-Link.to c.bytes.result.now c.args.rest.now c.in-Link.place c.in-Link.from c.requires.tree c.bytes.ensures c.in-Link.ensures mid
+    (refs_at (length (drop c.in-Link.from c.args.rest.now)) mid c.in_ok-new-in-Link.new.at) c.requires.owned below.changes in
     let ready = link_ready b mid c.args.at c.in-Link.to c.bytes.result.now c.args.rest.now c.in-Link.place c.in-Link.from c.requires.tree c.bytes.ensures c.in-Link.ensures c.requires.short same in
     record { live = ready.live; inner = ready.inner; place = ready.within }
 
@@ -55,7 +56,8 @@ returns-in_ok-new-in-Link-clause-added g t c =
     let b = g.B.BlockStore.blocks c.args.store.now in
     let mid = g.B.BlockStore.blocks c.add_below.new.store in
     let below = rw (take_rest c.args.rest.now c.in-Link.from) at c.in_ok-new-in-Link.ensures.added in
-    add_link b mid (g.B.BlockStore.blocks c.relink.new.store) c.args.at c.in-Link.to c.in_ok-new-in-Link.new.at c.bytes.result.now c.args.rest.now c.in-Link.place c.in-Link.from c.args.value c.requires.tree c.bytes.ensures c.in-Link.ensures c.requires.owned below c.relink.ensures.fits c.relink.ensures.written
+    add_link b mid (g.B.BlockStore.blocks c.relink.new.store) c.args.at c.in-Link.to c.in_ok-new-in-Link.new.at c.bytes.result.now c.args.rest.now c.in-Link.place c.in-Link.from
+    c.args.value c.requires.tree c.bytes.ensures c.in-Link.ensures c.requires.owned below c.relink.ensures.fits c.relink.ensures.written
 
 pub returns-in_ok-new-in-Link-clause-served : goal.returns-in_ok-new-in-Link-clause-served
 returns-in_ok-new-in-Link-clause-served g t c = Served-then _ _ _ c.in_ok-new-in-Link.ensures.served c.relink.ensures.served
@@ -70,11 +72,14 @@ returns-in_ok-new-in-Link-clause-more g t c =
     let all = take_rest key c.in-Link.from in
     let below = rw all at c.in_ok-new-in-Link.ensures.added in
     let more = rw all at c.in_ok-new-in-Link.ensures.more in
-    let same = kept_block b c.args.at c.in-Link.to c.bytes.result.now key c.in-Link.place c.in-Link.from c.requires.tree c.bytes.ensures c.in-Link.ensures mid (refs_at (length (drop c.in-Link.from key)) mid new) c.requires.owned below.changes in
+    let same = kept_block b c.args.at c.in-Link.to c.bytes.result.now key c.in-Link.place c.in-Link.from c.requires.tree c.bytes.ensures c.in-Link.ensures mid
+    (refs_at (length (drop c.in-Link.from key)) mid new) c.requires.owned below.changes in
     let ready = link_ready b mid c.args.at c.in-Link.to c.bytes.result.now key c.in-Link.place c.in-Link.from c.requires.tree c.bytes.ensures c.in-Link.ensures c.requires.short same in
-    let done = add_link b mid later c.args.at c.in-Link.to new c.bytes.result.now key c.in-Link.place c.in-Link.from c.args.value c.requires.tree c.bytes.ensures c.in-Link.ensures c.requires.owned below c.relink.ensures.fits c.relink.ensures.written in
+    let done = add_link b mid later c.args.at c.in-Link.to new c.bytes.result.now key c.in-Link.place c.in-Link.from c.args.value c.requires.tree c.bytes.ensures c.in-Link.ensures
+    c.requires.owned below c.relink.ensures.fits c.relink.ensures.written in
     let part = own_below b c.args.at c.in-Link.to c.bytes.result.now key c.in-Link.place c.in-Link.from c.requires.tree c.bytes.ensures c.in-Link.ensures c.requires.owned in
-    let sum = step_many b mid later (refs_at (length key) b c.args.at) (refs_at (length key) later c.args.at) (refs_at (length (drop c.in-Link.from key)) b c.in-Link.to) (refs_at (length (drop c.in-Link.from key)) mid new)
+    let sum = step_many b mid later (refs_at (length key) b c.args.at) (refs_at (length key) later c.args.at) (refs_at (length (drop c.in-Link.from key)) b c.in-Link.to)
+    (refs_at (length (drop c.in-Link.from key)) mid new)
     c.requires.owned done.changes part below.changes (written_live mid later c.args.at _ ready.live (c.relink.ensures.written _ refl)) in
     omega (arith, sum, more)
 

@@ -24,7 +24,8 @@ widened-wider-requires g c =
     let b = g.B.BlockStore.blocks c.args.store.now in
     let b1 = g.B.BlockStore.blocks c.put_block.new.store in
     let puts = puts_more b b b1 [] c.in_ok-leaf.leaf c.as_slice.result.now (puts_none b) c.in_ok-leaf.ensures.fresh c.in_ok-leaf.ensures.placed in
-    let ready = attach_ready b b1 c.args.at c.in_ok-leaf.leaf c.args.rest.now c.args.place c.args.from c.requires.tree c.requires.short c.requires.lacks puts c.bytes.result.now c.bytes.ensures (λ i. omega (arith, c.type_inv.rest i)) in
+    let ready = attach_ready b b1 c.args.at c.in_ok-leaf.leaf c.args.rest.now c.args.place c.args.from c.requires.tree c.requires.short c.requires.lacks puts c.bytes.result.now
+    c.bytes.ensures (λ i. omega (arith, c.type_inv.rest i)) in
     record { inner = ready.0; place = ready.1; room = ready.2 }
 
 pub returns-in-Ok-clause-added : goal.returns-in-Ok-clause-added
@@ -34,7 +35,8 @@ returns-in-Ok-clause-added g c =
     let b2 = g.B.BlockStore.blocks c.put_block-2.new.store in
     let later = g.B.BlockStore.blocks c.give_back.new.self in
     attach_done b b1 b2 later c.args.at c.in_ok-leaf.leaf c.in-Ok.new c.args.rest.now c.args.place c.args.from c.args.value c.requires.tree c.requires.owned c.requires.lacks
-    c.in_ok-leaf.ensures.fresh c.as_slice.result.now c.in_ok-leaf.ensures.placed (c.as_slice.ensures.value ∙ c.leaf_bytes.ensures.bytes ∙ ap (λ k. spelled (Leaf k c.args.value)) (take_rest c.args.rest.now c.args.from))
+    c.in_ok-leaf.ensures.fresh c.as_slice.result.now c.in_ok-leaf.ensures.placed
+    (c.as_slice.ensures.value ∙ c.leaf_bytes.ensures.bytes ∙ ap (λ k. spelled (Leaf k c.args.value)) (take_rest c.args.rest.now c.args.from))
     c.bytes.result.now c.bytes.ensures c.as_slice-2.result.now (c.as_slice-2.ensures.value ∙ c.widened-wider.ensures.bytes)
     c.in-Ok.ensures.fresh c.in-Ok.ensures.placed c.give_back.ensures.ended (λ i. omega (arith, c.type_inv.rest i)) c.widened-wider.ensures.fits c.leaf_bytes.ensures.fits
 
@@ -57,10 +59,12 @@ returns-in-Ok-clause-more g c =
     let two_put = puts_more b b1 b2 (leaf ∷ []) new c.as_slice-2.result.now one_put c.in-Ok.ensures.fresh c.in-Ok.ensures.placed in
     let changed = swaps b b2 later c.args.at (new ∷ leaf ∷ []) two_put was c.give_back.ensures.ended in
     let done = attach_done b b1 b2 later c.args.at leaf new c.args.rest.now c.args.place c.args.from c.args.value c.requires.tree c.requires.owned c.requires.lacks
-    c.in_ok-leaf.ensures.fresh c.as_slice.result.now c.in_ok-leaf.ensures.placed (c.as_slice.ensures.value ∙ c.leaf_bytes.ensures.bytes ∙ ap (λ k. spelled (Leaf k c.args.value)) (take_rest c.args.rest.now c.args.from))
+    c.in_ok-leaf.ensures.fresh c.as_slice.result.now c.in_ok-leaf.ensures.placed
+    (c.as_slice.ensures.value ∙ c.leaf_bytes.ensures.bytes ∙ ap (λ k. spelled (Leaf k c.args.value)) (take_rest c.args.rest.now c.args.from))
     c.bytes.result.now c.bytes.ensures c.as_slice-2.result.now (c.as_slice-2.ensures.value ∙ c.widened-wider.ensures.bytes)
     c.in-Ok.ensures.fresh c.in-Ok.ensures.placed c.give_back.ensures.ended (λ i. omega (arith, c.type_inv.rest i)) c.widened-wider.ensures.fits c.leaf_bytes.ensures.fits in
-    let sum = many b later (refs_at (length c.args.rest.now) b c.args.at) (refs_at (length c.args.rest.now) later new) (c.args.at ∷ []) (new ∷ leaf ∷ []) c.requires.owned done.changes (λ r. (changed.counts (c.args.at ∷ []) (new ∷ leaf ∷ []) (λ q. omega arith)).balance r) in
+    let sum = many b later (refs_at (length c.args.rest.now) b c.args.at) (refs_at (length c.args.rest.now) later new) (c.args.at ∷ []) (new ∷ leaf ∷ []) c.requires.owned done.changes
+    (λ r. (changed.counts (c.args.at ∷ []) (new ∷ leaf ∷ []) (λ q. omega arith)).balance r) in
     omega (arith, sum)
 
 pub returns-in-Ok-clause-exact : goal.returns-in-Ok-clause-exact
@@ -68,7 +72,10 @@ returns-in-Ok-clause-exact g c =
     let b = g.B.BlockStore.blocks c.args.store.now in
     let b1 = g.B.BlockStore.blocks c.put_block.new.store in
     let b2 = g.B.BlockStore.blocks c.put_block-2.new.store in
-    let one = exact_put b b b1 c.in_ok-leaf.leaf c.as_slice.result.now (Leaf (drop c.args.from c.args.rest.now) c.args.value) (exact_same b) c.in_ok-leaf.ensures.placed (c.as_slice.ensures.value ∙ c.leaf_bytes.ensures.bytes ∙ ap (λ k. spelled (Leaf k c.args.value)) (take_rest c.args.rest.now c.args.from)) in
+    let one = exact_put b b b1 c.in_ok-leaf.leaf c.as_slice.result.now (Leaf (drop c.args.from c.args.rest.now) c.args.value) (exact_same b) c.in_ok-leaf.ensures.placed
+    (c.as_slice.ensures.value ∙ c.leaf_bytes.ensures.bytes ∙ ap (λ k. spelled (Leaf k c.args.value)) (take_rest c.args.rest.now c.args.from)) in
     let seen = node_of c.bytes.result.now in
-    let two = exact_put b b1 b2 c.in-Ok.new c.as_slice-2.result.now (Inner (prefix_in seen) (insert (links_in seen) c.args.place (record { edge = get_or c.args.rest.now (c.args.from - 1) 0; to = c.in_ok-leaf.leaf }))) one c.in-Ok.ensures.placed (c.as_slice-2.ensures.value ∙ c.widened-wider.ensures.bytes) in
+    let two = exact_put b b1 b2 c.in-Ok.new c.as_slice-2.result.now
+    (Inner (prefix_in seen) (insert (links_in seen) c.args.place (record { edge = get_or c.args.rest.now (c.args.from - 1) 0; to = c.in_ok-leaf.leaf }))) one c.in-Ok.ensures.placed
+    (c.as_slice-2.ensures.value ∙ c.widened-wider.ensures.bytes) in
     exact_drop b b2 (g.B.BlockStore.blocks c.give_back.new.self) c.args.at two c.give_back.ensures.ended

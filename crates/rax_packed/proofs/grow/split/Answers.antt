@@ -44,8 +44,10 @@ returns-in-Ok-put_block-clause-added g c =
     let b2 = g.B.BlockStore.blocks c.put_block-2.new.store in
     let b3 = g.B.BlockStore.blocks c.put_block-3.new.store in
     let later = g.B.BlockStore.blocks c.give_back-in-Ok-put_block.new.self in
-    split_done b b1 b2 b3 later c.args.at c.in_ok-leaf.leaf c.in-Ok.moved c.in-Ok-put_block.new c.args.rest.now c.args.shared c.args.value c.requires.tree c.requires.short c.requires.owned c.requires.parts
-    c.in_ok-leaf.ensures.fresh c.as_slice.result.now c.in_ok-leaf.ensures.placed (c.as_slice.ensures.value ∙ c.leaf_bytes.ensures.bytes ∙ ap (λ k. spelled (Leaf k c.args.value)) (take_rest c.args.rest.now (c.args.shared + 1)))
+    split_done b b1 b2 b3 later c.args.at c.in_ok-leaf.leaf c.in-Ok.moved c.in-Ok-put_block.new c.args.rest.now c.args.shared c.args.value c.requires.tree c.requires.short c.requires.owned
+    c.requires.parts
+    c.in_ok-leaf.ensures.fresh c.as_slice.result.now c.in_ok-leaf.ensures.placed
+    (c.as_slice.ensures.value ∙ c.leaf_bytes.ensures.bytes ∙ ap (λ k. spelled (Leaf k c.args.value)) (take_rest c.args.rest.now (c.args.shared + 1)))
     c.bytes.result.now c.bytes-2.result.now c.bytes.ensures c.bytes-2.ensures c.as_slice-2.result.now (c.as_slice-2.ensures.value ∙ c.shortened-short.ensures)
     c.in-Ok.ensures.fresh c.in-Ok.ensures.placed c.as_slice-3.result.now (c.as_slice-3.ensures.value ∙ c.forked-fork.ensures.bytes)
     c.in-Ok-put_block.ensures.fresh c.in-Ok-put_block.ensures.placed c.give_back-in-Ok-put_block.ensures.ended
@@ -57,7 +59,9 @@ returns-in-Ok-put_block-clause-served g c =
 
 pub returns-in-Err-put_block-clause-served : goal.returns-in-Err-put_block-clause-served
 returns-in-Err-put_block-clause-served g c =
-    Served-next _ _ _ (Served-next _ _ _ (Served-then _ _ _ (Served-then _ _ _ c.in_ok-leaf.ensures.served c.in-Ok.ensures.served) c.in-Err-put_block.ensures.served) c.give_back-in-Err-put_block.ensures.step) c.give_back-in-Err-put_block-2.ensures.step
+    Served-next _ _ _
+    (Served-next _ _ _ (Served-then _ _ _ (Served-then _ _ _ c.in_ok-leaf.ensures.served c.in-Ok.ensures.served) c.in-Err-put_block.ensures.served)
+    c.give_back-in-Err-put_block.ensures.step) c.give_back-in-Err-put_block-2.ensures.step
 
 pub returns-in-Err-put_block-clause-err : goal.returns-in-Err-put_block-clause-err
 returns-in-Err-put_block-clause-err g c =
@@ -85,12 +89,14 @@ returns-in-Ok-put_block-clause-more g c =
     let three_put = puts_more b b2 b3 (moved ∷ leaf ∷ []) new c.as_slice-3.result.now two_put c.in-Ok-put_block.ensures.fresh c.in-Ok-put_block.ensures.placed in
     let changed = swaps b b3 later c.args.at (new ∷ moved ∷ leaf ∷ []) three_put was c.give_back-in-Ok-put_block.ensures.ended in
     let done = split_done b b1 b2 b3 later c.args.at leaf moved new c.args.rest.now c.args.shared c.args.value c.requires.tree c.requires.short c.requires.owned c.requires.parts
-    c.in_ok-leaf.ensures.fresh c.as_slice.result.now c.in_ok-leaf.ensures.placed (c.as_slice.ensures.value ∙ c.leaf_bytes.ensures.bytes ∙ ap (λ k. spelled (Leaf k c.args.value)) (take_rest c.args.rest.now (c.args.shared + 1)))
+    c.in_ok-leaf.ensures.fresh c.as_slice.result.now c.in_ok-leaf.ensures.placed
+    (c.as_slice.ensures.value ∙ c.leaf_bytes.ensures.bytes ∙ ap (λ k. spelled (Leaf k c.args.value)) (take_rest c.args.rest.now (c.args.shared + 1)))
     c.bytes.result.now c.bytes-2.result.now c.bytes.ensures c.bytes-2.ensures c.as_slice-2.result.now (c.as_slice-2.ensures.value ∙ c.shortened-short.ensures)
     c.in-Ok.ensures.fresh c.in-Ok.ensures.placed c.as_slice-3.result.now (c.as_slice-3.ensures.value ∙ c.forked-fork.ensures.bytes)
     c.in-Ok-put_block.ensures.fresh c.in-Ok-put_block.ensures.placed c.give_back-in-Ok-put_block.ensures.ended
     (λ i. omega (arith, c.type_inv.rest i)) c.forked-fork.ensures.byte c.forked-fork.ensures.fits.0 c.forked-fork.ensures.fits.1 c.leaf_bytes.ensures.fits in
-    let sum = many b later (refs_at (length c.args.rest.now) b c.args.at) (refs_at (length c.args.rest.now) later new) (c.args.at ∷ []) (new ∷ moved ∷ leaf ∷ []) c.requires.owned done.changes (λ r. (changed.counts (c.args.at ∷ []) (new ∷ moved ∷ leaf ∷ []) (λ q. omega arith)).balance r) in
+    let sum = many b later (refs_at (length c.args.rest.now) b c.args.at) (refs_at (length c.args.rest.now) later new) (c.args.at ∷ []) (new ∷ moved ∷ leaf ∷ []) c.requires.owned
+    done.changes (λ r. (changed.counts (c.args.at ∷ []) (new ∷ moved ∷ leaf ∷ []) (λ q. omega arith)).balance r) in
     omega (arith, sum)
 
 pub returns-in-Ok-put_block-clause-exact : goal.returns-in-Ok-put_block-clause-exact
@@ -99,7 +105,11 @@ returns-in-Ok-put_block-clause-exact g c =
     let b1 = g.B.BlockStore.blocks c.put_block.new.store in
     let b2 = g.B.BlockStore.blocks c.put_block-2.new.store in
     let b3 = g.B.BlockStore.blocks c.put_block-3.new.store in
-    let one = exact_put b b b1 c.in_ok-leaf.leaf c.as_slice.result.now (Leaf (drop (c.args.shared + 1) c.args.rest.now) c.args.value) (exact_same b) c.in_ok-leaf.ensures.placed (c.as_slice.ensures.value ∙ c.leaf_bytes.ensures.bytes ∙ ap (λ k. spelled (Leaf k c.args.value)) (take_rest c.args.rest.now (c.args.shared + 1))) in
-    let two = exact_put b b1 b2 c.in-Ok.moved c.as_slice-2.result.now (shortened_by (c.args.shared + 1) (node_of c.bytes-2.result.now)) one c.in-Ok.ensures.placed (c.as_slice-2.ensures.value ∙ c.shortened-short.ensures) in
-    let three = exact_put b b2 b3 c.in-Ok-put_block.new c.as_slice-3.result.now (Inner (take c.args.shared c.args.rest.now) (fork_links (get_or c.bytes.result.now (2 + c.args.shared) 0) c.in-Ok.moved (get_or c.args.rest.now c.args.shared 0) c.in_ok-leaf.leaf)) two c.in-Ok-put_block.ensures.placed (c.as_slice-3.ensures.value ∙ c.forked-fork.ensures.bytes) in
+    let one = exact_put b b b1 c.in_ok-leaf.leaf c.as_slice.result.now (Leaf (drop (c.args.shared + 1) c.args.rest.now) c.args.value) (exact_same b) c.in_ok-leaf.ensures.placed
+    (c.as_slice.ensures.value ∙ c.leaf_bytes.ensures.bytes ∙ ap (λ k. spelled (Leaf k c.args.value)) (take_rest c.args.rest.now (c.args.shared + 1))) in
+    let two = exact_put b b1 b2 c.in-Ok.moved c.as_slice-2.result.now (shortened_by (c.args.shared + 1) (node_of c.bytes-2.result.now)) one c.in-Ok.ensures.placed
+    (c.as_slice-2.ensures.value ∙ c.shortened-short.ensures) in
+    let three = exact_put b b2 b3 c.in-Ok-put_block.new c.as_slice-3.result.now
+    (Inner (take c.args.shared c.args.rest.now) (fork_links (get_or c.bytes.result.now (2 + c.args.shared) 0) c.in-Ok.moved (get_or c.args.rest.now c.args.shared 0) c.in_ok-leaf.leaf))
+    two c.in-Ok-put_block.ensures.placed (c.as_slice-3.ensures.value ∙ c.forked-fork.ensures.bytes) in
     exact_drop b b3 (g.B.BlockStore.blocks c.give_back-in-Ok-put_block.new.self) c.args.at three c.give_back-in-Ok-put_block.ensures.ended

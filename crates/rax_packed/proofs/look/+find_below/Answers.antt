@@ -14,7 +14,11 @@ way_of-requires g t c = tree_node _ _ _ _ c.bytes.result.now c.requires c.bytes.
 pub find_below-requires : goal.find_below-requires
 find_below-requires g t c κs within = (
   rw (take_rest c.args.rest.now c.in-Link.from) (shorter _ _ c.args.rest.now _ _ t c.decreases c.in-Link.ensures),
-  (within, rw (take_rest c.args.rest.now c.in-Link.from) ((link_below _ _ c.bytes.result.now c.args.rest.now c.requires c.bytes.ensures c.in-Link.field-0 c.in-Link.from c.in-Link.to c.in-Link.ensures).tree)),
+  (
+    within,
+    rw (take_rest c.args.rest.now c.in-Link.from)
+        ((link_below _ _ c.bytes.result.now c.args.rest.now c.requires c.bytes.ensures c.in-Link.field-0 c.in-Link.from c.in-Link.to c.in-Link.ensures).tree),
+  ),
 )
 
 pub returns-in-Leaf : goal.returns-in-Leaf

@@ -35,21 +35,30 @@ links-requires c = links_within _ c.args.bytes.now c.parts.result.1.now (as_inne
 pub link-requires : goal.link-requires
 link-requires c =
     let inner = as_inner _ _ c.requires c.if-bytes-eq0.false in
-    let read = read_of _ c.args.bytes.now c.links.result.0.now c.links.result.1.now inner (c.links.ensures.edges ∙ ap (λ body. take (little_number 2 body) (drop 2 body)) c.parts.ensures.body) (c.links.ensures.refs ∙ ap (λ body. drop (little_number 2 body) (drop 2 body)) c.parts.ensures.body) in
+    let read = read_of _ c.args.bytes.now c.links.result.0.now c.links.result.1.now inner
+    (c.links.ensures.edges ∙ ap (λ body. take (little_number 2 body) (drop 2 body)) c.parts.ensures.body)
+    (c.links.ensures.refs ∙ ap (λ body. drop (little_number 2 body) (drop 2 body)) c.parts.ensures.body) in
     link_within inner.links c.links.result.0.now c.links.result.1.now c.in-Ok.place read c.in-Ok.ensures.bound
 
 pub returns-in-Ok : goal.returns-in-Ok
 returns-in-Ok c =
     let inner = as_inner _ _ c.requires c.if-bytes-eq0.false in
-    let read = read_of _ c.args.bytes.now c.links.result.0.now c.links.result.1.now inner (c.links.ensures.edges ∙ ap (λ body. take (little_number 2 body) (drop 2 body)) c.parts.ensures.body) (c.links.ensures.refs ∙ ap (λ body. drop (little_number 2 body) (drop 2 body)) c.parts.ensures.body) in
+    let read = read_of _ c.args.bytes.now c.links.result.0.now c.links.result.1.now inner
+    (c.links.ensures.edges ∙ ap (λ body. take (little_number 2 body) (drop 2 body)) c.parts.ensures.body)
+    (c.links.ensures.refs ∙ ap (λ body. drop (little_number 2 body) (drop 2 body)) c.parts.ensures.body) in
     let same = ap length c.parts.ensures.prefix in
-    rw c.link.ensures (link_way _ c.args.bytes.now c.args.rest.now c.links.result.0.now c.links.result.1.now c.common-shared.result c.in-Ok.place inner read refl (omega arith) (rw c.parts.ensures.prefix at c.common-shared.ensures.alike)
+    rw c.link.ensures
+    (link_way _ c.args.bytes.now c.args.rest.now c.links.result.0.now c.links.result.1.now c.common-shared.result c.in-Ok.place inner read refl (omega arith)
+    (rw c.parts.ensures.prefix at c.common-shared.ensures.alike)
     c.in-Ok.ensures.bound (equal-cmp _ _ (c.in-Ok.ensures.ok 0)))
 
 pub returns-in-Err : goal.returns-in-Err
 returns-in-Err c =
     let inner = as_inner _ _ c.requires c.if-bytes-eq0.false in
-    let read = read_of _ c.args.bytes.now c.links.result.0.now c.links.result.1.now inner (c.links.ensures.edges ∙ ap (λ body. take (little_number 2 body) (drop 2 body)) c.parts.ensures.body) (c.links.ensures.refs ∙ ap (λ body. drop (little_number 2 body) (drop 2 body)) c.parts.ensures.body) in
+    let read = read_of _ c.args.bytes.now c.links.result.0.now c.links.result.1.now inner
+    (c.links.ensures.edges ∙ ap (λ body. take (little_number 2 body) (drop 2 body)) c.parts.ensures.body)
+    (c.links.ensures.refs ∙ ap (λ body. drop (little_number 2 body) (drop 2 body)) c.parts.ensures.body) in
     let same = ap length c.parts.ensures.prefix in
-    missing_way _ c.args.bytes.now c.args.rest.now c.links.result.0.now c.links.result.1.now c.common-shared.result c.in-Err.place inner read refl (omega arith) (rw c.parts.ensures.prefix at c.common-shared.ensures.alike)
+    missing_way _ c.args.bytes.now c.args.rest.now c.links.result.0.now c.links.result.1.now c.common-shared.result c.in-Err.place inner read refl (omega arith)
+    (rw c.parts.ensures.prefix at c.common-shared.ensures.alike)
     c.in-Err.ensures.bound (c.in-Err.ensures.position (rw read.edges_are (edges_rise inner.links _ inner.inner.rising)))

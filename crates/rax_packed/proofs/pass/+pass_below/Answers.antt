@@ -31,7 +31,9 @@ pass_below-requires g t c κs within =
     let far : length (drop c.in-Link.from part) ≡ 16 - (c.args.depth + c.in-Link.from) = omega (arith, length-drop c.in-Link.from part) in
     let begins = c.in-Link.ensures.begins in
     let fits = from_within (node_of c.bytes.result.now) c.in-Link.to part c.in-Link.place c.in-Link.from c.in-Link.ensures in
-    let few : c.above-in-Link.result ≤ c.args.depth + c.in-Link.from = above_few c.in-Link.place c.args.nodes c.above-in-Link.result (c.args.depth + c.in-Link.from) c.above-in-Link.ensures.first c.above-in-Link.ensures.other (omega (arith, begins, c.requires.few)) in (
+    let few : c.above-in-Link.result ≤ c.args.depth + c.in-Link.from =
+    above_few c.in-Link.place c.args.nodes c.above-in-Link.result (c.args.depth + c.in-Link.from) c.above-in-Link.ensures.first c.above-in-Link.ensures.other
+    (omega (arith, begins, c.requires.few)) in (
       omega (arith, c.decreases),
       (within, (omega (arith, c.requires.within), (subst (λ m. IsTreeAt m b c.in-Link.to) far child.tree, omega (arith, few)))),
     )
@@ -51,7 +53,8 @@ returns-in-Leaf g t c =
     let part = c.rest_of.result.now in
     let level = c.rest_of.ensures.len in
     let tree : IsTreeAt (length part) b c.args.at = subst (λ m. IsTreeAt m b c.args.at) (sym level) c.requires.tree in
-    rest_form b c.args.at c.args.key.now part (take c.args.depth c.args.key.now) c.args.depth (16 - c.args.depth) c.args.nodes c.args.nodes 0 (going c.args.pass.now) (going c.pass_rest.new.pass) c.rest_of.ensures.rest level
+    rest_form b c.args.at c.args.key.now part (take c.args.depth c.args.key.now) c.args.depth (16 - c.args.depth) c.args.nodes c.args.nodes 0 (going c.args.pass.now)
+    (going c.pass_rest.new.pass) c.rest_of.ensures.rest level
     (from_leaf b c.args.at c.bytes.result.now part c.args.nodes tree c.bytes.ensures c.in-Leaf.field-0 c.in-Leaf.ensures) c.pass_rest.ensures
 
 pub returns-then-key-depth : goal.returns-then-key-depth
@@ -62,10 +65,14 @@ returns-then-key-depth g t c =
     let tree : IsTreeAt (length part) b c.args.at = subst (λ m. IsTreeAt m b c.args.at) (sym level) c.requires.tree in
     let again = rw c.bytes.ensures at c.bytes-in-Parts.ensures in
     let same : c.bytes.result.now ≡ c.bytes-in-Parts.result.now = cc in
-    let own : get_or c.bytes-in-Parts.result.now (2 + c.in-Parts.shared) 0 ≡ c.in-Parts.ensures.own = ap (λ xs. get_or xs (2 + c.in-Parts.shared) 0) (sym same) ∙ (own_byte _ c.bytes.result.now part c.in-Parts.shared (tree_node _ _ _ _ c.bytes.result.now c.requires.tree c.bytes.ensures) c.in-Parts.ensures).1 in
-    let other : get_or c.args.key.now (c.args.depth + c.in-Parts.shared) 0 ≡ c.in-Parts.ensures.other = sym (ap (λ p. get_or p c.in-Parts.shared 0) c.rest_of.ensures.rest ∙ get_or-drop c.args.depth c.args.key.now c.in-Parts.shared 0) ∙ (key_byte (node_of c.bytes.result.now) part c.in-Parts.shared c.in-Parts.ensures).1 in
+    let own : get_or c.bytes-in-Parts.result.now (2 + c.in-Parts.shared) 0 ≡ c.in-Parts.ensures.own = ap (λ xs. get_or xs (2 + c.in-Parts.shared) 0) (sym same)
+    ∙ (own_byte _ c.bytes.result.now part c.in-Parts.shared (tree_node _ _ _ _ c.bytes.result.now c.requires.tree c.bytes.ensures) c.in-Parts.ensures).1 in
+    let other : get_or c.args.key.now (c.args.depth + c.in-Parts.shared) 0 ≡ c.in-Parts.ensures.other =
+    sym (ap (λ p. get_or p c.in-Parts.shared 0) c.rest_of.ensures.rest ∙ get_or-drop c.args.depth c.args.key.now c.in-Parts.shared 0)
+    ∙ (key_byte (node_of c.bytes.result.now) part c.in-Parts.shared c.in-Parts.ensures).1 in
     let ahead : c.in-Parts.ensures.other < c.in-Parts.ensures.own = (let less = c.if-key-depth.true in omega (arith, own, other)) in
-    rest_form b c.args.at c.args.key.now part (take c.args.depth c.args.key.now) c.args.depth (16 - c.args.depth) c.args.nodes c.args.nodes 0 (going c.args.pass.now) (going c.pass_rest-then-key-depth.new.pass) c.rest_of.ensures.rest level
+    rest_form b c.args.at c.args.key.now part (take c.args.depth c.args.key.now) c.args.depth (16 - c.args.depth) c.args.nodes c.args.nodes 0 (going c.args.pass.now)
+    (going c.pass_rest-then-key-depth.new.pass) c.rest_of.ensures.rest level
     (from_all b c.args.at c.bytes.result.now part c.args.nodes tree c.bytes.ensures c.in-Parts.shared c.in-Parts.ensures ahead) c.pass_rest-then-key-depth.ensures
 
 pub returns-else-key-depth : goal.returns-else-key-depth
@@ -76,8 +83,11 @@ returns-else-key-depth g t c =
     let tree : IsTreeAt (length part) b c.args.at = subst (λ m. IsTreeAt m b c.args.at) (sym level) c.requires.tree in
     let again = rw c.bytes.ensures at c.bytes-in-Parts.ensures in
     let same : c.bytes.result.now ≡ c.bytes-in-Parts.result.now = cc in
-    let own : get_or c.bytes-in-Parts.result.now (2 + c.in-Parts.shared) 0 ≡ c.in-Parts.ensures.own = ap (λ xs. get_or xs (2 + c.in-Parts.shared) 0) (sym same) ∙ (own_byte _ c.bytes.result.now part c.in-Parts.shared (tree_node _ _ _ _ c.bytes.result.now c.requires.tree c.bytes.ensures) c.in-Parts.ensures).1 in
-    let other : get_or c.args.key.now (c.args.depth + c.in-Parts.shared) 0 ≡ c.in-Parts.ensures.other = sym (ap (λ p. get_or p c.in-Parts.shared 0) c.rest_of.ensures.rest ∙ get_or-drop c.args.depth c.args.key.now c.in-Parts.shared 0) ∙ (key_byte (node_of c.bytes.result.now) part c.in-Parts.shared c.in-Parts.ensures).1 in
+    let own : get_or c.bytes-in-Parts.result.now (2 + c.in-Parts.shared) 0 ≡ c.in-Parts.ensures.own = ap (λ xs. get_or xs (2 + c.in-Parts.shared) 0) (sym same)
+    ∙ (own_byte _ c.bytes.result.now part c.in-Parts.shared (tree_node _ _ _ _ c.bytes.result.now c.requires.tree c.bytes.ensures) c.in-Parts.ensures).1 in
+    let other : get_or c.args.key.now (c.args.depth + c.in-Parts.shared) 0 ≡ c.in-Parts.ensures.other =
+    sym (ap (λ p. get_or p c.in-Parts.shared 0) c.rest_of.ensures.rest ∙ get_or-drop c.args.depth c.args.key.now c.in-Parts.shared 0)
+    ∙ (key_byte (node_of c.bytes.result.now) part c.in-Parts.shared c.in-Parts.ensures).1 in
     let behind : c.in-Parts.ensures.own ≤ c.in-Parts.ensures.other = (let upto = c.if-key-depth.false in omega (arith, own, other)) in
     none_form b c.args.at c.args.key.now part (take c.args.depth c.args.key.now) c.args.depth (16 - c.args.depth) c.args.nodes (going c.args.pass.now) c.rest_of.ensures.rest level
     (from_none b c.args.at c.bytes.result.now part c.args.nodes tree c.bytes.ensures c.in-Parts.shared c.in-Parts.ensures behind)
@@ -88,8 +98,10 @@ returns-in-Missing g t c =
     let part = c.rest_of.result.now in
     let level = c.rest_of.ensures.len in
     let tree : IsTreeAt (length part) b c.args.at = subst (λ m. IsTreeAt m b c.args.at) (sym level) c.requires.tree in
-    rest_form b c.args.at c.args.key.now part (take c.args.depth c.args.key.now) c.args.depth (16 - c.args.depth) c.args.nodes c.above.result c.in-Missing.place (going c.args.pass.now) (going c.pass_rest-in-Missing.new.pass) c.rest_of.ensures.rest level
-    (from_missing b c.args.at c.bytes.result.now part c.args.nodes tree c.bytes.ensures c.in-Missing.place c.in-Missing.field-1 c.above.result c.in-Missing.ensures c.above.ensures.first c.above.ensures.other) c.pass_rest-in-Missing.ensures
+    rest_form b c.args.at c.args.key.now part (take c.args.depth c.args.key.now) c.args.depth (16 - c.args.depth) c.args.nodes c.above.result c.in-Missing.place (going c.args.pass.now)
+    (going c.pass_rest-in-Missing.new.pass) c.rest_of.ensures.rest level
+    (from_missing b c.args.at c.bytes.result.now part c.args.nodes tree c.bytes.ensures c.in-Missing.place c.in-Missing.field-1 c.above.result c.in-Missing.ensures c.above.ensures.first
+    c.above.ensures.other) c.pass_rest-in-Missing.ensures
 
 pub returns-in-Link : goal.returns-in-Link
 returns-in-Link g t c =
@@ -98,7 +110,9 @@ returns-in-Link g t c =
     let level = c.rest_of.ensures.len in
     let tree : IsTreeAt (length part) b c.args.at = subst (λ m. IsTreeAt m b c.args.at) (sym level) c.requires.tree in
     let far : 16 - (c.args.depth + c.in-Link.from) ≡ length (drop c.in-Link.from part) = omega (arith, length-drop c.in-Link.from part) in
-    link_form b c.args.at c.in-Link.to c.args.key.now part c.args.depth c.in-Link.from (16 - c.args.depth) (16 - (c.args.depth + c.in-Link.from)) c.args.nodes (c.above-in-Link.result + 1) (c.in-Link.place + 1) (going c.args.pass.now) (going c.pass_below.new.pass) (going c.pass_rest-in-Link.new.pass)
+    link_form b c.args.at c.in-Link.to c.args.key.now part c.args.depth c.in-Link.from (16 - c.args.depth) (16 - (c.args.depth + c.in-Link.from)) c.args.nodes (c.above-in-Link.result + 1)
+    (c.in-Link.place + 1) (going c.args.pass.now) (going c.pass_below.new.pass) (going c.pass_rest-in-Link.new.pass)
     c.rest_of.ensures.rest level far
-    (from_link b c.args.at c.bytes.result.now part c.args.nodes tree c.bytes.ensures c.in-Link.place c.in-Link.from c.in-Link.to c.in-Link.ensures c.above-in-Link.result c.above-in-Link.ensures.first c.above-in-Link.ensures.other)
+    (from_link b c.args.at c.bytes.result.now part c.args.nodes tree c.bytes.ensures c.in-Link.place c.in-Link.from c.in-Link.to c.in-Link.ensures c.above-in-Link.result
+    c.above-in-Link.ensures.first c.above-in-Link.ensures.other)
     c.pass_below.ensures c.pass_rest-in-Link.ensures

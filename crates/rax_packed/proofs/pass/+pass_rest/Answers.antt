@@ -29,7 +29,8 @@ pub returns-then-bytes-eq0 : goal.returns-then-bytes-eq0
 returns-then-bytes-eq0 g t c =
     let b = g.B.BlockStore.blocks c.args.store.now in
     let leaf = as_leaf _ _ (tree_node _ _ _ _ c.bytes-bytes.result.now c.requires.tree c.bytes-bytes.ensures) c.if-bytes-eq0.true in
-    pass_leaf (16 - c.args.depth) b c.args.at _ c.parts.result.0.now (take c.args.depth c.args.path.now) _ c.args.nodes c.args.place (going c.args.pass.now) (going c.count.new.self) (node_read b c.args.at c.bytes-bytes.result.now c.bytes-bytes.ensures ∙ leaf.node_is) c.parts.ensures.prefix c.count.ensures
+    pass_leaf (16 - c.args.depth) b c.args.at _ c.parts.result.0.now (take c.args.depth c.args.path.now) _ c.args.nodes c.args.place (going c.args.pass.now) (going c.count.new.self)
+    (node_read b c.args.at c.bytes-bytes.result.now c.bytes-bytes.ensures ∙ leaf.node_is) c.parts.ensures.prefix c.count.ensures
 
 pub next_turn-requires-clause-inner : goal.next_turn-requires-clause-inner
 next_turn-requires-clause-inner g t c = inner_bytes _ _ (tree_node _ _ _ _ c.bytes-bytes.result.now c.requires.tree c.bytes-bytes.ensures) (omega arith) c.if-bytes-eq0.false
@@ -70,8 +71,11 @@ returns-then-is_some g t c =
     let told = inner_bytes _ _ (tree_node _ _ _ _ c.bytes-bytes.result.now c.requires.tree c.bytes-bytes.ensures) (omega arith) c.if-bytes-eq0.false in
     let r = read_at n b c.args.at c.bytes-bytes.result.now c.requires.tree c.bytes-bytes.ensures told in
     let more = map (cost_under front) (costs_below (costs n b) 1 (prefix_in (node_at b c.args.at)) (drop (c.loop-turn.next + 1) (links_in (node_at b c.args.at)))) in
-    rest_ended n b c.args.at front r.prefix r.links c.args.nodes c.args.place c.loop-turn.least c.loop-turn.next (going c.args.pass.now) (going c.loop-turn.pass) (going c.pass_rest.new.pass) (r.node_is ∙ r.is) c.loop-turn.invariant.same
-    (sym (pass_turn n c.args.depth c.loop-turn.next b c.args.at c.bytes-bytes.result.now c.args.path.now c.in-Some.turn r c.in-Some.ensures.some refl c.loop-turn.least (going c.loop-turn.pass) (going c.pass_rest.new.pass) c.pass_rest.ensures)
+    rest_ended n b c.args.at front r.prefix r.links c.args.nodes c.args.place c.loop-turn.least c.loop-turn.next (going c.args.pass.now) (going c.loop-turn.pass)
+    (going c.pass_rest.new.pass) (r.node_is ∙ r.is) c.loop-turn.invariant.same
+    (sym
+    (pass_turn n c.args.depth c.loop-turn.next b c.args.at c.bytes-bytes.result.now c.args.path.now c.in-Some.turn r c.in-Some.ensures.some refl c.loop-turn.least
+    (going c.loop-turn.pass) (going c.pass_rest.new.pass) c.pass_rest.ensures)
     ∙ pass_ended (going c.pass_rest.new.pass) more (sym c.is_some.ensures ∙ c.if-is_some.true))
 
 pub overflow_add-next : goal.overflow_add-next
@@ -98,7 +102,8 @@ loop-turn-preserved g t c =
     let r = read_at n b c.args.at c.bytes-bytes.result.now c.requires.tree c.bytes-bytes.ensures told in
     let inside = turn_inside n c.args.depth c.loop-turn.next b c.args.at c.bytes-bytes.result.now c.args.path.now c.in-Some.turn r c.in-Some.ensures.some refl in
     record {
-      same = pass_turn n c.args.depth c.loop-turn.next b c.args.at c.bytes-bytes.result.now c.args.path.now c.in-Some.turn r c.in-Some.ensures.some refl c.loop-turn.least (going c.loop-turn.pass) (going c.pass_rest.new.pass) c.pass_rest.ensures ∙ c.loop-turn.invariant.same;
+      same = pass_turn n c.args.depth c.loop-turn.next b c.args.at c.bytes-bytes.result.now c.args.path.now c.in-Some.turn r c.in-Some.ensures.some refl c.loop-turn.least
+          (going c.loop-turn.pass) (going c.pass_rest.new.pass) c.pass_rest.ensures ∙ c.loop-turn.invariant.same;
       within = omega (arith, inside.0);
       few = omega arith;
     }
@@ -111,5 +116,6 @@ returns g t c =
     let told = inner_bytes _ _ (tree_node _ _ _ _ c.bytes-bytes.result.now c.requires.tree c.bytes-bytes.ensures) (omega arith) c.if-bytes-eq0.false in
     let r = read_at n b c.args.at c.bytes-bytes.result.now c.requires.tree c.bytes-bytes.ensures told in
     let past : slice_get (links_in (node_at b c.args.at)) c.loop-turn.next ≡ None = ap (λ m. slice_get (links_in m) c.loop-turn.next) r.node_is ∙ c.in_default.ensures.none in
-    rest_ended n b c.args.at front r.prefix r.links c.args.nodes c.args.place c.loop-turn.least c.loop-turn.next (going c.args.pass.now) (going c.loop-turn.pass) (going c.loop-turn.pass) (r.node_is ∙ r.is) c.loop-turn.invariant.same
+    rest_ended n b c.args.at front r.prefix r.links c.args.nodes c.args.place c.loop-turn.least c.loop-turn.next (going c.args.pass.now) (going c.loop-turn.pass) (going c.loop-turn.pass)
+    (r.node_is ∙ r.is) c.loop-turn.invariant.same
     (pass_past n b front (prefix_in (node_at b c.args.at)) (links_in (node_at b c.args.at)) c.loop-turn.least c.loop-turn.next (going c.loop-turn.pass) past)

@@ -9,8 +9,14 @@ decreases-pass_rest g l = 16 - l.depth
 
 abbrev pub invariant-loop-turn : goal.invariant-loop-turn
 invariant-loop-turn g l = record {
-  same : pass_over (going l.pass) (map (cost_under (take l.depth l.path)) (costs_below (costs (16 - l.depth) (g.B.BlockStore.blocks l.store)) l.least (prefix_in (node_at (g.B.BlockStore.blocks l.store) l.fn.at)) (drop l.next (links_in (node_at (g.B.BlockStore.blocks l.store) l.fn.at)))))
-      ≡ pass_over (going l.initial.pass) (map (cost_under (take l.depth l.path)) (costs_below (costs (16 - l.depth) (g.B.BlockStore.blocks l.store)) l.initial.least (prefix_in (node_at (g.B.BlockStore.blocks l.store) l.fn.at)) (drop l.initial.next (links_in (node_at (g.B.BlockStore.blocks l.store) l.fn.at)))));
+  same : pass_over (going l.pass)
+      (map (cost_under (take l.depth l.path))
+      (costs_below (costs (16 - l.depth) (g.B.BlockStore.blocks l.store)) l.least (prefix_in (node_at (g.B.BlockStore.blocks l.store) l.fn.at))
+      (drop l.next (links_in (node_at (g.B.BlockStore.blocks l.store) l.fn.at)))))
+      ≡ pass_over (going l.initial.pass)
+      (map (cost_under (take l.depth l.path))
+      (costs_below (costs (16 - l.depth) (g.B.BlockStore.blocks l.store)) l.initial.least (prefix_in (node_at (g.B.BlockStore.blocks l.store) l.fn.at))
+      (drop l.initial.next (links_in (node_at (g.B.BlockStore.blocks l.store) l.fn.at)))));
   within : l.next ≤ length (links_in (node_at (g.B.BlockStore.blocks l.store) l.fn.at));
   few : l.least ≤ l.depth + 2;
 }

@@ -15,10 +15,14 @@ pub way_of-requires : goal.way_of-requires
 way_of-requires g t c = tree_node _ _ _ _ c.bytes.result.now c.requires.tree c.bytes.ensures
 
 pub unreachable-requires : goal.unreachable-requires
-unreachable-requires g t c = no_value (found_parts (g.B.BlockStore.blocks c.args.store.now) c.args.at c.bytes.result.now c.args.rest.now c.requires.tree c.bytes.ensures c.in-Parts.field-0 c.in-Parts.ensures) c.requires.stands
+unreachable-requires g t c = no_value
+    (found_parts (g.B.BlockStore.blocks c.args.store.now) c.args.at c.bytes.result.now c.args.rest.now c.requires.tree c.bytes.ensures c.in-Parts.field-0 c.in-Parts.ensures)
+    c.requires.stands
 
 pub unreachable-requires-in-Missing : goal.unreachable-requires-in-Missing
-unreachable-requires-in-Missing g t c = no_value (found_missing (g.B.BlockStore.blocks c.args.store.now) c.args.at c.bytes.result.now c.args.rest.now c.requires.tree c.bytes.ensures c.in-Missing.field-0 c.in-Missing.field-1 c.in-Missing.ensures) c.requires.stands
+unreachable-requires-in-Missing g t c = no_value
+    (found_missing (g.B.BlockStore.blocks c.args.store.now) c.args.at c.bytes.result.now c.args.rest.now c.requires.tree c.bytes.ensures c.in-Missing.field-0 c.in-Missing.field-1
+    c.in-Missing.ensures) c.requires.stands
 
 pub nodes_below-requires : goal.nodes_below-requires
 nodes_below-requires g t c κs within =
@@ -31,7 +35,8 @@ nodes_below-requires g t c κs within =
       (
         within,
         (
-          subst (λ xs. IsTreeAt (length xs) b c.in-Link.to) (sym all) (link_below b c.args.at c.bytes.result.now c.args.rest.now c.requires.tree c.bytes.ensures c.in-Link.place c.in-Link.from c.in-Link.to c.in-Link.ensures).tree,
+          subst (λ xs. IsTreeAt (length xs) b c.in-Link.to) (sym all)
+              (link_below b c.args.at c.bytes.result.now c.args.rest.now c.requires.tree c.bytes.ensures c.in-Link.place c.in-Link.from c.in-Link.to c.in-Link.ensures).tree,
           (
             subst (λ xs. IsSome (value_at (entries_at (length xs) b c.in-Link.to) xs)) (sym all) (subst (λ o. IsSome o) found c.requires.stands),
             subst (λ xs. length c.pass.new.self + length xs ≤ 16) (sym all) (omega (arith, shrinks, c.pass.ensures.room, c.requires.room)),
@@ -54,5 +59,6 @@ pub returns-in-Link : goal.returns-in-Link
 returns-in-Link g t c =
     let all = take_rest c.args.rest.now c.in-Link.from in
     let b = g.B.BlockStore.blocks c.args.store.now in
-    passed_nodes b c.args.at c.in-Link.to c.bytes.result.now c.args.rest.now c.in-Link.place c.in-Link.from c.requires.tree c.bytes.ensures c.in-Link.ensures c.args.nodes.now c.pass.new.self c.nodes_below.new.nodes
+    passed_nodes b c.args.at c.in-Link.to c.bytes.result.now c.args.rest.now c.in-Link.place c.in-Link.from c.requires.tree c.bytes.ensures c.in-Link.ensures c.args.nodes.now
+    c.pass.new.self c.nodes_below.new.nodes
     c.pass.ensures.first c.pass.ensures.other (rw all at c.nodes_below.ensures)

@@ -10,6 +10,7 @@ decreases-release_below g l = l.rest
 
 abbrev pub invariant-loop-place : goal.invariant-loop-place
 invariant-loop-place g l = record {
-  changes : Changes (g.B.BlockStore.blocks l.initial.store) (g.B.BlockStore.blocks l.store) (refs_below l.rest (g.B.BlockStore.blocks l.initial.store) (take l.place (links_in (node_at (g.B.BlockStore.blocks l.initial.store) l.at)))) [];
+  changes : Changes (g.B.BlockStore.blocks l.initial.store) (g.B.BlockStore.blocks l.store)
+      (refs_below l.rest (g.B.BlockStore.blocks l.initial.store) (take l.place (links_in (node_at (g.B.BlockStore.blocks l.initial.store) l.at)))) [];
   served : Served g.B.BlockStore.step l.initial.store l.store;
 }

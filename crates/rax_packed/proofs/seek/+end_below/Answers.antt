@@ -42,7 +42,12 @@ next_turn-requires g t c =
     let told = inner_bytes _ _ (tree_node _ _ _ _ c.bytes-bytes.result.now c.requires.tree c.bytes-bytes.ensures) (omega arith) c.if-bytes-eq0.false in
     let r = read_at (16 - c.args.depth) b c.args.at c.bytes-bytes.result.now c.requires.tree c.bytes-bytes.ensures told in
     let short = r.node.inner.short in
-    record { inner = told; within = omega (arith, ap (λ m. length (prefix_in m)) r.is, c.requires.within); place = near_within c.args.up _ _ (rw c.read_sections.ensures.count at c.near_end-place.ensures) }
+    record {
+      inner = told;
+      within = omega (arith, ap (λ m. length (prefix_in m)) r.is, c.requires.within);
+      place =
+          near_within c.args.up _ _ (rw c.read_sections.ensures.count at c.near_end-place.ensures);
+    }
 
 pub unreachable-requires : goal.unreachable-requires
 unreachable-requires g t c =
@@ -50,7 +55,8 @@ unreachable-requires g t c =
     let told = inner_bytes _ _ (tree_node _ _ _ _ c.bytes-bytes.result.now c.requires.tree c.bytes-bytes.ensures) (omega arith) c.if-bytes-eq0.false in
     let r = read_at (16 - c.args.depth) b c.args.at c.bytes-bytes.result.now c.requires.tree c.bytes-bytes.ensures told in
     let some = r.node.inner.some in
-    near_some c.args.up (links_in (node_of c.bytes-bytes.result.now)) c.near_end-place.result (omega (arith, ap (λ m. length (links_in m)) r.is)) (rw c.read_sections.ensures.count at c.near_end-place.ensures) c.in-None.ensures.none
+    near_some c.args.up (links_in (node_of c.bytes-bytes.result.now)) c.near_end-place.result (omega (arith, ap (λ m. length (links_in m)) r.is))
+    (rw c.read_sections.ensures.count at c.near_end-place.ensures) c.in-None.ensures.none
 
 pub end_below-requires : goal.end_below-requires
 end_below-requires g t c κs within =
@@ -60,7 +66,14 @@ end_below-requires g t c κs within =
     let deeper = turn_deeper c.args.up (16 - c.args.depth) c.args.depth c.near_end-place.result b c.args.at c.bytes-bytes.result.now c.args.path.now c.in-Some.turn r c.in-Some.ensures.some refl in
     let most = turn_within c.args.up (16 - c.args.depth) c.args.depth c.near_end-place.result b c.args.at c.bytes-bytes.result.now c.args.path.now c.in-Some.turn r c.in-Some.ensures.some refl in (
       omega (arith, c.decreases),
-      (within, (most, (turn_named c.args.up (16 - c.args.depth) c.args.depth c.near_end-place.result b c.args.at c.bytes-bytes.result.now c.args.path.now c.in-Some.turn r c.in-Some.ensures.some refl).tree)),
+      (
+        within,
+        (
+          most,
+          (turn_named c.args.up (16 - c.args.depth) c.args.depth c.near_end-place.result b c.args.at c.bytes-bytes.result.now c.args.path.now c.in-Some.turn r c.in-Some.ensures.some
+              refl).tree,
+        ),
+      ),
     )
 
 pub returns : goal.returns
@@ -68,7 +81,10 @@ returns g t c =
     let b = g.B.BlockStore.blocks c.args.store.now in
     let told = inner_bytes _ _ (tree_node _ _ _ _ c.bytes-bytes.result.now c.requires.tree c.bytes-bytes.ensures) (omega arith) c.if-bytes-eq0.false in
     let r = read_at (16 - c.args.depth) b c.args.at c.bytes-bytes.result.now c.requires.tree c.bytes-bytes.ensures told in
-    let near : IsNearEnd c.args.up (length (links_in (node_at b c.args.at))) c.near_end-place.result = rw (c.read_sections.ensures.count, ap (λ m. length (links_in m)) (sym r.node_is)) at c.near_end-place.ensures in
-    turn_found c.args.up (16 - c.args.depth) c.args.depth c.near_end-place.result b c.args.at c.bytes-bytes.result.now c.args.path.now c.in-Some.turn r c.in-Some.ensures.some refl c.end_below.result c.end_below.ensures
-    ∙ ap (λ m. option_map (λ e. take c.args.depth c.args.path.now ++ e.key) (end_of c.args.up (entries_in (entries (16 - c.args.depth) b) m))) (aside_all c.args.up c.near_end-place.result (node_at b c.args.at) near)
+    let near : IsNearEnd c.args.up (length (links_in (node_at b c.args.at))) c.near_end-place.result =
+    rw (c.read_sections.ensures.count, ap (λ m. length (links_in m)) (sym r.node_is)) at c.near_end-place.ensures in
+    turn_found c.args.up (16 - c.args.depth) c.args.depth c.near_end-place.result b c.args.at c.bytes-bytes.result.now c.args.path.now c.in-Some.turn r c.in-Some.ensures.some refl
+    c.end_below.result c.end_below.ensures
+    ∙ ap (λ m. option_map (λ e. take c.args.depth c.args.path.now ++ e.key) (end_of c.args.up (entries_in (entries (16 - c.args.depth) b) m)))
+    (aside_all c.args.up c.near_end-place.result (node_at b c.args.at) near)
     ∙ whole_entries c.args.up (16 - c.args.depth) b c.args.at (take c.args.depth c.args.path.now)

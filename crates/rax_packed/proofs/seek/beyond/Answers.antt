@@ -33,4 +33,5 @@ returns-in-Some g c =
     let b = g.B.BlockStore.blocks c.args.store.now in
     let told : IsInnerBytes c.bytes.result.now = subst IsInnerBytes (ap (λ o. unwrap_or o []) c.bytes.ensures) c.requires.inner in
     let r = read_at (16 - c.args.depth) b c.args.at c.bytes.result.now c.requires.tree c.bytes.ensures told in
-    turn_found c.args.up (16 - c.args.depth) c.args.depth c.args.place b c.args.at c.bytes.result.now c.args.path.now c.in-Some.turn r c.in-Some.ensures.some refl c.end_below.result c.end_below.ensures
+    turn_found c.args.up (16 - c.args.depth) c.args.depth c.args.place b c.args.at c.bytes.result.now c.args.path.now c.in-Some.turn r c.in-Some.ensures.some refl c.end_below.result
+    c.end_below.ensures

@@ -7,13 +7,20 @@ use Rattle.rdb_grammar.proofs.Standing.{found, broken}
 use Rattle.rdb_grammar.proofs.streams.next_handed.Goals as goal
 
 pub overflow_sub-result : goal.overflow_sub-result
-overflow_sub-result c = (found handed handed-exact c.args.bytes.now c.args.at (handed_of c.in-Ok.handed) c.in-Ok.rest.now c.requires (ap handed.read (sym (take_rest c.args.bytes.now c.args.at)) ∙ c.in-Ok.ensures)).fits
+overflow_sub-result c =
+    (found handed handed-exact c.args.bytes.now c.args.at (handed_of c.in-Ok.handed) c.in-Ok.rest.now c.requires
+    (ap handed.read (sym (take_rest c.args.bytes.now c.args.at)) ∙ c.in-Ok.ensures)).fits
 
 pub overflow_sub-result-in-Err : goal.overflow_sub-result-in-Err
-overflow_sub-result-in-Err c = (broken handed handed-exact c.args.bytes.now c.args.at c.in-Err.e.kind c.in-Err.e.left c.requires (ap handed.read (sym (take_rest c.args.bytes.now c.args.at)) ∙ c.in-Err.ensures)).fits
+overflow_sub-result-in-Err c =
+    (broken handed handed-exact c.args.bytes.now c.args.at c.in-Err.e.kind c.in-Err.e.left c.requires (ap handed.read (sym (take_rest c.args.bytes.now c.args.at)) ∙ c.in-Err.ensures)).fits
 
 pub returns-in-Ok-clause-handed : goal.returns-in-Ok-clause-handed
-returns-in-Ok-clause-handed c = (found handed handed-exact c.args.bytes.now c.args.at (handed_of c.in-Ok.handed) c.in-Ok.rest.now c.requires (ap handed.read (sym (take_rest c.args.bytes.now c.args.at)) ∙ c.in-Ok.ensures)).stands
+returns-in-Ok-clause-handed c =
+    (found handed handed-exact c.args.bytes.now c.args.at (handed_of c.in-Ok.handed) c.in-Ok.rest.now c.requires
+    (ap handed.read (sym (take_rest c.args.bytes.now c.args.at)) ∙ c.in-Ok.ensures)).stands
 
 pub returns-in-Err-clause-fault : goal.returns-in-Err-clause-fault
-returns-in-Err-clause-fault c = (broken handed handed-exact c.args.bytes.now c.args.at c.in-Err.e.kind c.in-Err.e.left c.requires (ap handed.read (sym (take_rest c.args.bytes.now c.args.at)) ∙ c.in-Err.ensures)).fails
+returns-in-Err-clause-fault c =
+    (broken handed handed-exact c.args.bytes.now c.args.at c.in-Err.e.kind c.in-Err.e.left c.requires
+    (ap handed.read (sym (take_rest c.args.bytes.now c.args.at)) ∙ c.in-Err.ensures)).fails

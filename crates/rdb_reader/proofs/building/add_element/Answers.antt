@@ -33,25 +33,29 @@ pub returns-in-List-clause-adds : goal.returns-in-List-clause-adds
 returns-in-List-clause-adds g c =
     let m = g.B.BlockStore.blocks c.args.store.now in
     let was = ap (value_of m) c.in-List.is ∙ ap (λ x. ListOf (chain.elements m x)) (sym c.deref_mut.ensures.value) in
-    subst (λ (v : model.Value). Adds c.args.bytes.now c.args.at v (ListOf (chain.elements (g.B.BlockStore.blocks c.push_element.new.store) c.push_element.new.list)) c.push_element.result) (sym was) c.push_element.ensures.adds
+    subst (λ (v : model.Value). Adds c.args.bytes.now c.args.at v (ListOf (chain.elements (g.B.BlockStore.blocks c.push_element.new.store) c.push_element.new.list)) c.push_element.result)
+    (sym was) c.push_element.ensures.adds
 
 pub returns-in-Set-clause-adds : goal.returns-in-Set-clause-adds
 returns-in-Set-clause-adds g c =
     let m = g.B.BlockStore.blocks c.args.store.now in
     let was = ap (value_of m) c.in-Set.is ∙ ap (λ x. SetOf (set.members m x)) (sym c.deref_mut-in-Set.ensures.value) in
-    subst (λ (v : model.Value). Adds c.args.bytes.now c.args.at v (SetOf (set.members (g.B.BlockStore.blocks c.add_member.new.store) c.add_member.new.members)) c.add_member.result) (sym was) c.add_member.ensures.adds
+    subst (λ (v : model.Value). Adds c.args.bytes.now c.args.at v (SetOf (set.members (g.B.BlockStore.blocks c.add_member.new.store) c.add_member.new.members)) c.add_member.result)
+    (sym was) c.add_member.ensures.adds
 
 pub returns-in-Hash-clause-adds : goal.returns-in-Hash-clause-adds
 returns-in-Hash-clause-adds g c =
     let m = g.B.BlockStore.blocks c.args.store.now in
     let was = ap (value_of m) c.in-Hash.is ∙ ap (λ x. HashOf (hash.fields m x)) (sym c.deref_mut-in-Hash.ensures.value) in
-    subst (λ (v : model.Value). Adds c.args.bytes.now c.args.at v (HashOf (hash.fields (g.B.BlockStore.blocks c.set_field.new.store) c.set_field.new.fields)) c.set_field.result) (sym was) c.set_field.ensures.adds
+    subst (λ (v : model.Value). Adds c.args.bytes.now c.args.at v (HashOf (hash.fields (g.B.BlockStore.blocks c.set_field.new.store) c.set_field.new.fields)) c.set_field.result) (sym was)
+    c.set_field.ensures.adds
 
 pub returns-in-Zset-clause-adds : goal.returns-in-Zset-clause-adds
 returns-in-Zset-clause-adds g c =
     let m = g.B.BlockStore.blocks c.args.store.now in
     let was = ap (value_of m) c.in-Zset.is ∙ ap (λ x. SortedOf (zset.scores m x)) (sym c.deref_mut-in-Zset.ensures.value) in
-    subst (λ (v : model.Value). Adds c.args.bytes.now c.args.at v (SortedOf (zset.scores (g.B.BlockStore.blocks c.set_score.new.store) c.set_score.new.scored)) c.set_score.result) (sym was) c.set_score.ensures.adds
+    subst (λ (v : model.Value). Adds c.args.bytes.now c.args.at v (SortedOf (zset.scores (g.B.BlockStore.blocks c.set_score.new.store) c.set_score.new.scored)) c.set_score.result)
+    (sym was) c.set_score.ensures.adds
 
 pub returns-in-Zset-clause-form : goal.returns-in-Zset-clause-form
 returns-in-Zset-clause-form g c = on_ok c.set_score.result (λ rises. λ limits seed sound news.

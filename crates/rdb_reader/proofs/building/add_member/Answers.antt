@@ -22,7 +22,8 @@ returns-in-Ok-true-clause-adds g c =
     let fresh : true ≡ not (is_some (get old text)) = sym c.in-Ok-true.field-0-test ∙ c.in-Ok-true.ensures.there ∙ ap (λ t. not (is_some (get old t))) c.text.ensures in
     let added = c.add.ensures.added (c.in-Ok-true.is ∙ ap (λ (b : Bool). Ok b) c.in-Ok-true.field-0-test) in
     let is : new ≡ insert old text tt = added.members_are ∙ ap (λ t. insert old t tt) c.text.ensures in
-    subst (λ (ms : Strings). Stands (with_one (SetOf old)) (SetOf ms) c.args.bytes.now c.args.at c.in-Ok.read.1) (sym is) (joined c.args.bytes.now c.args.at c.in-Ok.read.1 text c.in-Ok.ensures.string old fresh)
+    subst (λ (ms : Strings). Stands (with_one (SetOf old)) (SetOf ms) c.args.bytes.now c.args.at c.in-Ok.read.1) (sym is)
+    (joined c.args.bytes.now c.args.at c.in-Ok.read.1 text c.in-Ok.ensures.string old fresh)
 
 pub returns-in-Ok-true-clause-form : goal.returns-in-Ok-true-clause-form
 returns-in-Ok-true-clause-form g c least =

@@ -55,7 +55,8 @@ returns-in-Err-clause-fills g c =
     let rest = c.args.count - (c.elements.counter + 1) in
     let left : c.args.count - c.elements.counter ≡ suc rest = omega (arith, c.elements-test.true) in
     let turns = subst (λ (n : ℕ). GoesOn with_one c.args.bytes.now c.args.at c.args.count first c.elements.next n made) left c.elements.invariant.turns in
-    fails_on with_one with_one-exact c.args.bytes.now c.args.at c.args.count first c.elements.next rest made (value_of (blocks c.add_element.new.store) c.add_element.new.value) c.requires.at turns c.in-Err.fault c.in-Err.ensures.adds
+    fails_on with_one with_one-exact c.args.bytes.now c.args.at c.args.count first c.elements.next rest made (value_of (blocks c.add_element.new.store) c.add_element.new.value)
+    c.requires.at turns c.in-Err.fault c.in-Err.ensures.adds
 
 pub returns-in-Err-clause-sound : goal.returns-in-Err-clause-sound
 returns-in-Err-clause-sound g c = λ limits seed sound. c.add_element.ensures.sound limits seed (c.elements.invariant.sound limits seed sound)

@@ -17,8 +17,10 @@ pub returns-in-Ok-insert-clause-adds : goal.returns-in-Ok-insert-clause-adds
 returns-in-Ok-insert-clause-adds g c =
     let xs = elements (g.B.BlockStore.blocks c.args.store.now) c.args.list.now in
     let new = elements (g.B.BlockStore.blocks c.insert.new.store) c.insert.new.self in
-    let list : new ≡ xs ++ text_of c.in-Ok.read.0 ∷ [] = c.in-Ok-insert.ensures.written.list_is ∙ appended xs c.len-index.result c.text.result.now (text_of c.in-Ok.read.0) (c.len-index.ensures ∙ c.requires.sound.counted) c.text.ensures in
-    subst (λ (ys : List (List ℕ)). Stands (with_one (ListOf xs)) (ListOf ys) c.args.bytes.now c.args.at c.in-Ok.read.1) (sym list) (pushed c.args.bytes.now c.args.at c.in-Ok.read.1 (text_of c.in-Ok.read.0) c.in-Ok.ensures.string xs)
+    let list : new ≡ xs ++ text_of c.in-Ok.read.0 ∷ [] = c.in-Ok-insert.ensures.written.list_is
+    ∙ appended xs c.len-index.result c.text.result.now (text_of c.in-Ok.read.0) (c.len-index.ensures ∙ c.requires.sound.counted) c.text.ensures in
+    subst (λ (ys : List (List ℕ)). Stands (with_one (ListOf xs)) (ListOf ys) c.args.bytes.now c.args.at c.in-Ok.read.1) (sym list)
+    (pushed c.args.bytes.now c.args.at c.in-Ok.read.1 (text_of c.in-Ok.read.0) c.in-Ok.ensures.string xs)
 
 pub returns-in-Ok-insert-clause-form : goal.returns-in-Ok-insert-clause-form
 returns-in-Ok-insert-clause-form g c least =

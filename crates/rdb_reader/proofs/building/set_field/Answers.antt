@@ -26,7 +26,9 @@ returns-in-None-clause-adds g c =
     let old = fields (g.B.BlockStore.blocks c.args.store.now) c.args.fields.now in
     let text = text_of c.in-Ok.read.0 in
     let fresh : true ≡ not (is_some (get old text)) = none_fresh (get old text) (ap (get old) (sym c.text-field.ensures) ∙ rw c.in-None.is at c.get.ensures) in
-    rw c.refused-in-None.ensures (value_fails c.args.bytes.now c.args.at c.in-Ok.read.1 text c.in-Ok.ensures.string old c.in-Err-next_string.fault.kind c.in-Err-next_string.fault.at c.in-Err-next_string.ensures.fault fresh)
+    rw c.refused-in-None.ensures
+    (value_fails c.args.bytes.now c.args.at c.in-Ok.read.1 text c.in-Ok.ensures.string old c.in-Err-next_string.fault.kind c.in-Err-next_string.fault.at
+    c.in-Err-next_string.ensures.fault fresh)
 
 pub returns-in-Ok-true-clause-adds : goal.returns-in-Ok-true-clause-adds
 returns-in-Ok-true-clause-adds g c =
@@ -35,13 +37,16 @@ returns-in-Ok-true-clause-adds g c =
     let text = text_of c.in-Ok.read.0 in
     let fresh : true ≡ not (is_some (get old text)) = sym c.in-Ok-true.field-0-test ∙ c.in-Ok-true.ensures.there ∙ ap (λ t. not (is_some (get old t))) c.text-field.ensures in
     let is : new ≡ insert old text (text_of c.in-Ok-next_string.read.0) = c.in-Ok-true.ensures.set.fields_are ∙ (λ i. insert old (c.text-field.ensures i) (c.text.ensures i)) in
-    subst (λ (ms : Map (List ℕ)). Stands (with_one (HashOf old)) (HashOf ms) c.args.bytes.now c.args.at c.in-Ok-next_string.read.1) (sym is) (field_set c.args.bytes.now c.args.at c.in-Ok.read.1 text c.in-Ok.ensures.string old (text_of c.in-Ok-next_string.read.0) c.in-Ok-next_string.read.1 c.in-Ok-next_string.ensures.string fresh)
+    subst (λ (ms : Map (List ℕ)). Stands (with_one (HashOf old)) (HashOf ms) c.args.bytes.now c.args.at c.in-Ok-next_string.read.1) (sym is)
+    (field_set c.args.bytes.now c.args.at c.in-Ok.read.1 text c.in-Ok.ensures.string old (text_of c.in-Ok-next_string.read.0) c.in-Ok-next_string.read.1
+    c.in-Ok-next_string.ensures.string fresh)
 
 pub returns-in-Ok-true-clause-form : goal.returns-in-Ok-true-clause-form
 returns-in-Ok-true-clause-form g c least =
     let old = fields (g.B.BlockStore.blocks c.args.store.now) c.args.fields.now in
     subst (λ (ms : Map (List ℕ)). IsLeast (FitsFields c.args.fields.now.limits ms) (form_of c.set.new.self)) (sym c.in-Ok-true.ensures.set.fields_are)
-    (field_least c.args.fields.now.limits old c.text-field.result.now c.text.result.now (form_of c.args.fields.now) (form_of c.set.new.self) (fresh_none (get old c.text-field.result.now) (sym c.in-Ok-true.field-0-test ∙ c.in-Ok-true.ensures.there)) least c.in-Ok-true.ensures.form)
+    (field_least c.args.fields.now.limits old c.text-field.result.now c.text.result.now (form_of c.args.fields.now) (form_of c.set.new.self)
+    (fresh_none (get old c.text-field.result.now) (sym c.in-Ok-true.field-0-test ∙ c.in-Ok-true.ensures.there)) least c.in-Ok-true.ensures.form)
 
 pub returns-in-Ok-false-clause-adds : goal.returns-in-Ok-false-clause-adds
 returns-in-Ok-false-clause-adds g c =

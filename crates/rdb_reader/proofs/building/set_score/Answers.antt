@@ -31,7 +31,9 @@ returns-in-None-clause-adds g c =
     let old = scores (g.B.BlockStore.blocks c.args.store.now) c.args.scored.now in
     let text = text_of c.in-Ok.read.0 in
     let fresh : true ≡ not (is_some (get old text)) = none_fresh (get old text) (ap (get old) (sym c.text-member.ensures) ∙ sym c.score.ensures ∙ c.in-None.is) in
-    rw c.refused-in-None.ensures (score_fails c.args.bytes.now c.args.at c.in-Ok.read.1 text c.in-Ok.ensures.string old c.in-Err-next_score.fault.kind c.in-Err-next_score.fault.at c.in-Err-next_score.ensures.fault fresh)
+    rw c.refused-in-None.ensures
+    (score_fails c.args.bytes.now c.args.at c.in-Ok.read.1 text c.in-Ok.ensures.string old c.in-Err-next_score.fault.kind c.in-Err-next_score.fault.at c.in-Err-next_score.ensures.fault
+    fresh)
 
 pub returns-in-Ok-true-clause-adds : goal.returns-in-Ok-true-clause-adds
 returns-in-Ok-true-clause-adds g c =
@@ -39,8 +41,10 @@ returns-in-Ok-true-clause-adds g c =
     let new = scores (g.B.BlockStore.blocks c.set.new.store) c.set.new.self in
     let text = text_of c.in-Ok.read.0 in
     let fresh : true ≡ not (is_some (get old text)) = sym c.in-Ok-true.field-0-test ∙ c.in-Ok-true.ensures.there ∙ ap (λ t. not (is_some (get old t))) c.text-member.ensures in
-    let is : new ≡ insert old text c.in-Ok-next_score.read.0 = c.in-Ok-true.ensures.set.scores_are ∙ (λ i. insert old (c.text-member.ensures i) (to_z-of_z w64 c.in-Ok-next_score.read.0 c.in-Ok-next_score.ensures.fits i)) in
-    subst (λ (ms : Map ℤ). Stands (with_one (SortedOf old)) (SortedOf ms) c.args.bytes.now c.args.at c.in-Ok-next_score.read.1) (sym is) (score_set c.args.bytes.now c.args.at c.in-Ok.read.1 text c.in-Ok.ensures.string old c.in-Ok-next_score.read.0 c.in-Ok-next_score.read.1 c.in-Ok-next_score.ensures.score fresh)
+    let is : new ≡ insert old text c.in-Ok-next_score.read.0 = c.in-Ok-true.ensures.set.scores_are
+    ∙ (λ i. insert old (c.text-member.ensures i) (to_z-of_z w64 c.in-Ok-next_score.read.0 c.in-Ok-next_score.ensures.fits i)) in
+    subst (λ (ms : Map ℤ). Stands (with_one (SortedOf old)) (SortedOf ms) c.args.bytes.now c.args.at c.in-Ok-next_score.read.1) (sym is)
+    (score_set c.args.bytes.now c.args.at c.in-Ok.read.1 text c.in-Ok.ensures.string old c.in-Ok-next_score.read.0 c.in-Ok-next_score.read.1 c.in-Ok-next_score.ensures.score fresh)
 
 pub returns-in-Ok-true-clause-form : goal.returns-in-Ok-true-clause-form
 returns-in-Ok-true-clause-form g c least =

@@ -71,7 +71,9 @@ returns-in-Err-read_laid-clause-reads g c =
     let bases = c.args.keyspace.now.bases in
     let mid = g.B.BlockStore.blocks c.read_laid.new.store in
     let after = g.B.BlockStore.blocks c.release.new.store in
-    unfilled c.args.bytes.now c.args.moment (means c.args.db bases m) (means c.args.db bases after) (text_of c.args.name.now) c.args.layout c.args.at c.args.deadline (value_of m c.in-Ok.made) (value_of mid c.read_laid.new.value) (c.in-Ok.ensures.means m ∙ ap without_any c.kind_of.ensures) c.in-Err-read_laid.fault c.in-Err-read_laid.ensures.fills
+    unfilled c.args.bytes.now c.args.moment (means c.args.db bases m) (means c.args.db bases after) (text_of c.args.name.now) c.args.layout c.args.at c.args.deadline
+    (value_of m c.in-Ok.made) (value_of mid c.read_laid.new.value) (c.in-Ok.ensures.means m ∙ ap without_any c.kind_of.ensures) c.in-Err-read_laid.fault
+    c.in-Err-read_laid.ensures.fills
 
 pub returns-in-Err-read_laid-clause-sound : goal.returns-in-Err-read_laid-clause-sound
 returns-in-Err-read_laid-clause-sound g c =
@@ -135,9 +137,11 @@ returns-in-Ok-put_made-clause-reads g c =
     let new = means c.args.db c.put_made.new.keyspace.bases (g.B.BlockStore.blocks c.put_made.new.keyspace.store) in
     record {
       value = value_of mid made;
-      stands = subst (λ (v : model.Value). Stands (laid_on c.args.layout v) (value_of mid made) c.args.bytes.now c.args.at c.in-Ok-read_laid.next) (c.in-Ok.ensures.means m ∙ ap without_any c.kind_of.ensures) c.in-Ok-read_laid.ensures.fills;
+      stands = subst (λ (v : model.Value). Stands (laid_on c.args.layout v) (value_of mid made) c.args.bytes.now c.args.at c.in-Ok-read_laid.next)
+          (c.in-Ok.ensures.means m ∙ ap without_any c.kind_of.ensures) c.in-Ok-read_laid.ensures.fills;
       puts = subst (λ (name : List ℕ). Puts c.args.moment (means c.args.db bases m) new name entry c.in-Ok-put_made.put) c.text-name.ensures
-          (subst (λ (w : World). Puts c.args.moment w new c.text-name.result.now entry c.in-Ok-put_made.put) (Made-means bases m mid made c.requires.sound changes c.args.db) c.in-Ok-put_made.ensures.puts);
+          (subst (λ (w : World). Puts c.args.moment w new c.text-name.result.now entry c.in-Ok-put_made.put) (Made-means bases m mid made c.requires.sound changes c.args.db)
+          c.in-Ok-put_made.ensures.puts);
     }
 
 pub returns-in-Ok-put_made-clause-sound : goal.returns-in-Ok-put_made-clause-sound
@@ -156,7 +160,8 @@ returns-in-Ok-put_made-clause-within g c =
     let mid = g.B.BlockStore.blocks c.read_laid.new.store in
     let made = c.read_laid.new.value in
     let changes = subst (λ (xs : List BlockRef). Changes m mid xs (value_refs mid made)) (c.in-Ok.ensures.refs m) c.read_laid.ensures.changes in
-    further any_key bases bases c.put_made.new.keyspace.bases m mid (g.B.BlockStore.blocks c.put_made.new.keyspace.store) (store_within bases m mid [] [] (value_refs mid made) c.requires.sound changes (whole_part [])) c.put_made.ensures.within
+    further any_key bases bases c.put_made.new.keyspace.bases m mid (g.B.BlockStore.blocks c.put_made.new.keyspace.store)
+    (store_within bases m mid [] [] (value_refs mid made) c.requires.sound changes (whole_part [])) c.put_made.ensures.within
 
 pub returns-in-Err-put_made-clause-sound : goal.returns-in-Err-put_made-clause-sound
 returns-in-Err-put_made-clause-sound g c = c.put_made.ensures.sound
@@ -174,7 +179,8 @@ returns-in-Err-put_made-clause-within g c =
     let mid = g.B.BlockStore.blocks c.read_laid.new.store in
     let made = c.read_laid.new.value in
     let changes = subst (λ (xs : List BlockRef). Changes m mid xs (value_refs mid made)) (c.in-Ok.ensures.refs m) c.read_laid.ensures.changes in
-    further any_key bases bases c.put_made.new.keyspace.bases m mid (g.B.BlockStore.blocks c.put_made.new.keyspace.store) (store_within bases m mid [] [] (value_refs mid made) c.requires.sound changes (whole_part [])) c.put_made.ensures.within
+    further any_key bases bases c.put_made.new.keyspace.bases m mid (g.B.BlockStore.blocks c.put_made.new.keyspace.store)
+    (store_within bases m mid [] [] (value_refs mid made) c.requires.sound changes (whole_part [])) c.put_made.ensures.within
 
 pub returns-in-Ok-put_made-clause-form : goal.returns-in-Ok-put_made-clause-form
 returns-in-Ok-put_made-clause-form g c = λ news.

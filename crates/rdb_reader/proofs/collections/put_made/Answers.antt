@@ -28,7 +28,8 @@ pub returns-in_ok-put-in-Kept-clause-form : goal.returns-in_ok-put-in-Kept-claus
 returns-in_ok-put-in-Kept-clause-form g c = λ is.
     let m = g.B.BlockStore.blocks c.args.keyspace.now.store in
     let sound = c.put.ensures.sound (value_refs m c.args.value) [] c.requires.beside (all_parts _) in
-    put_new {E = Unit {0}} c.args.db c.args.name.now c.args.value (value_of m c.args.value) c.args.deadline c.args.keyspace.now.bases c.put.new.self.bases m _ is c.put.ensures.settings.limits c.put.ensures.within sound.arranged (Ok tt) c.in_ok-put-in-Kept.ensures.means c.in_ok-put-in-Kept.ensures.has
+    put_new {E = Unit {0}} c.args.db c.args.name.now c.args.value (value_of m c.args.value) c.args.deadline c.args.keyspace.now.bases c.put.new.self.bases m _ is
+    c.put.ensures.settings.limits c.put.ensures.within sound.arranged (Ok tt) c.in_ok-put-in-Kept.ensures.means c.in_ok-put-in-Kept.ensures.has
 
 pub release-requires-clause-owned : goal.release-requires-clause-owned
 release-requires-clause-owned g c = beside_owned c.args.keyspace.now.bases (g.B.BlockStore.blocks c.args.keyspace.now.store) c.args.value c.requires.beside
@@ -38,17 +39,24 @@ release-requires-clause-sound g c = (c.args.keyspace.now.bases.limits, c.args.ke
 
 pub returns-in-Passed-clause-puts : goal.returns-in-Passed-clause-puts
 returns-in-Passed-clause-puts g c =
-    let k = rw c.in-Passed.is at c.fate.ensures in
-    (k.0, k.1, given_means c.args.keyspace.now.bases (g.B.BlockStore.blocks c.args.keyspace.now.store) (g.B.BlockStore.blocks c.release.new.store) (value_refs (g.B.BlockStore.blocks c.args.keyspace.now.store) c.args.value) c.requires.beside c.release.ensures.changes c.args.db)
+    let k = rw c.in-Passed.is at c.fate.ensures in (
+      k.0,
+      k.1,
+      given_means c.args.keyspace.now.bases (g.B.BlockStore.blocks c.args.keyspace.now.store) (g.B.BlockStore.blocks c.release.new.store)
+          (value_refs (g.B.BlockStore.blocks c.args.keyspace.now.store) c.args.value) c.requires.beside c.release.ensures.changes c.args.db,
+    )
 
 pub returns-in-Passed-clause-sound : goal.returns-in-Passed-clause-sound
-returns-in-Passed-clause-sound g c = given_sound c.args.keyspace.now.bases (g.B.BlockStore.blocks c.args.keyspace.now.store) (g.B.BlockStore.blocks c.release.new.store) (value_refs (g.B.BlockStore.blocks c.args.keyspace.now.store) c.args.value) c.requires.beside c.release.ensures.changes
+returns-in-Passed-clause-sound g c = given_sound c.args.keyspace.now.bases (g.B.BlockStore.blocks c.args.keyspace.now.store) (g.B.BlockStore.blocks c.release.new.store)
+    (value_refs (g.B.BlockStore.blocks c.args.keyspace.now.store) c.args.value) c.requires.beside c.release.ensures.changes
 
 pub returns-in-Passed-clause-within : goal.returns-in-Passed-clause-within
-returns-in-Passed-clause-within g c = given_within c.args.keyspace.now.bases (g.B.BlockStore.blocks c.args.keyspace.now.store) (g.B.BlockStore.blocks c.release.new.store) (value_refs (g.B.BlockStore.blocks c.args.keyspace.now.store) c.args.value) c.requires.beside c.release.ensures.changes
+returns-in-Passed-clause-within g c = given_within c.args.keyspace.now.bases (g.B.BlockStore.blocks c.args.keyspace.now.store) (g.B.BlockStore.blocks c.release.new.store)
+    (value_refs (g.B.BlockStore.blocks c.args.keyspace.now.store) c.args.value) c.requires.beside c.release.ensures.changes
 
 pub returns-in-Passed-clause-form : goal.returns-in-Passed-clause-form
-returns-in-Passed-clause-form g c = λ is. given_new c.args.keyspace.now.bases (g.B.BlockStore.blocks c.args.keyspace.now.store) (g.B.BlockStore.blocks c.release.new.store) (value_refs (g.B.BlockStore.blocks c.args.keyspace.now.store) c.args.value) c.requires.beside c.release.ensures.changes
+returns-in-Passed-clause-form g c = λ is. given_new c.args.keyspace.now.bases (g.B.BlockStore.blocks c.args.keyspace.now.store) (g.B.BlockStore.blocks c.release.new.store)
+    (value_refs (g.B.BlockStore.blocks c.args.keyspace.now.store) c.args.value) c.requires.beside c.release.ensures.changes
 
 pub release-requires-in-Twice-clause-owned : goal.release-requires-in-Twice-clause-owned
 release-requires-in-Twice-clause-owned g c = beside_owned c.args.keyspace.now.bases (g.B.BlockStore.blocks c.args.keyspace.now.store) c.args.value c.requires.beside
@@ -60,10 +68,13 @@ pub returns-in-Twice-clause-puts : goal.returns-in-Twice-clause-puts
 returns-in-Twice-clause-puts g c = rw c.in-Twice.is at c.fate.ensures
 
 pub returns-in-Twice-clause-sound : goal.returns-in-Twice-clause-sound
-returns-in-Twice-clause-sound g c = given_sound c.args.keyspace.now.bases (g.B.BlockStore.blocks c.args.keyspace.now.store) (g.B.BlockStore.blocks c.release-in-Twice.new.store) (value_refs (g.B.BlockStore.blocks c.args.keyspace.now.store) c.args.value) c.requires.beside c.release-in-Twice.ensures.changes
+returns-in-Twice-clause-sound g c = given_sound c.args.keyspace.now.bases (g.B.BlockStore.blocks c.args.keyspace.now.store) (g.B.BlockStore.blocks c.release-in-Twice.new.store)
+    (value_refs (g.B.BlockStore.blocks c.args.keyspace.now.store) c.args.value) c.requires.beside c.release-in-Twice.ensures.changes
 
 pub returns-in-Twice-clause-within : goal.returns-in-Twice-clause-within
-returns-in-Twice-clause-within g c = given_within c.args.keyspace.now.bases (g.B.BlockStore.blocks c.args.keyspace.now.store) (g.B.BlockStore.blocks c.release-in-Twice.new.store) (value_refs (g.B.BlockStore.blocks c.args.keyspace.now.store) c.args.value) c.requires.beside c.release-in-Twice.ensures.changes
+returns-in-Twice-clause-within g c = given_within c.args.keyspace.now.bases (g.B.BlockStore.blocks c.args.keyspace.now.store) (g.B.BlockStore.blocks c.release-in-Twice.new.store)
+    (value_refs (g.B.BlockStore.blocks c.args.keyspace.now.store) c.args.value) c.requires.beside c.release-in-Twice.ensures.changes
 
 pub returns-in-Twice-clause-form : goal.returns-in-Twice-clause-form
-returns-in-Twice-clause-form g c = λ is. given_new c.args.keyspace.now.bases (g.B.BlockStore.blocks c.args.keyspace.now.store) (g.B.BlockStore.blocks c.release-in-Twice.new.store) (value_refs (g.B.BlockStore.blocks c.args.keyspace.now.store) c.args.value) c.requires.beside c.release-in-Twice.ensures.changes
+returns-in-Twice-clause-form g c = λ is. given_new c.args.keyspace.now.bases (g.B.BlockStore.blocks c.args.keyspace.now.store) (g.B.BlockStore.blocks c.release-in-Twice.new.store)
+    (value_refs (g.B.BlockStore.blocks c.args.keyspace.now.store) c.args.value) c.requires.beside c.release-in-Twice.ensures.changes

@@ -3,7 +3,8 @@ use Rattle.rdb_reader.proofs.Fetched.{long_more, taken_on, taken_so_far}
 use Rattle.rdb_reader.proofs.fetch.take_all.Goals as goal
 
 pub returns-then-len-limit-clause-fetches : goal.returns-then-len-limit-clause-fetches
-returns-then-len-limit-clause-fetches g c = long_more _ _ _ c.pieces.bytes.items c.take_piece.new.bytes.items c.args.limit _ c.pieces.invariant.took c.in-Piece.ensures.takes (omega (arith, c.len-in-pieces.ensures, c.if-len-limit.true))
+returns-then-len-limit-clause-fetches g c = long_more _ _ _ c.pieces.bytes.items c.take_piece.new.bytes.items c.args.limit _ c.pieces.invariant.took c.in-Piece.ensures.takes
+    (omega (arith, c.len-in-pieces.ensures, c.if-len-limit.true))
 
 pub returns-in-End-clause-few : goal.returns-in-End-clause-few
 returns-in-End-clause-few g c = taken_on _ _ _ c.pieces.bytes.items c.args.limit c.pieces.invariant.took c.pieces.invariant.within [] 0 c.in-End.ensures.takes.0 (omega arith) (omega arith)

@@ -60,4 +60,5 @@ returns-in-Err-read_key-clause-reads g c =
     let blocks = g.B.BlockStore.blocks in
     let old = c.args.keyspace.now in
     let new = c.read_key.new.keyspace in
-    key_fault c.args.bytes.now c.args.moment (means 0 old.bases (blocks old.store)) c.args.so_far c.requires.held (means c.args.so_far.db old.bases (blocks old.store)) (means c.args.so_far.db new.bases (blocks new.store)) (means 0 new.bases (blocks new.store)) (text_of c.in-Key.name) c.in-Err-read_key.fault c.in-Err-read_key.ensures.reads
+    key_fault c.args.bytes.now c.args.moment (means 0 old.bases (blocks old.store)) c.args.so_far c.requires.held (means c.args.so_far.db old.bases (blocks old.store))
+    (means c.args.so_far.db new.bases (blocks new.store)) (means 0 new.bases (blocks new.store)) (text_of c.in-Key.name) c.in-Err-read_key.fault c.in-Err-read_key.ensures.reads

@@ -29,10 +29,12 @@ pub returns-in-Ok-clause-reads : goal.returns-in-Ok-clause-reads
 returns-in-Ok-clause-reads g c = record { value = Str (text_of c.in-Text.text); stands = rw c.in-Text.is at c.requires.stands; puts = c.in-Ok.ensures.puts }
 
 pub returns-in-Err-clause-reads : goal.returns-in-Err-clause-reads
-returns-in-Err-clause-reads g c = inl (record { name = text_of c.args.name.now; value = Str (text_of c.in-Text.text); next = c.args.next; stands = rw c.in-Text.is at c.requires.stands; in_time = c.in-Err.ensures.memory })
+returns-in-Err-clause-reads g c = inl
+    (record { name = text_of c.args.name.now; value = Str (text_of c.in-Text.text); next = c.args.next; stands = rw c.in-Text.is at c.requires.stands; in_time = c.in-Err.ensures.memory })
 
 pub returns-in-Laid-clause-reads : goal.returns-in-Laid-clause-reads
-returns-in-Laid-clause-reads g c = collection_key c.args.bytes.now c.args.moment c.args.so_far _ _ (text_of c.args.name.now) _ c.args.next (rw c.in-Laid.is at c.requires.stands) c.put_collection.result c.put_collection.ensures.reads
+returns-in-Laid-clause-reads g c = collection_key c.args.bytes.now c.args.moment c.args.so_far _ _ (text_of c.args.name.now) _ c.args.next (rw c.in-Laid.is at c.requires.stands)
+    c.put_collection.result c.put_collection.ensures.reads
 
 pub returns-in-Ok-clause-sound : goal.returns-in-Ok-clause-sound
 returns-in-Ok-clause-sound g c = c.put_key.ensures.sound

@@ -8,7 +8,14 @@ use Rattle.rdb_reader.proofs.Clears.{next_cleared, all_cleared}
 use Rattle.rdb_reader.proofs.loading.clear_all.Goals as goal
 
 pub databases-init : goal.databases-init
-databases-init g c = record { cleared = λ k below. absurd (omega (arith, below)); sound = c.requires; served = no_step; settings = record { limits = refl; seed = refl; turn = refl }; within = unmoved anything c.args.keyspace.now.bases (g.B.BlockStore.blocks c.args.keyspace.now.store) }
+databases-init g c = record {
+  cleared = λ k below. absurd (omega (arith, below));
+  sound = c.requires;
+  served = no_step;
+  settings = record { limits = refl; seed = refl; turn = refl };
+  within =
+      unmoved anything c.args.keyspace.now.bases (g.B.BlockStore.blocks c.args.keyspace.now.store);
+}
 
 pub databases-preserved : goal.databases-preserved
 databases-preserved g c =
@@ -19,7 +26,8 @@ databases-preserved g c =
       cleared = next_cleared before.bases after.bases (blocks before.store) (blocks after.store) c.databases.db c.clear.ensures.means c.databases.invariant.cleared;
       sound = c.clear.ensures.sound [] c.databases.invariant.sound;
       served = Served-then _ _ _ c.databases.invariant.served c.clear.ensures.served;
-      within = further anything c.args.keyspace.now.bases before.bases after.bases (blocks c.args.keyspace.now.store) (blocks before.store) (blocks after.store) c.databases.invariant.within (unbound (all_keys c.databases.db) before.bases after.bases (blocks before.store) (blocks after.store) c.clear.ensures.within);
+      within = further anything c.args.keyspace.now.bases before.bases after.bases (blocks c.args.keyspace.now.store) (blocks before.store) (blocks after.store)
+          c.databases.invariant.within (unbound (all_keys c.databases.db) before.bases after.bases (blocks before.store) (blocks after.store) c.clear.ensures.within);
       settings = settings_then c.args.keyspace.now.bases before.bases after.bases c.databases.invariant.settings c.clear.ensures.settings;
     }
 

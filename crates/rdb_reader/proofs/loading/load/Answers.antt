@@ -22,7 +22,10 @@ returns-in-Ok-read_items-clause-few g c = c.in-Ok.ensures.few
 
 pub returns-clause-few : goal.returns-clause-few
 returns-clause-few g c =
-    subst (TakesFile (g.H.Host.seen c.args.host.now).files c.args.name.now c.args.limit (g.H.Host.seen c.fetch.new.host)) (sym (read_failed c.as_slice.result.now c.args.moment (means 0 c.read_items.new.keyspace.bases (g.B.BlockStore.blocks c.read_items.new.keyspace.store)) c.in-Err-read_items.fault c.in-Err-read_items.ensures.reads)) c.in-Ok.ensures.few
+    subst (TakesFile (g.H.Host.seen c.args.host.now).files c.args.name.now c.args.limit (g.H.Host.seen c.fetch.new.host))
+    (sym
+    (read_failed c.as_slice.result.now c.args.moment (means 0 c.read_items.new.keyspace.bases (g.B.BlockStore.blocks c.read_items.new.keyspace.store)) c.in-Err-read_items.fault
+    c.in-Err-read_items.ensures.reads)) c.in-Ok.ensures.few
 
 pub returns-clause-within : goal.returns-clause-within
 returns-clause-within g c =
@@ -30,4 +33,5 @@ returns-clause-within g c =
     let old = c.args.keyspace.now in
     let mid = c.read_items.new.keyspace in
     let new = c.clear_all.new.keyspace in
-    further anything old.bases mid.bases new.bases (blocks old.store) (blocks mid.store) (blocks new.store) (unbound any_key old.bases mid.bases (blocks old.store) (blocks mid.store) c.read_items.ensures.within) c.clear_all.ensures.within
+    further anything old.bases mid.bases new.bases (blocks old.store) (blocks mid.store) (blocks new.store)
+    (unbound any_key old.bases mid.bases (blocks old.store) (blocks mid.store) c.read_items.ensures.within) c.clear_all.ensures.within

@@ -52,4 +52,5 @@ returns-clause-makes g c =
     let blocks = g.B.BlockStore.blocks in
     let list = texts c.args.pack.now.bytes.now in
     let all = c.len-end.ensures in
-    put_all with_text (ListOf (elements (blocks c.args.store.now) c.args.list.now)) list c.loop.counter (ListOf (elements (blocks c.loop.store) c.loop.list)) (omega (arith, all, c.loop-test.false)) c.loop.invariant.turns
+    put_all with_text (ListOf (elements (blocks c.args.store.now) c.args.list.now)) list c.loop.counter (ListOf (elements (blocks c.loop.store) c.loop.list))
+    (omega (arith, all, c.loop-test.false)) c.loop.invariant.turns

@@ -14,18 +14,22 @@ use Rattle.rdb_reader.proofs.nodes.read_elements.Goals as goal
 pub returns-in-Err-clause-fills : goal.returns-in-Err-clause-fills
 returns-in-Err-clause-fills g c =
     let made = ListOf (elements (g.B.BlockStore.blocks c.args.store.now) c.args.list.now) in
-    rw c.refused.ensures (string_fails c.args.bytes.now c.args.at (texts_on made) (inside-exact string (texts_on made) string-exact (texts_on-decided made)) c.in-Err.fault.kind c.in-Err.fault.at c.in-Err.ensures.fault)
+    rw c.refused.ensures
+    (string_fails c.args.bytes.now c.args.at (texts_on made) (inside-exact string (texts_on made) string-exact (texts_on-decided made)) c.in-Err.fault.kind c.in-Err.fault.at
+    c.in-Err.ensures.fault)
 
 pub returns-in-Ok-unpack_texts-clause-fills : goal.returns-in-Ok-unpack_texts-clause-fills
 returns-in-Ok-unpack_texts-clause-fills g c =
     let made = ListOf (elements (g.B.BlockStore.blocks c.args.store.now) c.args.list.now) in
     let new = ListOf (elements (g.B.BlockStore.blocks c.unpack_texts.new.store) c.unpack_texts.new.list) in
-    payload_stands c.args.bytes.now c.args.at (texts_on made) (inside-exact string (texts_on made) string-exact (texts_on-decided made)) c.in-Ok.read.1 (text_of c.in-Ok.read.0) c.in-Ok.ensures.string new
+    payload_stands c.args.bytes.now c.args.at (texts_on made) (inside-exact string (texts_on made) string-exact (texts_on-decided made)) c.in-Ok.read.1 (text_of c.in-Ok.read.0)
+    c.in-Ok.ensures.string new
     (ap ((texts_on made).found) (sym c.text.ensures) ∙ c.in-Ok-unpack_texts.ensures.makes)
 
 pub returns-in-Err-unpack_texts-clause-fills : goal.returns-in-Err-unpack_texts-clause-fills
 returns-in-Err-unpack_texts-clause-fills g c =
     let made = ListOf (elements (g.B.BlockStore.blocks c.args.store.now) c.args.list.now) in
     let new = ListOf (elements (g.B.BlockStore.blocks c.unpack_texts.new.store) c.unpack_texts.new.list) in
-    payload_broken c.args.bytes.now c.args.at (texts_on made) (inside-exact string (texts_on made) string-exact (texts_on-decided made)) c.in-Ok.read.1 (text_of c.in-Ok.read.0) c.in-Ok.ensures.string new c.in-Err-unpack_texts.fault
+    payload_broken c.args.bytes.now c.args.at (texts_on made) (inside-exact string (texts_on made) string-exact (texts_on-decided made)) c.in-Ok.read.1 (text_of c.in-Ok.read.0)
+    c.in-Ok.ensures.string new c.in-Err-unpack_texts.fault
     (subst (λ (t : List ℕ). Makes ((texts_on made).found t) c.args.at new (Err c.in-Err-unpack_texts.fault)) c.text.ensures c.in-Err-unpack_texts.ensures.makes)

@@ -17,7 +17,9 @@ pub returns-clause-fills : goal.returns-clause-fills
 returns-clause-fills g c =
     let m = g.B.BlockStore.blocks c.args.store.now in
     let was = ap (value_of m) c.in-List.is ∙ ap (λ x. ListOf (chain.elements m x)) (sym c.deref_mut.ensures.value) in
-    subst (λ (v : model.Value). Reads (in_turn with_node c.args.count v) c.args.bytes.now c.args.at (ListOf (chain.elements (g.B.BlockStore.blocks c.read_list.new.store) c.read_list.new.list)) c.read_list.result) (sym was) c.read_list.ensures.fills
+    subst
+    (λ (v : model.Value). Reads (in_turn with_node c.args.count v) c.args.bytes.now c.args.at
+    (ListOf (chain.elements (g.B.BlockStore.blocks c.read_list.new.store) c.read_list.new.list)) c.read_list.result) (sym was) c.read_list.ensures.fills
 
 pub returns-clause-form : goal.returns-clause-form
 returns-clause-form g c = on_ok c.read_list.result (λ rises. λ limits seed sound news.

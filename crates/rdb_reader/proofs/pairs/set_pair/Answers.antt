@@ -19,7 +19,8 @@ pub returns-in-Ok-true-clause-form : goal.returns-in-Ok-true-clause-form
 returns-in-Ok-true-clause-form g c least =
     let old = fields (g.B.BlockStore.blocks c.args.store.now) c.args.fields.now in
     subst (λ (ms : Map (List ℕ)). IsLeast (FitsFields c.args.fields.now.limits ms) (form_of c.set.new.self)) (sym c.in-Ok-true.ensures.set.fields_are)
-    (field_least c.args.fields.now.limits old c.args.field.now c.args.value.now (form_of c.args.fields.now) (form_of c.set.new.self) (fresh_none (get old c.args.field.now) (sym c.in-Ok-true.field-0-test ∙ c.in-Ok-true.ensures.there)) least c.in-Ok-true.ensures.form)
+    (field_least c.args.fields.now.limits old c.args.field.now c.args.value.now (form_of c.args.fields.now) (form_of c.set.new.self)
+    (fresh_none (get old c.args.field.now) (sym c.in-Ok-true.field-0-test ∙ c.in-Ok-true.ensures.there)) least c.in-Ok-true.ensures.form)
 
 pub returns-in-Ok-false-clause-makes : goal.returns-in-Ok-false-clause-makes
 returns-in-Ok-false-clause-makes g c =

@@ -63,7 +63,10 @@ loop-preserved g c =
       sound = c.set_pair.ensures.sound;
       settings = record { limits = c.set_pair.ensures.settings.limits ∙ inv.settings.limits; seed = c.set_pair.ensures.settings.seed ∙ inv.settings.seed };
       form = λ least.
-          subst (λ (limits : Limits). IsLeast (FitsFields limits (fields (blocks c.loop.store) c.loop.fields)) (form_of c.loop.fields) → IsLeast (FitsFields limits (fields (blocks c.set_pair.new.store) c.set_pair.new.fields)) (form_of c.set_pair.new.fields)) inv.settings.limits c.in-Ok.ensures.form (inv.form least);
+          subst
+          (λ (limits : Limits). IsLeast (FitsFields limits (fields (blocks c.loop.store) c.loop.fields)) (form_of c.loop.fields)
+          → IsLeast (FitsFields limits (fields (blocks c.set_pair.new.store) c.set_pair.new.fields)) (form_of c.set_pair.new.fields)) inv.settings.limits c.in-Ok.ensures.form
+          (inv.form least);
       changes = Changes-then _ _ _ _ _ _ inv.changes c.set_pair.ensures.changes;
       served = Served-then _ _ _ inv.served c.set_pair.ensures.served;
     }
@@ -87,7 +90,8 @@ returns-in-Err-clause-makes g c =
     let field = c.text-field.ensures ∙ c.pair_at-pair.ensures.first (2 * i) at ∙ each.0 in
     let value = c.text-value.ensures ∙ c.pair_at-pair.ensures.second (2 * i) at ∙ each.1 in
     let is : (c.text-field.result.now, c.text-value.result.now) ≡ get_or p.pairs i no_pair = λ k. (field k, value k) in
-    makes_as (next_found (paired list) (all_in with_pair first)) (all_in with_pair first p.pairs) c.args.at more (Err c.in-Err.fault) (ap (λ (q : Result (List Pair) LoadKind). next_found q (all_in with_pair first)) p.are)
+    makes_as (next_found (paired list) (all_in with_pair first)) (all_in with_pair first p.pairs) c.args.at more (Err c.in-Err.fault)
+    (ap (λ (q : Result (List Pair) LoadKind). next_found q (all_in with_pair first)) p.are)
     (breaks_on with_pair first p.pairs i no_pair (c.text-field.result.now, c.text-value.result.now) made more more c.args.at inside is inv.turns.1 c.in-Err.fault c.in-Err.ensures.makes)
 
 pub returns-in-Err-clause-settings : goal.returns-in-Err-clause-settings
@@ -105,11 +109,16 @@ returns-clause-makes g c =
     let made = HashOf (fields (blocks c.loop.store) c.loop.fields) in
     let many = c.len-count.ensures in
     let p = inv.turns.0 in
-    ap (λ (q : Result (List Pair) LoadKind). next_found q (all_in with_pair first)) p.are ∙ put_all with_pair first p.pairs c.loop.counter made (omega (arith, p.many, many, c.loop-test.false)) inv.turns.1
+    ap (λ (q : Result (List Pair) LoadKind). next_found q (all_in with_pair first)) p.are
+    ∙ put_all with_pair first p.pairs c.loop.counter made (omega (arith, p.many, many, c.loop-test.false)) inv.turns.1
 
 pub returns-then-count-eq1-clause-makes : goal.returns-then-count-eq1-clause-makes
 returns-then-count-eq1-clause-makes g c =
     let list = texts c.args.pack.now.bytes.now in
     let many = c.len-count.ensures in
     let odd : length list ≡ 2 * (length list / 2) + 1 = omega (arith, many, c.if-count-eq1.true) in
-    rw c.no_payload.ensures (ap (λ (q : Result (List Pair) LoadKind). next_found q (all_in with_pair (HashOf (fields (g.B.BlockStore.blocks c.args.store.now) c.args.fields.now)))) (odd_pairs (length list / 2) list odd), refl)
+    rw c.no_payload.ensures (
+      ap (λ (q : Result (List Pair) LoadKind). next_found q (all_in with_pair (HashOf (fields (g.B.BlockStore.blocks c.args.store.now) c.args.fields.now))))
+          (odd_pairs (length list / 2) list odd),
+      refl,
+    )

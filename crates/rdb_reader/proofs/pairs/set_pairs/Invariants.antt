@@ -22,7 +22,8 @@ invariant-loop g l =
       turns : (p : PairsOf list (length list / 2)) × PutSoFar with_pair first p.pairs l.counter made;
       sound : IsFields (blocks l.store) l.fields;
       settings : KeepsSettings l.fn.fields l.fields;
-      form : IsLeast (FitsFields l.fn.fields.limits (fields (blocks l.fn.store) l.fn.fields)) (form_of l.fn.fields) → IsLeast (FitsFields l.fn.fields.limits (fields (blocks l.store) l.fields)) (form_of l.fields);
+      form : IsLeast (FitsFields l.fn.fields.limits (fields (blocks l.fn.store) l.fn.fields)) (form_of l.fn.fields)
+          → IsLeast (FitsFields l.fn.fields.limits (fields (blocks l.store) l.fields)) (form_of l.fields);
       changes : Changes (blocks l.fn.store) (blocks l.store) (refs l.fn.fields) (refs l.fields);
       served : Served g.B.BlockStore.step l.fn.store l.store;
     }

@@ -73,7 +73,10 @@ loop-preserved g c =
       sound = c.set_scored.ensures.sound;
       settings = record { limits = c.set_scored.ensures.settings.limits ∙ inv.settings.limits; seed = c.set_scored.ensures.settings.seed ∙ inv.settings.seed };
       form = λ least.
-          subst (λ (limits : Limits). IsLeast (FitsScored limits (scores (blocks c.loop.store) c.loop.scored)) (form_of c.loop.scored) → IsLeast (FitsScored limits (scores (blocks c.set_scored.new.store) c.set_scored.new.scored)) (form_of c.set_scored.new.scored)) inv.settings.limits c.in-Ok-set_scored.ensures.form (inv.form least);
+          subst
+          (λ (limits : Limits). IsLeast (FitsScored limits (scores (blocks c.loop.store) c.loop.scored)) (form_of c.loop.scored)
+          → IsLeast (FitsScored limits (scores (blocks c.set_scored.new.store) c.set_scored.new.scored)) (form_of c.set_scored.new.scored)) inv.settings.limits
+          c.in-Ok-set_scored.ensures.form (inv.form least);
       changes = Changes-then _ _ _ _ _ _ inv.changes c.set_scored.ensures.changes;
       served = Served-then _ _ _ inv.served c.set_scored.ensures.served;
     }
@@ -103,11 +106,14 @@ returns-in-Err-set_scored-clause-makes g c =
     let score = score_is c.in-Ok-score_of.score ((get_or ss i no_scored).1) (sym c.in-Ok-score_of.ensures.score ∙ ap score_in text ∙ one.1) in
     let passed = to_z-of_z w64 c.in-Ok-score_of.score c.in-Ok-score_of.ensures.fits ∙ score in
     let is : (c.text-member.result.now, to_z w64 (of_z w64 c.in-Ok-score_of.score)) ≡ get_or ss i no_scored = λ k. (member k, passed k) in
-    makes_as (next_found (next_found (paired list) scored) (all_in with_scored first)) (all_in with_scored first ss) c.args.at more (Err c.in-Err-set_scored.fault) (told_all list p.pairs ss first p.are inv.turns.2)
-    (breaks_on with_scored first ss i no_scored (c.text-member.result.now, to_z w64 (of_z w64 c.in-Ok-score_of.score)) made more more c.args.at inside is inv.turns.3 c.in-Err-set_scored.fault c.in-Err-set_scored.ensures.makes)
+    makes_as (next_found (next_found (paired list) scored) (all_in with_scored first)) (all_in with_scored first ss) c.args.at more (Err c.in-Err-set_scored.fault)
+    (told_all list p.pairs ss first p.are inv.turns.2)
+    (breaks_on with_scored first ss i no_scored (c.text-member.result.now, to_z w64 (of_z w64 c.in-Ok-score_of.score)) made more more c.args.at inside is inv.turns.3
+    c.in-Err-set_scored.fault c.in-Err-set_scored.ensures.makes)
 
 pub returns-in-Err-set_scored-clause-settings : goal.returns-in-Err-set_scored-clause-settings
-returns-in-Err-set_scored-clause-settings g c = record { limits = c.set_scored.ensures.settings.limits ∙ c.loop.invariant.settings.limits; seed = c.set_scored.ensures.settings.seed ∙ c.loop.invariant.settings.seed }
+returns-in-Err-set_scored-clause-settings g c = record
+    { limits = c.set_scored.ensures.settings.limits ∙ c.loop.invariant.settings.limits; seed = c.set_scored.ensures.settings.seed ∙ c.loop.invariant.settings.seed }
 
 pub returns-in-Err-set_scored-clause-changes : goal.returns-in-Err-set_scored-clause-changes
 returns-in-Err-set_scored-clause-changes g c = Changes-then _ _ _ _ _ _ c.loop.invariant.changes c.set_scored.ensures.changes
@@ -130,7 +136,11 @@ returns-then-count-eq1-clause-makes g c =
     let list = texts c.args.pack.now.bytes.now in
     let many = c.len-count.ensures in
     let odd : length list ≡ 2 * (length list / 2) + 1 = omega (arith, many, c.if-count-eq1.true) in
-    rw c.no_payload.ensures (ap (λ (q : Result (List Pair) LoadKind). next_found (next_found q scored) (all_in with_scored (SortedOf (scores (g.B.BlockStore.blocks c.args.store.now) c.args.scored.now)))) (odd_pairs (length list / 2) list odd), refl)
+    rw c.no_payload.ensures (
+      ap (λ (q : Result (List Pair) LoadKind). next_found (next_found q scored) (all_in with_scored (SortedOf (scores (g.B.BlockStore.blocks c.args.store.now) c.args.scored.now))))
+          (odd_pairs (length list / 2) list odd),
+      refl,
+    )
 
 pub returns-in-Err-clause-makes : goal.returns-in-Err-clause-makes
 returns-in-Err-clause-makes g c =

@@ -22,7 +22,8 @@ invariant-loop g l =
       turns : (p : PairsOf list (length list / 2)) × (ss : List Scored) × (scored p.pairs ≡ Ok ss) × PutSoFar with_scored first ss l.counter made;
       sound : IsScored (blocks l.store) l.scored;
       settings : KeepsSettings l.fn.scored l.scored;
-      form : IsLeast (FitsScored l.fn.scored.limits (scores (blocks l.fn.store) l.fn.scored)) (form_of l.fn.scored) → IsLeast (FitsScored l.fn.scored.limits (scores (blocks l.store) l.scored)) (form_of l.scored);
+      form : IsLeast (FitsScored l.fn.scored.limits (scores (blocks l.fn.store) l.fn.scored)) (form_of l.fn.scored)
+          → IsLeast (FitsScored l.fn.scored.limits (scores (blocks l.store) l.scored)) (form_of l.scored);
       changes : Changes (blocks l.fn.store) (blocks l.store) (refs l.fn.scored) (refs l.scored);
       served : Served g.B.BlockStore.step l.fn.store l.store;
     }

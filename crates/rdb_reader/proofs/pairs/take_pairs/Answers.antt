@@ -11,7 +11,8 @@ returns-in-Ok-true g c =
     let can = c.in-Ok-true.ensures.taken.0 c.in-Ok-true.field-0-test in
     let changed = c.take_pack.ensures.set taken in
     record {
-      makes = told_at_once c.args.fields.now.limits (texts c.args.pack.now.bytes.now) (fields (g.B.BlockStore.blocks c.args.store.now) c.args.fields.now) (fields (g.B.BlockStore.blocks c.take_pack.new.store) c.take_pack.new.self) can.fresh can.packable changed.fields_are;
+      makes = told_at_once c.args.fields.now.limits (texts c.args.pack.now.bytes.now) (fields (g.B.BlockStore.blocks c.args.store.now) c.args.fields.now)
+          (fields (g.B.BlockStore.blocks c.take_pack.new.store) c.take_pack.new.self) can.fresh can.packable changed.fields_are;
       sound = changed.sound;
       settings = changed.settings;
       form = λ least. c.take_pack.ensures.form taken;

@@ -45,7 +45,9 @@ loop-index-preserved g c =
       sound = c.join.ensures.sound;
       settings = record { limits = c.join.ensures.settings.limits ∙ inv.settings.limits; seed = c.join.ensures.settings.seed ∙ inv.settings.seed };
       form = λ least.
-          subst (λ (limits : Limits). IsLeast (FitsMembers limits (members (blocks c.loop-index.store) c.loop-index.members)) (form_of c.loop-index.members) → IsLeast (FitsMembers limits (members (blocks c.join.new.store) c.join.new.members)) (form_of c.join.new.members)) inv.settings.limits c.in-Ok.ensures.form (inv.form least);
+          subst
+          (λ (limits : Limits). IsLeast (FitsMembers limits (members (blocks c.loop-index.store) c.loop-index.members)) (form_of c.loop-index.members)
+          → IsLeast (FitsMembers limits (members (blocks c.join.new.store) c.join.new.members)) (form_of c.join.new.members)) inv.settings.limits c.in-Ok.ensures.form (inv.form least);
       changes = Changes-then _ _ _ _ _ _ inv.changes c.join.ensures.changes;
       served = Served-then _ _ _ inv.served c.join.ensures.served;
     }
@@ -65,7 +67,8 @@ returns-in-Err-clause-makes g c =
     breaks_on with_text first list i [] c.text.result.now made more more c.args.at there.0 (text ∙ sym there.1) c.loop-index.invariant.turns c.in-Err.fault c.in-Err.ensures.makes
 
 pub returns-in-Err-clause-settings : goal.returns-in-Err-clause-settings
-returns-in-Err-clause-settings g c = record { limits = c.join.ensures.settings.limits ∙ c.loop-index.invariant.settings.limits; seed = c.join.ensures.settings.seed ∙ c.loop-index.invariant.settings.seed }
+returns-in-Err-clause-settings g c = record
+    { limits = c.join.ensures.settings.limits ∙ c.loop-index.invariant.settings.limits; seed = c.join.ensures.settings.seed ∙ c.loop-index.invariant.settings.seed }
 
 pub returns-in-Err-clause-changes : goal.returns-in-Err-clause-changes
 returns-in-Err-clause-changes g c = Changes-then _ _ _ _ _ _ c.loop-index.invariant.changes c.join.ensures.changes

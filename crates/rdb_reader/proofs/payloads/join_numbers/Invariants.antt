@@ -17,7 +17,8 @@ invariant-loop-index g l =
       turns : PutSoFar with_text first (map canonical l.numbers) l.index (SetOf (members (blocks l.store) l.members));
       sound : IsMembers (blocks l.store) l.members;
       settings : KeepsSettings l.fn.members l.members;
-      form : IsLeast (FitsMembers l.fn.members.limits (members (blocks l.fn.store) l.fn.members)) (form_of l.fn.members) → IsLeast (FitsMembers l.fn.members.limits (members (blocks l.store) l.members)) (form_of l.members);
+      form : IsLeast (FitsMembers l.fn.members.limits (members (blocks l.fn.store) l.fn.members)) (form_of l.fn.members)
+          → IsLeast (FitsMembers l.fn.members.limits (members (blocks l.store) l.members)) (form_of l.members);
       changes : Changes (blocks l.fn.store) (blocks l.store) (refs l.fn.members) (refs l.members);
       served : Served g.B.BlockStore.step l.fn.store l.store;
     }

@@ -42,7 +42,9 @@ loop-preserved g c =
       sound = c.join.ensures.sound;
       settings = record { limits = c.join.ensures.settings.limits ∙ inv.settings.limits; seed = c.join.ensures.settings.seed ∙ inv.settings.seed };
       form = λ least.
-          subst (λ (limits : Limits). IsLeast (FitsMembers limits (members (blocks c.loop.store) c.loop.members)) (form_of c.loop.members) → IsLeast (FitsMembers limits (members (blocks c.join.new.store) c.join.new.members)) (form_of c.join.new.members)) inv.settings.limits c.in-Ok.ensures.form (inv.form least);
+          subst
+          (λ (limits : Limits). IsLeast (FitsMembers limits (members (blocks c.loop.store) c.loop.members)) (form_of c.loop.members)
+          → IsLeast (FitsMembers limits (members (blocks c.join.new.store) c.join.new.members)) (form_of c.join.new.members)) inv.settings.limits c.in-Ok.ensures.form (inv.form least);
       changes = Changes-then _ _ _ _ _ _ inv.changes c.join.ensures.changes;
       served = Served-then _ _ _ inv.served c.join.ensures.served;
     }

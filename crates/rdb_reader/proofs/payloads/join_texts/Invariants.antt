@@ -19,7 +19,8 @@ invariant-loop g l =
       turns : PutSoFar with_text first (texts l.pack.bytes.now) l.counter (SetOf (members (blocks l.store) l.members));
       sound : IsMembers (blocks l.store) l.members;
       settings : KeepsSettings l.fn.members l.members;
-      form : IsLeast (FitsMembers l.fn.members.limits (members (blocks l.fn.store) l.fn.members)) (form_of l.fn.members) → IsLeast (FitsMembers l.fn.members.limits (members (blocks l.store) l.members)) (form_of l.members);
+      form : IsLeast (FitsMembers l.fn.members.limits (members (blocks l.fn.store) l.fn.members)) (form_of l.fn.members)
+          → IsLeast (FitsMembers l.fn.members.limits (members (blocks l.store) l.members)) (form_of l.members);
       changes : Changes (blocks l.fn.store) (blocks l.store) (refs l.fn.members) (refs l.members);
       served : Served g.B.BlockStore.step l.fn.store l.store;
     }

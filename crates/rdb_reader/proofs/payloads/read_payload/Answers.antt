@@ -27,7 +27,9 @@ pub returns-in-Set-clause-fills : goal.returns-in-Set-clause-fills
 returns-in-Set-clause-fills g c =
     let m = g.B.BlockStore.blocks c.args.store.now in
     let was = ap (value_of m) c.in-Set.is ∙ ap (λ x. SetOf (set.members m x)) (sym c.deref_mut.ensures.value) in
-    subst (λ (v : model.Value). Reads (inside string (held c.args.packed v)) c.args.bytes.now c.args.at (SetOf (set.members (g.B.BlockStore.blocks c.read_members.new.store) c.read_members.new.members)) c.read_members.result) (sym was) c.read_members.ensures.fills
+    subst
+    (λ (v : model.Value). Reads (inside string (held c.args.packed v)) c.args.bytes.now c.args.at
+    (SetOf (set.members (g.B.BlockStore.blocks c.read_members.new.store) c.read_members.new.members)) c.read_members.result) (sym was) c.read_members.ensures.fills
 
 pub returns-in-Hash-clause-fills : goal.returns-in-Hash-clause-fills
 returns-in-Hash-clause-fills g c =

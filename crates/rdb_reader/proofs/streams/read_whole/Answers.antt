@@ -19,4 +19,6 @@ read_stream-requires-clause-no_group g c =
     ap (λ (s : Stream). s.groups) (same_stream _ _ is)
 
 pub returns-in-Err-clause-fills : goal.returns-in-Err-clause-fills
-returns-in-Err-clause-fills g c = rw c.not_read.ensures (stream_fails c.args.stream_type c.args.bytes.now c.args.at (StreamOf (stream_of (g.B.BlockStore.blocks c.read_stream.new.store) c.read_stream.new.stream)) c.in-Err.fault c.in-Err.ensures.reads)
+returns-in-Err-clause-fills g c = rw c.not_read.ensures
+    (stream_fails c.args.stream_type c.args.bytes.now c.args.at (StreamOf (stream_of (g.B.BlockStore.blocks c.read_stream.new.store) c.read_stream.new.stream)) c.in-Err.fault
+    c.in-Err.ensures.reads)

@@ -33,7 +33,8 @@ returns-in-Ok-set_pending-clause-reads c =
     let group : group_in c.set_pending.new.self.groups name ≡ with_pending id entry (group_in groups name) =
     ap (λ (s : Log). group_in s.groups name) c.in-Ok-set_pending.ensures.ok ∙ group-changed groups name c.requires.there (with_pending id entry) in
     let left : c.take.new.self ≡ map.remove c.args.unclaimed.now id = c.take.ensures.new in
-    let now : ◌≡◌ {A = Begun} (record { group = with_pending id entry (group_in groups name); unclaimed = map.remove c.args.unclaimed.now id }) (begun_in c.set_pending.new.self.groups name c.take.new.self) =
+    let now : ◌≡◌ {A = Begun} (record { group = with_pending id entry (group_in groups name); unclaimed = map.remove c.args.unclaimed.now id })
+    (begun_in c.set_pending.new.self.groups name c.take.new.self) =
     λ i. record { group = sym group i; unclaimed = sym left i } in
     subst (λ (b : Begun). Stands (with_claim consumer made) b c.args.bytes.now c.args.at c.in-Ok.read.1) now
     (claim_made consumer c.args.bytes.now c.args.at made c.in-Ok.read.1 id c.in-Ok.ensures.id how (sym c.in-Some.ensures.value))

@@ -10,7 +10,8 @@ pub returns-in-Err-clause-reads : goal.returns-in-Err-clause-reads
 returns-in-Err-clause-reads c =
     let name = c.args.name.now in
     let first = begun_in c.args.stream.now.groups name c.args.unclaimed.now in
-    rw c.refused.ensures (count_fails (with_claim c.args.consumer.now) (with_claim-exact c.args.consumer.now) c.args.bytes.now c.args.at first c.in-Err.fault.kind c.in-Err.fault.at c.in-Err.ensures.fault)
+    rw c.refused.ensures
+    (count_fails (with_claim c.args.consumer.now) (with_claim-exact c.args.consumer.now) c.args.bytes.now c.args.at first c.in-Err.fault.kind c.in-Err.fault.at c.in-Err.ensures.fault)
 
 pub returns-in-Err-clause-others : goal.returns-in-Err-clause-others
 returns-in-Err-clause-others c = changes-none c.args.name.now c.args.stream.now c.requires.there

@@ -42,7 +42,8 @@ returns-in-Ok-next_times-clause-reads c =
     let new = begun_in c.read_claims.new.stream.groups name c.read_claims.new.unclaimed in
     let s = subst (λ (text : List ℕ). Stands string text bytes c.args.at c.in-Ok.read.1) (sym c.text-consumer.ensures) c.in-Ok.ensures.string in
     let fresh : not (has_consumer consumer made.group) ≡ true =
-    told-of (λ g. not (has_consumer consumer g)) (get groups name) (group_in groups name) _ (group-there groups name c.requires.there) (sym c.in-Ok-Some-true.field-0-is ∙ c.in-Ok-Some-true.ensures.made) ∙ c.in-Ok-Some-true.field-0-0-test in
+    told-of (λ g. not (has_consumer consumer g)) (get groups name) (group_in groups name) _ (group-there groups name c.requires.there)
+    (sym c.in-Ok-Some-true.field-0-is ∙ c.in-Ok-Some-true.ensures.made) ∙ c.in-Ok-Some-true.field-0-0-test in
     let group : group_in c.add_consumer.new.self.groups name ≡ with_name consumer (group_in groups name) =
     ap (λ (s : Log). group_in s.groups name) c.in-Ok-Some-true.ensures.ok ∙ group-changed groups name c.requires.there (with_name consumer) in
     let next = c.in-Ok-next_times.next in
@@ -65,7 +66,8 @@ returns-in-Err-next_times-clause-reads c =
     let made = begun_in groups name c.args.unclaimed.now in
     let s = subst (λ (text : List ℕ). Stands string text bytes c.args.at c.in-Ok.read.1) (sym c.text-consumer.ensures) c.in-Ok.ensures.string in
     let fresh : not (has_consumer consumer made.group) ≡ true =
-    told-of (λ g. not (has_consumer consumer g)) (get groups name) (group_in groups name) _ (group-there groups name c.requires.there) (sym c.in-Ok-Some-true.field-0-is ∙ c.in-Ok-Some-true.ensures.made) ∙ c.in-Ok-Some-true.field-0-0-test in
+    told-of (λ g. not (has_consumer consumer g)) (get groups name) (group_in groups name) _ (group-there groups name c.requires.there)
+    (sym c.in-Ok-Some-true.field-0-is ∙ c.in-Ok-Some-true.ensures.made) ∙ c.in-Ok-Some-true.field-0-0-test in
     let fault = c.in-Err-next_times.fault in
     rw c.refused-in-Err-next_times.ensures (times_fails c.args.stream_type bytes c.args.at made c.in-Ok.read.1 consumer s fresh fault.kind fault.at c.in-Err-next_times.ensures.fault)
 
@@ -82,7 +84,8 @@ returns-in-Ok-Some-false-clause-reads c =
     let made = begun_in groups name c.args.unclaimed.now in
     let s = subst (λ (text : List ℕ). Stands string text bytes c.args.at c.in-Ok.read.1) (sym c.text-consumer.ensures) c.in-Ok.ensures.string in
     let old : not (has_consumer consumer made.group) ≡ false =
-    told-of (λ g. not (has_consumer consumer g)) (get groups name) (group_in groups name) _ (group-there groups name c.requires.there) (sym c.in-Ok-Some-false.field-0-is ∙ c.in-Ok-Some-false.ensures.made) ∙ c.in-Ok-Some-false.field-0-0-test in
+    told-of (λ g. not (has_consumer consumer g)) (get groups name) (group_in groups name) _ (group-there groups name c.requires.there)
+    (sym c.in-Ok-Some-false.field-0-is ∙ c.in-Ok-Some-false.ensures.made) ∙ c.in-Ok-Some-false.field-0-0-test in
     rw c.no_group.ensures (consumer_twice c.args.stream_type bytes c.args.at made c.in-Ok.read.1 consumer s old)
 
 pub returns-in-Ok-Some-false-clause-others : goal.returns-in-Ok-Some-false-clause-others

@@ -10,7 +10,9 @@ pub returns-in-Err-clause-reads : goal.returns-in-Err-clause-reads
 returns-in-Err-clause-reads c =
     let name = c.args.name.now in
     let first = begun_in c.args.stream.now.groups name c.args.unclaimed.now in
-    rw c.refused.ensures (count_fails (with_consumer c.args.stream_type) (with_consumer-exact c.args.stream_type) c.args.bytes.now c.args.at first c.in-Err.fault.kind c.in-Err.fault.at c.in-Err.ensures.fault)
+    rw c.refused.ensures
+    (count_fails (with_consumer c.args.stream_type) (with_consumer-exact c.args.stream_type) c.args.bytes.now c.args.at first c.in-Err.fault.kind c.in-Err.fault.at
+    c.in-Err.ensures.fault)
 
 pub returns-in-Err-clause-others : goal.returns-in-Err-clause-others
 returns-in-Err-clause-others c = changes-none c.args.name.now c.args.stream.now c.requires.there
@@ -43,7 +45,8 @@ consumers-preserved c =
     let more = begun_in c.read_consumer.new.stream.groups name c.read_consumer.new.unclaimed in
     let turns = subst (λ (n : ℕ). CountsOn one c.args.bytes.now c.args.at first c.consumers.next n made) left c.consumers.invariant.turns in
     record {
-      turns = count_on one (with_consumer-exact c.args.stream_type) c.args.bytes.now c.args.at first c.consumers.next rest made c.in-Ok-read_consumer.behind more turns c.in-Ok-read_consumer.ensures.reads;
+      turns = count_on one (with_consumer-exact c.args.stream_type) c.args.bytes.now c.args.at first c.consumers.next rest made c.in-Ok-read_consumer.behind more turns
+          c.in-Ok-read_consumer.ensures.reads;
       inside = c.in-Ok-read_consumer.ensures.reads.inside;
       there = changes-there name c.consumers.stream c.read_consumer.new.stream c.read_consumer.ensures.others;
       others = changes-then name c.args.stream.now c.consumers.stream c.consumers.invariant.others c.read_consumer.new.stream c.read_consumer.ensures.others;
@@ -60,7 +63,8 @@ returns-in-Err-read_consumer-clause-reads c =
     let made = begun_in c.consumers.stream.groups name c.consumers.unclaimed in
     let more = begun_in c.read_consumer.new.stream.groups name c.read_consumer.new.unclaimed in
     let turns = subst (λ (n : ℕ). CountsOn one c.args.bytes.now c.args.at first c.consumers.next n made) left c.consumers.invariant.turns in
-    part_fails one (with_consumer-exact c.args.stream_type) c.args.bytes.now c.args.at first c.requires.at c.consumers.next rest made more turns c.in-Err-read_consumer.fault c.in-Err-read_consumer.ensures.reads
+    part_fails one (with_consumer-exact c.args.stream_type) c.args.bytes.now c.args.at first c.requires.at c.consumers.next rest made more turns c.in-Err-read_consumer.fault
+    c.in-Err-read_consumer.ensures.reads
 
 pub returns-in-Err-read_consumer-clause-others : goal.returns-in-Err-read_consumer-clause-others
 returns-in-Err-read_consumer-clause-others c = changes-then c.args.name.now c.args.stream.now c.consumers.stream c.consumers.invariant.others c.read_consumer.new.stream c.read_consumer.ensures.others

@@ -31,7 +31,8 @@ pendings-preserved c =
           let first = with group c.args.unclaimed.now in
           let made = with group c.pendings.unclaimed in
           let turns = subst (λ (n : ℕ). CountsOn with_unclaimed c.args.bytes.now c.args.at first c.pendings.next n made) left (c.pendings.invariant.turns group) in
-          count_on with_unclaimed with_unclaimed-exact c.args.bytes.now c.args.at first c.pendings.next rest made c.in-Ok-read_pending.behind (with group c.read_pending.new.unclaimed) turns (c.in-Ok-read_pending.ensures group);
+          count_on with_unclaimed with_unclaimed-exact c.args.bytes.now c.args.at first c.pendings.next rest made c.in-Ok-read_pending.behind (with group c.read_pending.new.unclaimed)
+          turns (c.in-Ok-read_pending.ensures group);
       inside = (c.in-Ok-read_pending.ensures (new_group (0, 0))).inside;
     }
 
@@ -43,7 +44,8 @@ returns-in-Err-read_pending c group =
     let first = with group c.args.unclaimed.now in
     let made = with group c.pendings.unclaimed in
     let turns = subst (λ (n : ℕ). CountsOn with_unclaimed c.args.bytes.now c.args.at first c.pendings.next n made) left (c.pendings.invariant.turns group) in
-    part_fails with_unclaimed with_unclaimed-exact c.args.bytes.now c.args.at first c.requires c.pendings.next rest made (with group c.read_pending.new.unclaimed) turns c.in-Err-read_pending.fault (c.in-Err-read_pending.ensures group)
+    part_fails with_unclaimed with_unclaimed-exact c.args.bytes.now c.args.at first c.requires c.pendings.next rest made (with group c.read_pending.new.unclaimed) turns
+    c.in-Err-read_pending.fault (c.in-Err-read_pending.ensures group)
 
 pub returns : goal.returns
 returns c group =

@@ -6,6 +6,7 @@ use Rattle.rdb_streams.proofs.consumers.read_pendings.Given as goal
 
 abbrev pub invariant-pendings : goal.invariant-pendings
 invariant-pendings l = record {
-  turns : (group : Group) → CountsOn with_unclaimed l.bytes l.at (record { group = group; unclaimed = l.fn.unclaimed }) l.next (l.count - l.counter) (record { group = group; unclaimed = l.unclaimed });
+  turns : (group : Group) → CountsOn with_unclaimed l.bytes l.at (record { group = group; unclaimed = l.fn.unclaimed }) l.next (l.count - l.counter)
+      (record { group = group; unclaimed = l.unclaimed });
   inside : l.next ≤ length l.bytes;
 }

@@ -22,7 +22,8 @@ returns-in-Err-read_pendings-clause-reads c =
     let next = c.in-Ok.read.1 in
     let fault = c.in-Err-read_pendings.fault in
     let pending : Begun = record { group = new_group last; unclaimed = c.read_pendings.new.unclaimed } in
-    let r = subst (λ (u : Claims). Reads (counted with_unclaimed (record { group = new_group last; unclaimed = u })) bytes next pending (Err fault)) c.requires.none (c.in-Err-read_pendings.ensures (new_group last)) in
+    let r = subst (λ (u : Claims). Reads (counted with_unclaimed (record { group = new_group last; unclaimed = u })) bytes next pending (Err fault)) c.requires.none
+    (c.in-Err-read_pendings.ensures (new_group last)) in
     pendings_fail c.args.stream_type c.args.name.now bytes c.args.at next last c.in-Ok.ensures.last pending (c.args.name.now, pending) fault r
 
 pub read_consumers-requires-clause-at : goal.read_consumers-requires-clause-at
@@ -43,10 +44,12 @@ returns-in-Ok-group_create-clause-reads c =
     let middle = c.in-Ok-read_pendings.next in
     let pending : Begun = record { group = new_group last; unclaimed = c.read_pendings.new.unclaimed } in
     let new = begun_in c.read_consumers.new.stream.groups name c.read_consumers.new.unclaimed in
-    let t = subst (λ (u : Claims). Stands (counted with_unclaimed (record { group = new_group last; unclaimed = u })) pending bytes next middle) c.requires.none (c.in-Ok-read_pendings.ensures (new_group last)) in
+    let t = subst (λ (u : Claims). Stands (counted with_unclaimed (record { group = new_group last; unclaimed = u })) pending bytes next middle) c.requires.none
+    (c.in-Ok-read_pendings.ensures (new_group last)) in
     let group : group_in c.group_create.new.self.groups name ≡ new_group last =
     ap (λ (s : Log). group_in s.groups name) c.in-Ok-group_create.ensures.ok ∙ group-created c.args.stream.now.groups name last c.requires.free in
-    let r = subst (λ (g : Group). Reads (counted (with_consumer type) (record { group = g; unclaimed = c.read_pendings.new.unclaimed })) bytes middle new c.read_consumers.result) group c.read_consumers.ensures.reads in
+    let r = subst (λ (g : Group). Reads (counted (with_consumer type) (record { group = g; unclaimed = c.read_pendings.new.unclaimed })) bytes middle new c.read_consumers.result) group
+    c.read_consumers.ensures.reads in
     consumers_read type name bytes c.args.at next last c.in-Ok.ensures.last middle pending t new c.read_consumers.result r
 
 pub returns-in-Ok-group_create-clause-added : goal.returns-in-Ok-group_create-clause-added
@@ -55,4 +58,5 @@ returns-in-Ok-group_create-clause-added c =
     let old = c.args.stream.now in
     let middle = c.group_create.new.self in
     ok-held c.read_consumers.result
-    (changes-then name old middle (changes-created name old middle (pair_of c.in-Ok.read.0) c.requires.free c.in-Ok-group_create.ensures.ok) c.read_consumers.new.stream c.read_consumers.ensures.others)
+    (changes-then name old middle (changes-created name old middle (pair_of c.in-Ok.read.0) c.requires.free c.in-Ok-group_create.ensures.ok) c.read_consumers.new.stream
+    c.read_consumers.ensures.others)

@@ -46,7 +46,8 @@ returns-in-Ok-read_behind_name-clause-reads c =
     let free : is_none (get groups name) ≡ true = last-told (get groups name) c.group_last.result c.is_some.result c.group_last.ensures c.is_some.ensures ∙ ap not c.if-is_some.false in
     let made = begun_in c.read_behind_name.new.stream.groups name c.read_behind_name.new.unclaimed in
     let some : (len made.unclaimed == 0) ≡ false = sym c.is_empty.ensures ∙ c.if-is_empty.false in
-    rw c.no_group-else-is_empty.ensures (group_unclaimed c.args.stream_type groups bytes c.args.at c.in-Ok.read.1 name s free made c.in-Ok-read_behind_name.next c.in-Ok-read_behind_name.ensures.reads some)
+    rw c.no_group-else-is_empty.ensures
+    (group_unclaimed c.args.stream_type groups bytes c.args.at c.in-Ok.read.1 name s free made c.in-Ok-read_behind_name.next c.in-Ok-read_behind_name.ensures.reads some)
 
 pub returns-clause-reads : goal.returns-clause-reads
 returns-clause-reads c =

@@ -49,7 +49,8 @@ returns-in-Err-read_group-clause-reads c m =
     let first = c.args.stream.now.groups in
     let made = c.groups.stream.groups in
     let turns = subst (λ (n : ℕ). CountsOn (with_group type) c.args.bytes.now c.args.at first c.groups.next n made) left c.groups.invariant.turns in
-    part_fails (with_group type) (with_group-exact type) c.args.bytes.now c.args.at first c.requires.at c.groups.next rest made c.read_group.new.stream.groups turns c.in-Err-read_group.fault c.in-Err-read_group.ensures.reads
+    part_fails (with_group type) (with_group-exact type) c.args.bytes.now c.args.at first c.requires.at c.groups.next rest made c.read_group.new.stream.groups turns
+    c.in-Err-read_group.fault c.in-Err-read_group.ensures.reads
 
 pub returns-in-Err-read_group-clause-others : goal.returns-in-Err-read_group-clause-others
 returns-in-Err-read_group-clause-others c m = groups-then c.args.stream.now c.groups.stream c.read_group.new.stream c.groups.invariant.others c.read_group.ensures.others

@@ -57,4 +57,5 @@ returns-in-Err-put_node-clause-reads g c =
     let next = c.in-Ok-next_node.read.1 in
     let payload = c.text.result.now in
     let stands = subst (λ (t : List ℕ). Stands node_string t bytes place next) (sym c.text.ensures) c.in-Ok-next_node.ensures.string in
-    node_not_put bytes c.args.at made place c.in-Ok.read.0 c.in-Ok.ensures.key next payload stands (blocks c.put_node.new.store) c.put_node.new.stream c.in-Err-put_node.fault c.in-Err-put_node.ensures.puts
+    node_not_put bytes c.args.at made place c.in-Ok.read.0 c.in-Ok.ensures.key next payload stands (blocks c.put_node.new.store) c.put_node.new.stream c.in-Err-put_node.fault
+    c.in-Err-put_node.ensures.puts

@@ -27,9 +27,11 @@ pub returns-in-Err-next_marks-clause-reads : goal.returns-in-Err-next_marks-clau
 returns-in-Err-next_marks-clause-reads g c =
     let m = g.B.BlockStore.blocks c.read_nodes.new.store in
     let s = c.read_nodes.new.stream in
-    marks_fail c.args.stream_type c.args.bytes.now c.args.at c.in-Ok.read.0 m s c.in-Ok.read.1 c.in-Ok.ensures.reads c.len.result (c.len.ensures m c.read_nodes.ensures.sound) (StreamOf (stream_of m s)) c.refused.result
+    marks_fail c.args.stream_type c.args.bytes.now c.args.at c.in-Ok.read.0 m s c.in-Ok.read.1 c.in-Ok.ensures.reads c.len.result (c.len.ensures m c.read_nodes.ensures.sound)
+    (StreamOf (stream_of m s)) c.refused.result
     c.in-Err-next_marks.fault.kind c.in-Err-next_marks.fault.at c.refused.ensures
-    (subst (λ (id : Option Id). Fails (marks_with c.args.stream_type c.len.result (is_from id)) c.args.bytes.now c.in-Ok.read.0 c.in-Err-next_marks.fault.kind c.in-Err-next_marks.fault.at) c.bounded-greatest.ensures.same c.in-Err-next_marks.ensures.fault)
+    (subst (λ (id : Option Id). Fails (marks_with c.args.stream_type c.len.result (is_from id)) c.args.bytes.now c.in-Ok.read.0 c.in-Err-next_marks.fault.kind c.in-Err-next_marks.fault.at)
+    c.bounded-greatest.ensures.same c.in-Err-next_marks.ensures.fault)
 
 pub returns-clause-reads : goal.returns-clause-reads
 returns-clause-reads g c =
@@ -39,8 +41,11 @@ returns-clause-reads g c =
     let now = c.read_groups.ensures.others m ∙ ap (λ (x : Log). record x { groups = groups }) c.set_marks.ensures in
     let x = c.in-Ok-next_marks.read.0 in
     let none : (stream_of m c.set_marks.new.self).groups ≡ empty = ap (λ (x : Log). (stream_of m x).groups) c.set_marks.ensures ∙ c.read_nodes.ensures.groups ∙ c.requires.no_group in
-    groups_read c.args.stream_type c.args.bytes.now c.args.at c.in-Ok.read.0 m s c.in-Ok.read.1 c.in-Ok.ensures.reads c.len.result (c.len.ensures m c.read_nodes.ensures.sound) (marks_of x) c.in-Ok-next_marks.read.1
-    (subst (λ (id : Option Id). Stands (marks_with c.args.stream_type c.len.result (is_from id)) (marks_of x) c.args.bytes.now c.in-Ok.read.0 c.in-Ok-next_marks.read.1) c.bounded-greatest.ensures.same c.in-Ok-next_marks.ensures.marks) groups (StreamOf (stream_of m c.read_groups.new.stream)) (ap StreamOf (marked_value m s c.read_groups.new.stream x.last x.deleted x.added groups c.read_nodes.ensures.sound now)) c.read_groups.result
+    groups_read c.args.stream_type c.args.bytes.now c.args.at c.in-Ok.read.0 m s c.in-Ok.read.1 c.in-Ok.ensures.reads c.len.result (c.len.ensures m c.read_nodes.ensures.sound) (marks_of x)
+    c.in-Ok-next_marks.read.1
+    (subst (λ (id : Option Id). Stands (marks_with c.args.stream_type c.len.result (is_from id)) (marks_of x) c.args.bytes.now c.in-Ok.read.0 c.in-Ok-next_marks.read.1)
+    c.bounded-greatest.ensures.same c.in-Ok-next_marks.ensures.marks) groups (StreamOf (stream_of m c.read_groups.new.stream))
+    (ap StreamOf (marked_value m s c.read_groups.new.stream x.last x.deleted x.added groups c.read_nodes.ensures.sound now)) c.read_groups.result
     (subst (λ (gs : Groups). Reads (counted (with_group c.args.stream_type) gs) c.args.bytes.now c.in-Ok-next_marks.read.1 groups c.read_groups.result) none (c.read_groups.ensures.reads m))
 
 pub returns-clause-sound : goal.returns-clause-sound
@@ -53,7 +58,10 @@ returns-clause-sound g c =
     let fits : IsId x.last = record { ms = omega arith; seq = omega arith } in
     let ids = subst (λ (id : Option Id). IfSome id IsId) c.bounded-greatest.ensures.same c.bounded-greatest.ensures.fits in
     let covered = c.in-Ok.ensures.reads.2.covered in
-    let test : is_from c.in-Ok.read.1 (x.last.ms, x.last.seq) ≡ true = last_passes c.args.stream_type c.len.result (is_from c.in-Ok.read.1) (marks_of x) c.args.bytes.now c.in-Ok.read.0 c.in-Ok-next_marks.read.1 (subst (λ (id : Option Id). Stands (marks_with c.args.stream_type c.len.result (is_from id)) (marks_of x) c.args.bytes.now c.in-Ok.read.0 c.in-Ok-next_marks.read.1) c.bounded-greatest.ensures.same c.in-Ok-next_marks.ensures.marks) in
+    let test : is_from c.in-Ok.read.1 (x.last.ms, x.last.seq) ≡ true =
+    last_passes c.args.stream_type c.len.result (is_from c.in-Ok.read.1) (marks_of x) c.args.bytes.now c.in-Ok.read.0 c.in-Ok-next_marks.read.1
+    (subst (λ (id : Option Id). Stands (marks_with c.args.stream_type c.len.result (is_from id)) (marks_of x) c.args.bytes.now c.in-Ok.read.0 c.in-Ok-next_marks.read.1)
+    c.bounded-greatest.ensures.same c.in-Ok-next_marks.ensures.marks) in
     marked_sound m s c.read_groups.new.stream x.last x.deleted x.added groups c.read_nodes.ensures.sound now fits (covered_upto c.in-Ok.read.1 x.last (nodes m s) fits ids covered test)
 
 pub returns-clause-changes : goal.returns-clause-changes
@@ -63,4 +71,5 @@ returns-clause-changes g c =
     let groups : Groups = (stream_of m c.read_groups.new.stream).groups in
     let now = c.read_groups.ensures.others m ∙ ap (λ (x : Log). record x { groups = groups }) c.set_marks.ensures in
     let x = c.in-Ok-next_marks.read.0 in
-    subst (Changes (g.B.BlockStore.blocks c.args.store.now) m (refs (g.B.BlockStore.blocks c.args.store.now) c.args.stream.now)) (sym (marked_refs m s c.read_groups.new.stream x.last x.deleted x.added groups c.read_nodes.ensures.sound now)) c.read_nodes.ensures.changes
+    subst (Changes (g.B.BlockStore.blocks c.args.store.now) m (refs (g.B.BlockStore.blocks c.args.store.now) c.args.stream.now))
+    (sym (marked_refs m s c.read_groups.new.stream x.last x.deleted x.added groups c.read_nodes.ensures.sound now)) c.read_nodes.ensures.changes

@@ -16,5 +16,6 @@ returns-clause-held g c = record {
   sound = subst (λ s. Sound c.shrink.new.self.bases (g.B.BlockStore.blocks s)) (sym c.shrink.ensures.store) (c.shrink.ensures.sound [] c.requires.sound);
   served = subst (Served g.B.BlockStore.step c.args.keyspace.now.store) (sym c.shrink.ensures.store) no_step;
   settings = c.shrink.ensures.settings;
-  within = subst (λ s. Within (no_key c.args.db) c.args.keyspace.now.bases c.shrink.new.self.bases (g.B.BlockStore.blocks c.args.keyspace.now.store) (g.B.BlockStore.blocks s)) (sym c.shrink.ensures.store) c.shrink.ensures.within;
+  within = subst (λ s. Within (no_key c.args.db) c.args.keyspace.now.bases c.shrink.new.self.bases (g.B.BlockStore.blocks c.args.keyspace.now.store) (g.B.BlockStore.blocks s))
+      (sym c.shrink.ensures.store) c.shrink.ensures.within;
 }

@@ -9,7 +9,9 @@ pub loop-other-init : goal.loop-other-init
 loop-other-init g c = record { behind = λ h. cc; before = λ h. refl }
 
 pub returns-then-met : goal.returns-then-met
-returns-then-met g c = sym (ap (λ r. first_of (after_in c.args.at r)) (sym (ap chain_left c.into_iter-other-iterator.ensures.into_iter_gives)) ∙ ap first_of (c.loop-other.invariant.behind c.if-met.true) ∙ ap first_of c.in-Some.ensures.steps)
+returns-then-met g c = sym
+    (ap (λ r. first_of (after_in c.args.at r)) (sym (ap chain_left c.into_iter-other-iterator.ensures.into_iter_gives)) ∙ ap first_of (c.loop-other.invariant.behind c.if-met.true)
+    ∙ ap first_of c.in-Some.ensures.steps)
 
 pub loop-other-preserved : goal.loop-other-preserved
 loop-other-preserved g c =

@@ -14,4 +14,7 @@ behind-requires-clause-size g c = subst IsSize (sym c.buckets-buckets.ensures) (
 pub returns-clause-found : goal.returns-clause-found
 returns-clause-found g c =
     c.in_ok-push_all.ensures.found
-    ∙ ap (λ l. c.args.found.now.items ++ l) (c.chain.ensures ∙ turn_bucket c.args.chains.now.items c.args.chains.now.older c.args.chains.now.newer c.args.cursor c.requires.stand (side_rows c.args.side c.args.chains.now) c.args.cursor c.bucket_of.result (side_size c.args.side c.args.chains.now c.requires.stand) c.requires.table (c.bucket_of.ensures ∙ ap (λ n. c.args.cursor % n) c.buckets-buckets.ensures))
+    ∙ ap (λ l. c.args.found.now.items ++ l)
+    (c.chain.ensures ∙ turn_bucket c.args.chains.now.items c.args.chains.now.older c.args.chains.now.newer c.args.cursor c.requires.stand (side_rows c.args.side c.args.chains.now)
+    c.args.cursor c.bucket_of.result (side_size c.args.side c.args.chains.now c.requires.stand) c.requires.table
+    (c.bucket_of.ensures ∙ ap (λ n. c.args.cursor % n) c.buckets-buckets.ensures))

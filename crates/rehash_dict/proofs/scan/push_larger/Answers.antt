@@ -8,13 +8,17 @@ use Rattle.rehash_dict.proofs.scan.push_larger.Goals as goal
 pub returns-then-next-between-eq0-clause-found : goal.returns-then-next-between-eq0-clause-found
 returns-then-next-between-eq0-clause-found g c =
     let h = c.args.chains.now in
-    let last = turn_last h.items h.older h.newer c.requires.stand c.requires.older c.requires.newer (side_rows c.smaller.result h) (side_rows c.larger-side.result h) c.smaller.ensures c.larger-side.ensures c.buckets.result c.buckets-buckets.result c.loop.next c.in_ok-next.next c.buckets.ensures c.buckets-buckets.ensures c.in_ok-next.ensures.next (c.buckets-buckets.result - c.loop.counter) (omega (arith, c.loop-test.true)) c.if-next-between-eq0.true in
+    let last = turn_last h.items h.older h.newer c.requires.stand c.requires.older c.requires.newer (side_rows c.smaller.result h) (side_rows c.larger-side.result h) c.smaller.ensures
+    c.larger-side.ensures c.buckets.result c.buckets-buckets.result c.loop.next c.in_ok-next.next c.buckets.ensures c.buckets-buckets.ensures c.in_ok-next.ensures.next
+    (c.buckets-buckets.result - c.loop.counter) (omega (arith, c.loop-test.true)) c.if-next-between-eq0.true in
     c.in_ok-next.ensures.found ∙ ap (λ r. c.loop.found.items ++ r.0) (sym last) ∙ c.loop.invariant.all
 
 pub returns-then-next-between-eq0-clause-next : goal.returns-then-next-between-eq0-clause-next
 returns-then-next-between-eq0-clause-next g c =
     let h = c.args.chains.now in
-    let last = turn_last h.items h.older h.newer c.requires.stand c.requires.older c.requires.newer (side_rows c.smaller.result h) (side_rows c.larger-side.result h) c.smaller.ensures c.larger-side.ensures c.buckets.result c.buckets-buckets.result c.loop.next c.in_ok-next.next c.buckets.ensures c.buckets-buckets.ensures c.in_ok-next.ensures.next (c.buckets-buckets.result - c.loop.counter) (omega (arith, c.loop-test.true)) c.if-next-between-eq0.true in
+    let last = turn_last h.items h.older h.newer c.requires.stand c.requires.older c.requires.newer (side_rows c.smaller.result h) (side_rows c.larger-side.result h) c.smaller.ensures
+    c.larger-side.ensures c.buckets.result c.buckets-buckets.result c.loop.next c.in_ok-next.next c.buckets.ensures c.buckets-buckets.ensures c.in_ok-next.ensures.next
+    (c.buckets-buckets.result - c.loop.counter) (omega (arith, c.loop-test.true)) c.if-next-between-eq0.true in
     ap (λ r. r.1) (sym last) ∙ c.loop.invariant.end
 
 pub returns-then-next-between-eq0-clause-kept : goal.returns-then-next-between-eq0-clause-kept
@@ -23,9 +27,14 @@ returns-then-next-between-eq0-clause-kept g c = extends_on _ _ _ c.loop.invarian
 pub loop-preserved : goal.loop-preserved
 loop-preserved g c =
     let h = c.args.chains.now in
-    let on = turn_more h.items h.older h.newer c.requires.stand c.requires.older c.requires.newer (side_rows c.smaller.result h) (side_rows c.larger-side.result h) c.smaller.ensures c.larger-side.ensures c.buckets.result c.buckets-buckets.result c.loop.next c.in_ok-next.next c.buckets.ensures c.buckets-buckets.ensures c.in_ok-next.ensures.next (c.buckets-buckets.result - c.loop.counter) (c.buckets-buckets.result - (c.loop.counter + 1)) (omega (arith, c.loop-test.true)) (omega arith) c.if-next-between-eq0.false in
+    let on = turn_more h.items h.older h.newer c.requires.stand c.requires.older c.requires.newer (side_rows c.smaller.result h) (side_rows c.larger-side.result h) c.smaller.ensures
+    c.larger-side.ensures c.buckets.result c.buckets-buckets.result c.loop.next c.in_ok-next.next c.buckets.ensures c.buckets-buckets.ensures c.in_ok-next.ensures.next
+    (c.buckets-buckets.result - c.loop.counter) (c.buckets-buckets.result - (c.loop.counter + 1)) (omega (arith, c.loop-test.true)) (omega arith) c.if-next-between-eq0.false in
     record {
-      all = ap (λ l. l ++ (walk (larger_of h.older h.newer) (bits_of (length (smaller_of h.older h.newer))) (bits_of (length (larger_of h.older h.newer))) (c.buckets-buckets.result - (c.loop.counter + 1)) c.in_ok-next.next).0) c.in_ok-next.ensures.found ∙ append_assoc c.loop.found.items _ _ ∙ ap (λ r. c.loop.found.items ++ r.0) (sym on) ∙ c.loop.invariant.all;
+      all = ap
+          (λ l. l ++
+          (walk (larger_of h.older h.newer) (bits_of (length (smaller_of h.older h.newer))) (bits_of (length (larger_of h.older h.newer))) (c.buckets-buckets.result - (c.loop.counter + 1))
+          c.in_ok-next.next).0) c.in_ok-next.ensures.found ∙ append_assoc c.loop.found.items _ _ ∙ ap (λ r. c.loop.found.items ++ r.0) (sym on) ∙ c.loop.invariant.all;
       end = ap (λ r. r.1) (sym on) ∙ c.loop.invariant.end;
       kept = extends_on _ _ _ c.loop.invariant.kept c.in_ok-next.ensures.kept;
     }
@@ -34,14 +43,20 @@ pub returns-clause-found : goal.returns-clause-found
 returns-clause-found g c =
     let h = c.args.chains.now in
     let none : c.buckets-buckets.result - c.loop.counter ≡ 0 = omega (arith, c.loop-test.false) in
-    let rest : (walk (larger_of h.older h.newer) (bits_of (length (smaller_of h.older h.newer))) (bits_of (length (larger_of h.older h.newer))) (c.buckets-buckets.result - c.loop.counter) c.loop.next).0 ≡ []
-    = ap (λ n. (walk (larger_of h.older h.newer) (bits_of (length (smaller_of h.older h.newer))) (bits_of (length (larger_of h.older h.newer))) n c.loop.next).0) none ∙ ap (λ r. r.0) (walk_none (larger_of h.older h.newer) _ _ 0 c.loop.next) in
+    let rest :
+    (walk (larger_of h.older h.newer) (bits_of (length (smaller_of h.older h.newer))) (bits_of (length (larger_of h.older h.newer))) (c.buckets-buckets.result - c.loop.counter)
+    c.loop.next).0 ≡ []
+    = ap (λ n. (walk (larger_of h.older h.newer) (bits_of (length (smaller_of h.older h.newer))) (bits_of (length (larger_of h.older h.newer))) n c.loop.next).0) none
+    ∙ ap (λ r. r.0) (walk_none (larger_of h.older h.newer) _ _ 0 c.loop.next) in
     sym (append-nil c.loop.found.items) ∙ ap (λ r. c.loop.found.items ++ r) (sym rest) ∙ c.loop.invariant.all
 
 pub returns-clause-next : goal.returns-clause-next
 returns-clause-next g c =
     let h = c.args.chains.now in
     let none : c.buckets-buckets.result - c.loop.counter ≡ 0 = omega (arith, c.loop-test.false) in
-    let rest : (walk (larger_of h.older h.newer) (bits_of (length (smaller_of h.older h.newer))) (bits_of (length (larger_of h.older h.newer))) (c.buckets-buckets.result - c.loop.counter) c.loop.next).1 ≡ c.loop.next
-    = ap (λ n. (walk (larger_of h.older h.newer) (bits_of (length (smaller_of h.older h.newer))) (bits_of (length (larger_of h.older h.newer))) n c.loop.next).1) none ∙ ap (λ r. r.1) (walk_none (larger_of h.older h.newer) _ _ 0 c.loop.next) in
+    let rest :
+    (walk (larger_of h.older h.newer) (bits_of (length (smaller_of h.older h.newer))) (bits_of (length (larger_of h.older h.newer))) (c.buckets-buckets.result - c.loop.counter)
+    c.loop.next).1 ≡ c.loop.next
+    = ap (λ n. (walk (larger_of h.older h.newer) (bits_of (length (smaller_of h.older h.newer))) (bits_of (length (larger_of h.older h.newer))) n c.loop.next).1) none
+    ∙ ap (λ r. r.1) (walk_none (larger_of h.older h.newer) _ _ 0 c.loop.next) in
     sym rest ∙ c.loop.invariant.end

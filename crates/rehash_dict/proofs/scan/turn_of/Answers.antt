@@ -38,9 +38,12 @@ overflow_sub-result-3 g c =
     let t = told_turn c.args.chains.now.items c.args.chains.now.older c.args.chains.now.newer c.args.cursor c.requires.stand c.args.at c.requires.there
     (λ h. let q = c.if-contains.ensures.1 (subst (λ r. 0 < times c.args.at r) (sym c.turn.ensures) h) in cc) in
     let bits : c.bits-large.result ≡ bits_of (length (larger_of c.args.chains.now.older c.args.chains.now.newer)) = c.bits-large.ensures.bits ∙ ap (λ r. bits_of (length r)) c.larger.ensures in
-    let high : c.place.result / 2 ^ (64 - c.bits-large.result) ≡ place c.in-Some.entry.now.hash / 2 ^ (64 - bits_of (length (larger_of c.args.chains.now.older c.args.chains.now.newer))) = (λ i. c.place.ensures i / 2 ^ (64 - bits i)) in
-    let first : c.place-2.result / 2 ^ (64 - c.bits-large.result) ≡ first_block (bits_of (length (larger_of c.args.chains.now.older c.args.chains.now.newer))) c.args.cursor = (λ i. c.place-2.ensures i / 2 ^ (64 - bits i)) in
-    let number : 1 + (c.place.result / 2 ^ (64 - c.bits-large.result) - c.place-2.result / 2 ^ (64 - c.bits-large.result)) ≡ t.number = (λ i. 1 + (high i - first i)) ∙ sym (t.told _ (sym c.in-Some.ensures)) in
+    let high : c.place.result / 2 ^ (64 - c.bits-large.result) ≡ place c.in-Some.entry.now.hash / 2 ^ (64 - bits_of (length (larger_of c.args.chains.now.older c.args.chains.now.newer))) =
+    (λ i. c.place.ensures i / 2 ^ (64 - bits i)) in
+    let first : c.place-2.result / 2 ^ (64 - c.bits-large.result) ≡ first_block (bits_of (length (larger_of c.args.chains.now.older c.args.chains.now.newer))) c.args.cursor =
+    (λ i. c.place-2.ensures i / 2 ^ (64 - bits i)) in
+    let number : 1 + (c.place.result / 2 ^ (64 - c.bits-large.result) - c.place-2.result / 2 ^ (64 - c.bits-large.result)) ≡ t.number = (λ i. 1 + (high i - first i))
+    ∙ sym (t.told _ (sym c.in-Some.ensures)) in
     omega (arith, t.from _ (sym c.in-Some.ensures))
 
 pub overflow_add-result : goal.overflow_add-result
@@ -48,9 +51,12 @@ overflow_add-result g c =
     let t = told_turn c.args.chains.now.items c.args.chains.now.older c.args.chains.now.newer c.args.cursor c.requires.stand c.args.at c.requires.there
     (λ h. let q = c.if-contains.ensures.1 (subst (λ r. 0 < times c.args.at r) (sym c.turn.ensures) h) in cc) in
     let bits : c.bits-large.result ≡ bits_of (length (larger_of c.args.chains.now.older c.args.chains.now.newer)) = c.bits-large.ensures.bits ∙ ap (λ r. bits_of (length r)) c.larger.ensures in
-    let high : c.place.result / 2 ^ (64 - c.bits-large.result) ≡ place c.in-Some.entry.now.hash / 2 ^ (64 - bits_of (length (larger_of c.args.chains.now.older c.args.chains.now.newer))) = (λ i. c.place.ensures i / 2 ^ (64 - bits i)) in
-    let first : c.place-2.result / 2 ^ (64 - c.bits-large.result) ≡ first_block (bits_of (length (larger_of c.args.chains.now.older c.args.chains.now.newer))) c.args.cursor = (λ i. c.place-2.ensures i / 2 ^ (64 - bits i)) in
-    let number : 1 + (c.place.result / 2 ^ (64 - c.bits-large.result) - c.place-2.result / 2 ^ (64 - c.bits-large.result)) ≡ t.number = (λ i. 1 + (high i - first i)) ∙ sym (t.told _ (sym c.in-Some.ensures)) in
+    let high : c.place.result / 2 ^ (64 - c.bits-large.result) ≡ place c.in-Some.entry.now.hash / 2 ^ (64 - bits_of (length (larger_of c.args.chains.now.older c.args.chains.now.newer))) =
+    (λ i. c.place.ensures i / 2 ^ (64 - bits i)) in
+    let first : c.place-2.result / 2 ^ (64 - c.bits-large.result) ≡ first_block (bits_of (length (larger_of c.args.chains.now.older c.args.chains.now.newer))) c.args.cursor =
+    (λ i. c.place-2.ensures i / 2 ^ (64 - bits i)) in
+    let number : 1 + (c.place.result / 2 ^ (64 - c.bits-large.result) - c.place-2.result / 2 ^ (64 - c.bits-large.result)) ≡ t.number = (λ i. 1 + (high i - first i))
+    ∙ sym (t.told _ (sym c.in-Some.ensures)) in
     let l = later c.args.chains.now.items c.args.chains.now.older c.args.chains.now.newer c.args.cursor c.requires.stand t.number t.within t.positive in
     omega (arith, l.block, pow_le l.large 63 (omega (arith, l.few)))
 
@@ -59,9 +65,12 @@ returns-clause-turn g c =
     let t = told_turn c.args.chains.now.items c.args.chains.now.older c.args.chains.now.newer c.args.cursor c.requires.stand c.args.at c.requires.there
     (λ h. let q = c.if-contains.ensures.1 (subst (λ r. 0 < times c.args.at r) (sym c.turn.ensures) h) in cc) in
     let bits : c.bits-large.result ≡ bits_of (length (larger_of c.args.chains.now.older c.args.chains.now.newer)) = c.bits-large.ensures.bits ∙ ap (λ r. bits_of (length r)) c.larger.ensures in
-    let high : c.place.result / 2 ^ (64 - c.bits-large.result) ≡ place c.in-Some.entry.now.hash / 2 ^ (64 - bits_of (length (larger_of c.args.chains.now.older c.args.chains.now.newer))) = (λ i. c.place.ensures i / 2 ^ (64 - bits i)) in
-    let first : c.place-2.result / 2 ^ (64 - c.bits-large.result) ≡ first_block (bits_of (length (larger_of c.args.chains.now.older c.args.chains.now.newer))) c.args.cursor = (λ i. c.place-2.ensures i / 2 ^ (64 - bits i)) in
-    let number : 1 + (c.place.result / 2 ^ (64 - c.bits-large.result) - c.place-2.result / 2 ^ (64 - c.bits-large.result)) ≡ t.number = (λ i. 1 + (high i - first i)) ∙ sym (t.told _ (sym c.in-Some.ensures)) in
+    let high : c.place.result / 2 ^ (64 - c.bits-large.result) ≡ place c.in-Some.entry.now.hash / 2 ^ (64 - bits_of (length (larger_of c.args.chains.now.older c.args.chains.now.newer))) =
+    (λ i. c.place.ensures i / 2 ^ (64 - bits i)) in
+    let first : c.place-2.result / 2 ^ (64 - c.bits-large.result) ≡ first_block (bits_of (length (larger_of c.args.chains.now.older c.args.chains.now.newer))) c.args.cursor =
+    (λ i. c.place-2.ensures i / 2 ^ (64 - bits i)) in
+    let number : 1 + (c.place.result / 2 ^ (64 - c.bits-large.result) - c.place-2.result / 2 ^ (64 - c.bits-large.result)) ≡ t.number = (λ i. 1 + (high i - first i))
+    ∙ sym (t.told _ (sym c.in-Some.ensures)) in
     omega (arith, t.within)
 
 pub returns-clause-gives : goal.returns-clause-gives
@@ -69,9 +78,12 @@ returns-clause-gives g c =
     let t = told_turn c.args.chains.now.items c.args.chains.now.older c.args.chains.now.newer c.args.cursor c.requires.stand c.args.at c.requires.there
     (λ h. let q = c.if-contains.ensures.1 (subst (λ r. 0 < times c.args.at r) (sym c.turn.ensures) h) in cc) in
     let bits : c.bits-large.result ≡ bits_of (length (larger_of c.args.chains.now.older c.args.chains.now.newer)) = c.bits-large.ensures.bits ∙ ap (λ r. bits_of (length r)) c.larger.ensures in
-    let high : c.place.result / 2 ^ (64 - c.bits-large.result) ≡ place c.in-Some.entry.now.hash / 2 ^ (64 - bits_of (length (larger_of c.args.chains.now.older c.args.chains.now.newer))) = (λ i. c.place.ensures i / 2 ^ (64 - bits i)) in
-    let first : c.place-2.result / 2 ^ (64 - c.bits-large.result) ≡ first_block (bits_of (length (larger_of c.args.chains.now.older c.args.chains.now.newer))) c.args.cursor = (λ i. c.place-2.ensures i / 2 ^ (64 - bits i)) in
-    let number : 1 + (c.place.result / 2 ^ (64 - c.bits-large.result) - c.place-2.result / 2 ^ (64 - c.bits-large.result)) ≡ t.number = (λ i. 1 + (high i - first i)) ∙ sym (t.told _ (sym c.in-Some.ensures)) in
+    let high : c.place.result / 2 ^ (64 - c.bits-large.result) ≡ place c.in-Some.entry.now.hash / 2 ^ (64 - bits_of (length (larger_of c.args.chains.now.older c.args.chains.now.newer))) =
+    (λ i. c.place.ensures i / 2 ^ (64 - bits i)) in
+    let first : c.place-2.result / 2 ^ (64 - c.bits-large.result) ≡ first_block (bits_of (length (larger_of c.args.chains.now.older c.args.chains.now.newer))) c.args.cursor =
+    (λ i. c.place-2.ensures i / 2 ^ (64 - bits i)) in
+    let number : 1 + (c.place.result / 2 ^ (64 - c.bits-large.result) - c.place-2.result / 2 ^ (64 - c.bits-large.result)) ≡ t.number = (λ i. 1 + (high i - first i))
+    ∙ sym (t.told _ (sym c.in-Some.ensures)) in
     subst (λ n. 0 < times c.args.at (turn_at c.args.chains.now.older c.args.chains.now.newer c.args.cursor n)) (sym number) t.there
 
 pub returns-clause-fits : goal.returns-clause-fits
@@ -79,8 +91,11 @@ returns-clause-fits g c =
     let t = told_turn c.args.chains.now.items c.args.chains.now.older c.args.chains.now.newer c.args.cursor c.requires.stand c.args.at c.requires.there
     (λ h. let q = c.if-contains.ensures.1 (subst (λ r. 0 < times c.args.at r) (sym c.turn.ensures) h) in cc) in
     let bits : c.bits-large.result ≡ bits_of (length (larger_of c.args.chains.now.older c.args.chains.now.newer)) = c.bits-large.ensures.bits ∙ ap (λ r. bits_of (length r)) c.larger.ensures in
-    let high : c.place.result / 2 ^ (64 - c.bits-large.result) ≡ place c.in-Some.entry.now.hash / 2 ^ (64 - bits_of (length (larger_of c.args.chains.now.older c.args.chains.now.newer))) = (λ i. c.place.ensures i / 2 ^ (64 - bits i)) in
-    let first : c.place-2.result / 2 ^ (64 - c.bits-large.result) ≡ first_block (bits_of (length (larger_of c.args.chains.now.older c.args.chains.now.newer))) c.args.cursor = (λ i. c.place-2.ensures i / 2 ^ (64 - bits i)) in
-    let number : 1 + (c.place.result / 2 ^ (64 - c.bits-large.result) - c.place-2.result / 2 ^ (64 - c.bits-large.result)) ≡ t.number = (λ i. 1 + (high i - first i)) ∙ sym (t.told _ (sym c.in-Some.ensures)) in
+    let high : c.place.result / 2 ^ (64 - c.bits-large.result) ≡ place c.in-Some.entry.now.hash / 2 ^ (64 - bits_of (length (larger_of c.args.chains.now.older c.args.chains.now.newer))) =
+    (λ i. c.place.ensures i / 2 ^ (64 - bits i)) in
+    let first : c.place-2.result / 2 ^ (64 - c.bits-large.result) ≡ first_block (bits_of (length (larger_of c.args.chains.now.older c.args.chains.now.newer))) c.args.cursor =
+    (λ i. c.place-2.ensures i / 2 ^ (64 - bits i)) in
+    let number : 1 + (c.place.result / 2 ^ (64 - c.bits-large.result) - c.place-2.result / 2 ^ (64 - c.bits-large.result)) ≡ t.number = (λ i. 1 + (high i - first i))
+    ∙ sym (t.told _ (sym c.in-Some.ensures)) in
     let l = later c.args.chains.now.items c.args.chains.now.older c.args.chains.now.newer c.args.cursor c.requires.stand t.number t.within t.positive in
     omega (arith, l.block, pow_le l.large 63 (omega (arith, l.few)))

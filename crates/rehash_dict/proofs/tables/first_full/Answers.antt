@@ -10,7 +10,9 @@ loop-at-init g c k from to = absurd (omega arith)
 
 pub returns-then-not-is_empty : goal.returns-then-not-is_empty
 returns-then-not-is_empty g c =
-    sym (full_found c.args.chains.now.older 10 c.args.position c.loop-at.at c.loop-at.auto.at (omega (arith, c.min-at-end.ensures, c.saturating_add.ensures)) c.loop-at.invariant (λ h. let q = c.if-not-is_empty.ensures.1 h in cc))
+    sym
+    (full_found c.args.chains.now.older 10 c.args.position c.loop-at.at c.loop-at.auto.at (omega (arith, c.min-at-end.ensures, c.saturating_add.ensures)) c.loop-at.invariant
+    (λ h. let q = c.if-not-is_empty.ensures.1 h in cc))
 
 pub loop-at-preserved : goal.loop-at-preserved
 loop-at-preserved g c k from to = elim (cases_eq k c.loop-at.at) [

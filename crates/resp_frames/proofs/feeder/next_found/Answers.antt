@@ -17,4 +17,9 @@ pub passed-preserved : goal.passed-preserved
 passed-preserved c =
     let f = passed_further c.args.bytes.now c.passed.at c.in-Passed.end c.read_request.new.spans.items c.passed.invariant.gives c.passed.invariant.within (rw c.in-Passed.is at c.in_ok-open.ensures) in
     let P : Progress → Type 0 = λ p. Stands (drop (c.passed.at + c.in-Passed.end) c.args.bytes.now) p.read c.read_request.new.spans.items p.due in
-    record { gives = f.gives; within = f.within; stands = subst P (sym c.start-read.ensures) (stands_at_start (drop (c.passed.at + c.in-Passed.end) c.args.bytes.now) c.read_request.new.spans.items f.none) }
+    record {
+      gives = f.gives;
+      within = f.within;
+      stands = subst P (sym c.start-read.ensures)
+          (stands_at_start (drop (c.passed.at + c.in-Passed.end) c.args.bytes.now) c.read_request.new.spans.items f.none);
+    }

@@ -9,4 +9,5 @@ returns-then-text-eq-LONGEST_HEADER c =
 pub returns-then-bytes-text-ne10 : goal.returns-then-bytes-text-ne10
 returns-then-bytes-text-ne10 c =
     let e = c.before_end-text.ensures in
-    no_line_end c.args.bytes.now c.before_end-text.result (record { within = e.within; few = e.few; plain = e.plain; found = e.found }) c.if-text-eq-LONGEST_HEADER.false c.if-text-bytes.false c.if-bytes-text-ne10.true
+    no_line_end c.args.bytes.now c.before_end-text.result (record { within = e.within; few = e.few; plain = e.plain; found = e.found }) c.if-text-eq-LONGEST_HEADER.false
+    c.if-text-bytes.false c.if-bytes-text-ne10.true

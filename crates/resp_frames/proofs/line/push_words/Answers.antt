@@ -7,7 +7,8 @@ words-preserved-then-len-eq0 c =
 
 pub words-preserved : goal.words-preserved
 words-preserved c =
-    lent_word c.args.line.now c.words.spans.items c.push.new.self.items c.words.at c.before_blank-len.result c.words.invariant c.before_blank-len.ensures.within c.before_blank-len.ensures.plain c.before_blank-len.ensures.found
+    lent_word c.args.line.now c.words.spans.items c.push.new.self.items c.words.at c.before_blank-len.result c.words.invariant c.before_blank-len.ensures.within
+    c.before_blank-len.ensures.plain c.before_blank-len.ensures.found
     c.if-len-eq0.false c.in_ok-push.ensures.items
 
 pub returns : goal.returns

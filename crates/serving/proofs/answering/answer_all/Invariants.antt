@@ -8,7 +8,20 @@ use Rattle.serving.proofs.answering.answer_all.Given as goal
 
 abbrev pub invariant-requests : goal.invariant-requests
 invariant-requests g l = record {
-  halves : Halves (TimedStep g.E.Server.executes g.E.Server.works g.E.Server.quits) (TimedCut g.E.Server.executes g.E.Server.works g.E.Server.quits) g.E.Server.quits l.fn.feeder.kept l.feeder.kept (record { engine = l.fn.engine; clock = (goal.Clock-dyn g (l.fn.clock.vtable, l.fn.clock.value)).answers l.fn.clock.value; pacers = following (λ b. (goal.Pacer-dyn g (b.vtable, b.value)).pacing b.value) l.fn.conductor }) (record { engine = l.engine; clock = (goal.Clock-dyn g (l.clock.vtable, l.clock.value)).answers l.clock.value; pacers = following (λ b. (goal.Pacer-dyn g (b.vtable, b.value)).pacing b.value) l.conductor }) (g.O.Sink.seen l.fn.output) (g.O.Sink.seen l.output) (pending_bytes l.pending);
+  halves : Halves (TimedStep g.E.Server.executes g.E.Server.works g.E.Server.quits) (TimedCut g.E.Server.executes g.E.Server.works g.E.Server.quits) g.E.Server.quits l.fn.feeder.kept
+      l.feeder.kept
+      (record {
+        engine = l.fn.engine;
+        clock = (goal.Clock-dyn g (l.fn.clock.vtable, l.fn.clock.value)).answers l.fn.clock.value;
+        pacers =
+            following (λ b. (goal.Pacer-dyn g (b.vtable, b.value)).pacing b.value) l.fn.conductor;
+      })
+      (record {
+        engine = l.engine;
+        clock = (goal.Clock-dyn g (l.clock.vtable, l.clock.value)).answers l.clock.value;
+        pacers =
+            following (λ b. (goal.Pacer-dyn g (b.vtable, b.value)).pacing b.value) l.conductor;
+      }) (g.O.Sink.seen l.fn.output) (g.O.Sink.seen l.output) (pending_bytes l.pending);
   fed : SameFed l.fn.feeder l.feeder;
 }
 

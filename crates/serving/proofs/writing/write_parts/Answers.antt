@@ -9,7 +9,8 @@ pub loop-part-init : goal.loop-part-init
 loop-part-init g c = onward_nothing _ _
 
 pub loop-part-preserved : goal.loop-part-preserved
-loop-part-preserved g c = onward_part part_bytes c.parts-part-items.result.now c.loop-part.part-index c.part-item.result c.loop-part-test.true c.part-item.is _ _ _ _ _ c.loop-part.invariant _ c.in-Ok.ensures
+loop-part-preserved g c = onward_part part_bytes c.parts-part-items.result.now c.loop-part.part-index c.part-item.result c.loop-part-test.true c.part-item.is _ _ _ _ _
+    c.loop-part.invariant _ c.in-Ok.ensures
 
 pub returns-in-Err : goal.returns-in-Err
 returns-in-Err g c =

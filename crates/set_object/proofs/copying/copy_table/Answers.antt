@@ -27,7 +27,8 @@ copy_member-requires-clause-source g c =
 pub copy_member-requires-clause-absent : goal.copy_member-requires-clause-absent
 copy_member-requires-clause-absent g c =
     let e = some_of (item c.args.source.now c.loop-at.at) (c.is_entry.ensures.0 c.if-is_entry.true) in
-    next_absent (g.B.BlockStore.blocks c.args.store.now) (g.B.BlockStore.blocks c.loop-at.store) c.args.seed c.args.source.now c.loop-at.table c.loop-at.at c.requires c.loop-at.invariant.hashed e.0 e.1
+    next_absent (g.B.BlockStore.blocks c.args.store.now) (g.B.BlockStore.blocks c.loop-at.store) c.args.seed c.args.source.now c.loop-at.table c.loop-at.at c.requires
+    c.loop-at.invariant.hashed e.0 e.1
 
 pub returns-in-Err-clause-served : goal.returns-in-Err-clause-served
 returns-in-Err-clause-served g c = Served-then _ _ _ (Served-then _ _ _ c.loop-at.invariant.served c.in-Err.ensures.served) c.end_table.ensures.served
@@ -58,7 +59,8 @@ loop-at-preserved g c =
           rw add-one
           record {
             hashed = subst (λ s. IsHashed m (g.B.BlockStore.blocks s) (no_members c.args.seed) c.if-is_entry.table (set_of (keys_before m t (suc at)))) (sym w.store-is)
-                (subst (λ v. IsHashed m mid (no_members c.args.seed) v (set_of (keys_before m t (suc at)))) (sym w.table-is) (subst (λ s. IsHashed m mid (no_members c.args.seed) u s) same inv.hashed));
+                (subst (λ v. IsHashed m mid (no_members c.args.seed) v (set_of (keys_before m t (suc at)))) (sym w.table-is)
+                (subst (λ s. IsHashed m mid (no_members c.args.seed) u s) same inv.hashed));
             served = subst (Served g.B.BlockStore.step c.args.store.now) (sym w.store-is) inv.served;
           })
     ]

@@ -73,5 +73,6 @@ returns-in-Err-clause-err_blocks g c =
     let mid = g.B.BlockStore.blocks c.loop.store in
     let n = g.B.BlockStore.blocks c.end_table.new.store in
     let ended : Changes mid n (key_refs c.loop.table) [] =
-    subst (λ (b : Blocks). Changes b n (key_refs c.loop.table) []) c.in-Err.ensures.err_blocks (subst (λ t. Changes (g.B.BlockStore.blocks c.hash_element.new.store) n (key_refs t) []) c.in-Err.ensures.err_table c.end_table.ensures.changes) in
+    subst (λ (b : Blocks). Changes b n (key_refs c.loop.table) []) c.in-Err.ensures.err_blocks
+    (subst (λ t. Changes (g.B.BlockStore.blocks c.hash_element.new.store) n (key_refs t) []) c.in-Err.ensures.err_table c.end_table.ensures.changes) in
     all_same m n (Changes-then m mid n [] (key_refs c.loop.table) [] c.loop.invariant.hashed.changes ended)

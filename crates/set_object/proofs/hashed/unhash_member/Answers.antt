@@ -11,7 +11,8 @@ pub returns-in_err-shrink-in-Some-clause-hashed : goal.returns-in_err-shrink-in-
 returns-in_err-shrink-in-Some-clause-hashed g c = λ _.
     let m = g.B.BlockStore.blocks c.args.store.now in
     let n = g.B.BlockStore.blocks c.give_back.new.self in
-    let k = taken_keyed m n c.args.table.now c.remove.new.self c.shrink.new.self c.args.member.now c.in-Some.taken c.requires.keyed c.in-Some.ensures.removed c.in-Some.ensures.keyed c.give_back.ensures.ended in
+    let k = taken_keyed m n c.args.table.now c.remove.new.self c.shrink.new.self c.args.member.now c.in-Some.taken c.requires.keyed c.in-Some.ensures.removed c.in-Some.ensures.keyed
+    c.give_back.ensures.ended in
     taken_hashed m n c.args.table.now c.remove.new.self c.shrink.new.self c.args.member.now c.in-Some.taken c.requires.keyed c.in-Some.ensures.removed c.in-Some.ensures.keyed c.give_back.ensures.ended
     c.remove.ensures.map c.remove.ensures.grown (c.shrink.ensures.keyed n k) c.shrink.ensures.items c.shrink.ensures.seed (c.shrink.ensures.map n) (c.shrink.ensures.grown n)
 
@@ -22,7 +23,8 @@ pub returns-in_ok-shrink-in-Some-clause-hashed : goal.returns-in_ok-shrink-in-So
 returns-in_ok-shrink-in-Some-clause-hashed g c = λ _.
     let m = g.B.BlockStore.blocks c.args.store.now in
     let n = g.B.BlockStore.blocks c.give_back.new.self in
-    let k = taken_keyed m n c.args.table.now c.remove.new.self c.shrink.new.self c.args.member.now c.in-Some.taken c.requires.keyed c.in-Some.ensures.removed c.in-Some.ensures.keyed c.give_back.ensures.ended in
+    let k = taken_keyed m n c.args.table.now c.remove.new.self c.shrink.new.self c.args.member.now c.in-Some.taken c.requires.keyed c.in-Some.ensures.removed c.in-Some.ensures.keyed
+    c.give_back.ensures.ended in
     taken_hashed m n c.args.table.now c.remove.new.self c.shrink.new.self c.args.member.now c.in-Some.taken c.requires.keyed c.in-Some.ensures.removed c.in-Some.ensures.keyed c.give_back.ensures.ended
     c.remove.ensures.map c.remove.ensures.grown (c.shrink.ensures.keyed n k) c.shrink.ensures.items c.shrink.ensures.seed (c.shrink.ensures.map n) (c.shrink.ensures.grown n)
 

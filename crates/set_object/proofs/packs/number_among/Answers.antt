@@ -17,12 +17,14 @@ found ns n b text fit small both is = text_among ns n b fit small both ∙ ap (�
 pub returns-then-has_number-clause-there : goal.returns-then-has_number-clause-there
 returns-then-has_number-clause-there c =
     let small : mag c.in-Some.n < 2 ^ 63 = (rw c.in-Some.is at c.read_i64.type_inv).1.1.1.1.0.1 in
-    sym c.if-has_number.true ∙ found (numbers_of c.args.bytes.now) c.in-Some.n c.has_number.result c.args.member.now c.requires.fit small (rw (to_z-of_z w64 c.in-Some.n (record { sfits = small })) at c.has_number.ensures) c.in-Some.ensures.number
+    sym c.if-has_number.true ∙ found (numbers_of c.args.bytes.now) c.in-Some.n c.has_number.result c.args.member.now c.requires.fit small
+    (rw (to_z-of_z w64 c.in-Some.n (record { sfits = small })) at c.has_number.ensures) c.in-Some.ensures.number
 
 pub returns-else-has_number-clause-there : goal.returns-else-has_number-clause-there
 returns-else-has_number-clause-there c =
     let small : mag c.in-Some.n < 2 ^ 63 = (rw c.in-Some.is at c.read_i64.type_inv).1.1.1.1.0.1 in
-    sym c.if-has_number.false ∙ found (numbers_of c.args.bytes.now) c.in-Some.n c.has_number.result c.args.member.now c.requires.fit small (rw (to_z-of_z w64 c.in-Some.n (record { sfits = small })) at c.has_number.ensures) c.in-Some.ensures.number
+    sym c.if-has_number.false ∙ found (numbers_of c.args.bytes.now) c.in-Some.n c.has_number.result c.args.member.now c.requires.fit small
+    (rw (to_z-of_z w64 c.in-Some.n (record { sfits = small })) at c.has_number.ensures) c.in-Some.ensures.number
 
 pub returns-in-None-clause-there : goal.returns-in-None-clause-there
 returns-in-None-clause-there c =

@@ -18,9 +18,11 @@ returns-in_ok-set-in-Some-clause-left c =
     let small : mag n < 2 ^ 63 = (rw c.in-Some.is at c.number_among.type_inv).1.1.1.1.0.1 in
     let old : AreFit (numbers_of c.in_ok-set-in-Some.set.items) = subst (λ (bs : List ℕ). AreFit (numbers_of bs)) (sym c.in_ok-set-in-Some.ensures.items) c.requires.fit in
     let now : numbers_of c.remove.new.set.items ≡ without_number (numbers_of c.in_ok-set-in-Some.set.items) n = rw (to_z-of_z w64 n (record { sfits = small })) at c.remove.ensures.removed in
-    let is : numbers_of c.remove.new.set.items ≡ without_number (numbers_of c.args.bytes.now) n = subst (λ (bs : List ℕ). numbers_of c.remove.new.set.items ≡ without_number (numbers_of bs) n) c.in_ok-set-in-Some.ensures.items now in
+    let is : numbers_of c.remove.new.set.items ≡ without_number (numbers_of c.args.bytes.now) n =
+    subst (λ (bs : List ℕ). numbers_of c.remove.new.set.items ≡ without_number (numbers_of bs) n) c.in_ok-set-in-Some.ensures.items now in
     record {
       intset = c.remove.ensures.intset;
       fit = subst AreFit (sym c.remove.ensures.removed) (All-filter _ (λ n. mag n < 2 ^ 63) (numbers_of c.in_ok-set-in-Some.set.items) old);
-      members_are = ap (λ (ns : List ℤ). set_of (map canonical ns)) is ∙ numbers_left (numbers_of c.args.bytes.now) n c.requires.fit small ∙ ap (remove (set_of (number_texts c.args.bytes.now))) c.in-Some.ensures.text;
+      members_are = ap (λ (ns : List ℤ). set_of (map canonical ns)) is ∙ numbers_left (numbers_of c.args.bytes.now) n c.requires.fit small
+          ∙ ap (remove (set_of (number_texts c.args.bytes.now))) c.in-Some.ensures.text;
     }

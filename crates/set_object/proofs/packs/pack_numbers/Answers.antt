@@ -33,7 +33,9 @@ push_number-requires-clause-fits c =
     let few : length ns ≤ 65536 = omega (arith, ap length c.known-numbers.ensures, c.requires.few) in
     rw (to_z-of_z w64 n (record { sfits = small }))
     (pack_fits (map canonical (take i ns)) c.loop-index.pack.items (canonical n) c.loop-index.invariant (texts_short (take i ns) (All-take (λ n. mag n < 2 ^ 63) i ns fit))
-    (let k = c.len-index-end.ensures.value in omega (arith, length-map (take i ns) canonical, length-take-le i ns (omega (arith, k, c.loop-index-test.true)), few, k, c.loop-index-test.true)) (let s = text_short n small in omega (arith, s)))
+    (let k = c.len-index-end.ensures.value in omega
+    (arith, length-map (take i ns) canonical, length-take-le i ns (omega (arith, k, c.loop-index-test.true)), few, k, c.loop-index-test.true))
+    (let s = text_short n small in omega (arith, s)))
 
 pub loop-index-preserved : goal.loop-index-preserved
 loop-index-preserved c =
@@ -45,7 +47,8 @@ loop-index-preserved c =
           (let n = w.in-Some.n in
           let at : slice_get ns i ≡ Some n = sym w.in-Some.ensures in
           let f = to_z-of_z w64 n (record { sfits = at_fit ns i n fit at }) in
-          let pushed = pack_pushed (map canonical (take i ns)) c.loop-index.pack.items w.push_number.new.pack.items (canonical n) _ c.loop-index.invariant (rw f at w.in_ok-push_number.ensures.entries) (rw f at w.in_ok-push_number.ensures.list) in
+          let pushed = pack_pushed (map canonical (take i ns)) c.loop-index.pack.items w.push_number.new.pack.items (canonical n) _ c.loop-index.invariant
+          (rw f at w.in_ok-push_number.ensures.entries) (rw f at w.in_ok-push_number.ensures.list) in
           subst (λ (v : Vec ℕ). IsPackOf (map canonical (take (i + 1) ns)) v.items) (sym w.pack-is)
           (rw add-one (subst (λ (xs : List (List ℕ)). IsPackOf xs w.push_number.new.pack.items) (sym (text_more ns i n at)) pushed)))
       | in_default w ↦ absurd (never (slice_get ns i) _ (slice_get-get_or ns i (pos 0) (let k = c.len-index-end.ensures.value in omega (arith, k, c.loop-index-test.true))) w.in_default.ensures)

@@ -16,7 +16,8 @@ pub returns-in_ok-pack-in-Some-clause-left : goal.returns-in_ok-pack-in-Some-cla
 returns-in_ok-pack-in-Some-clause-left c =
     let list = texts c.args.bytes.now in
     let old : IsPackOf list c.in_ok-pack-in-Some.pack.items = subst (IsPackOf list) (sym c.in_ok-pack-in-Some.ensures.items) c.requires.pack in
-    let left : texts c.remove.new.pack.items ≡ removed list c.in-Some.index = subst (λ (bs : List ℕ). texts c.remove.new.pack.items ≡ removed (texts bs) c.in-Some.index) c.in_ok-pack-in-Some.ensures.items c.remove.ensures.list in
+    let left : texts c.remove.new.pack.items ≡ removed list c.in-Some.index =
+    subst (λ (bs : List ℕ). texts c.remove.new.pack.items ≡ removed (texts bs) c.in-Some.index) c.in_ok-pack-in-Some.ensures.items c.remove.ensures.list in
     let new = pack_removed list c.in_ok-pack-in-Some.pack.items c.remove.new.pack.items c.in-Some.index _ old c.remove.ensures.entries c.remove.ensures.list in
     record {
       pack = subst (λ xs. IsPackOf xs c.remove.new.pack.items) (sym new.texts_are) new;

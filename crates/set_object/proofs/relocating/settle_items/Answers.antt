@@ -20,14 +20,17 @@ loop-at-preserved g c =
     let inv = c.loop-at.invariant in
     let one = c.settle_item.ensures in
     record {
-      settled = settled_more m (g.B.BlockStore.blocks c.loop-at.store) (g.B.BlockStore.blocks c.settle_item.new.store) c.args.table.now c.loop-at.table c.settle_item.new.table c.args.part.start c.loop-at.at (omega arith) inv.settled one.settled;
-      calm = calm_more (g.B.BlockStore.heap c.loop-at.store) (g.B.BlockStore.heap c.settle_item.new.store) c.loop-at.table c.settle_item.new.table c.args.part.start c.loop-at.at one.calmer one.settled.others inv.calm one.calm;
+      settled = settled_more m (g.B.BlockStore.blocks c.loop-at.store) (g.B.BlockStore.blocks c.settle_item.new.store) c.args.table.now c.loop-at.table c.settle_item.new.table
+          c.args.part.start c.loop-at.at (omega arith) inv.settled one.settled;
+      calm = calm_more (g.B.BlockStore.heap c.loop-at.store) (g.B.BlockStore.heap c.settle_item.new.store) c.loop-at.table c.settle_item.new.table c.args.part.start c.loop-at.at one.calmer
+          one.settled.others inv.calm one.calm;
       calmer = Calmer-next (g.B.BlockStore.heap c.args.store.now) (g.B.BlockStore.heap c.loop-at.store) (g.B.BlockStore.heap c.settle_item.new.store) inv.calmer one.calmer;
     }
 
 pub returns-clause-settled : goal.returns-clause-settled
 returns-clause-settled g c =
-    settled_weaker (g.B.BlockStore.blocks c.args.store.now) (g.B.BlockStore.blocks c.loop-at.store) c.args.table.now c.loop-at.table (λ i. (i < c.args.part.start) ⊎ (c.loop-at.at ≤ i)) (λ i. (i < c.args.part.start) ⊎ (c.args.part.end ≤ i))
+    settled_weaker (g.B.BlockStore.blocks c.args.store.now) (g.B.BlockStore.blocks c.loop-at.store) c.args.table.now c.loop-at.table (λ i. (i < c.args.part.start) ⊎ (c.loop-at.at ≤ i))
+    (λ i. (i < c.args.part.start) ⊎ (c.args.part.end ≤ i))
     (λ i h. elim h [
       | inl low ↦ inl low
       | inr high ↦ inr (omega (arith, high, c.loop-at.auto.at, c.requires.order, c.loop-at-test.false))

@@ -8,7 +8,8 @@ put_head-requires-clause-room c = room_first c.args.pack.now.items (head_texts c
 
 pub put_entry-requires-clause-room : goal.put_entry-requires-clause-room
 put_entry-requires-clause-room c =
-    room_next c.args.pack.now.items c.put_head.new.pack.items (head_texts c.args.pairs.now) (entry_texts c.args.key c.args.id true c.args.pairs.now) c.requires.packed c.in_ok-put_head.ensures c.requires.room
+    room_next c.args.pack.now.items c.put_head.new.pack.items (head_texts c.args.pairs.now) (entry_texts c.args.key c.args.id true c.args.pairs.now) c.requires.packed
+    c.in_ok-put_head.ensures c.requires.room
 
 pub returns : goal.returns
 returns c =

@@ -18,5 +18,6 @@ put_entry-requires-clause-room c =
 pub returns : goal.returns
 returns c =
     when_ok c.put_entry.result
-    (is_behind c.args.pack.now.items c.set_first.new.pack.items c.put_entry.new.pack.items (number c.args.live) (entry_texts c.args.key c.args.id c.args.same c.args.pairs.now) c.in_ok-set_first.ensures)
+    (is_behind c.args.pack.now.items c.set_first.new.pack.items c.put_entry.new.pack.items (number c.args.live) (entry_texts c.args.key c.args.id c.args.same c.args.pairs.now)
+    c.in_ok-set_first.ensures)
     c.put_entry.ensures

@@ -12,7 +12,8 @@ pub put_text-requires-clause-room : goal.put_text-requires-clause-room
 put_text-requires-clause-room c =
     let old = c.args.pack.now.items in
     let mid = c.loop-index.pack.items in
-    let room = pair_room field_texts c.args.pairs.now old mid c.loop-index.index c.requires.packed (subst (HasRoom old) (sym (fields_are c.args.pairs.now)) c.requires.room) c.loop-index.invariant (omega arith) in
+    let room = pair_room field_texts c.args.pairs.now old mid c.loop-index.index c.requires.packed (subst (HasRoom old) (sym (fields_are c.args.pairs.now)) c.requires.room)
+    c.loop-index.invariant (omega arith) in
     subst (λ (x : List ℕ). HasRoom mid (x ∷ [])) (sym c.field.ensures) room
 
 pub loop-index-preserved : goal.loop-index-preserved
@@ -20,7 +21,8 @@ loop-index-preserved c =
     let old = c.args.pack.now.items in
     let mid = c.loop-index.pack.items in
     let new = c.put_text.new.pack.items in
-    pair_put field_texts c.args.pairs.now old mid new c.loop-index.index (omega arith) c.loop-index.invariant (subst (λ (x : List ℕ). Extends mid new (x ∷ [])) c.field.ensures c.in_ok-put_text.ensures)
+    pair_put field_texts c.args.pairs.now old mid new c.loop-index.index (omega arith) c.loop-index.invariant
+    (subst (λ (x : List ℕ). Extends mid new (x ∷ [])) c.field.ensures c.in_ok-put_text.ensures)
 
 pub returns : goal.returns
 returns c =

@@ -82,4 +82,7 @@ returns c =
     let e3 : Extends b2 b3 (number (length pairs) ∷ []) = subst (λ (n : ℕ). Extends b2 b3 (number n ∷ [])) c.len.ensures c.in_ok-put_count-3.ensures in
     let e4 : Extends b3 b4 (fields_of pairs) = c.in_ok-put_fields.ensures in
     let b5 = c.put_count-4.new.pack.items in
-    when_ok c.put_count-4.result (λ e. put_on b0 b1 b5 (number 1 ∷ []) ((number 0 ∷ []) ++ ((number (length pairs) ∷ []) ++ ((fields_of pairs) ++ (number 0 ∷ [])))) e1 (put_on b1 b2 b5 (number 0 ∷ []) ((number (length pairs) ∷ []) ++ ((fields_of pairs) ++ (number 0 ∷ []))) e2 (put_on b2 b3 b5 (number (length pairs) ∷ []) ((fields_of pairs) ++ (number 0 ∷ [])) e3 (put_on b3 b4 b5 (fields_of pairs) (number 0 ∷ []) e4 (e))))) c.put_count-4.ensures
+    when_ok c.put_count-4.result
+    (λ e. put_on b0 b1 b5 (number 1 ∷ []) ((number 0 ∷ []) ++ ((number (length pairs) ∷ []) ++ ((fields_of pairs) ++ (number 0 ∷ [])))) e1
+    (put_on b1 b2 b5 (number 0 ∷ []) ((number (length pairs) ∷ []) ++ ((fields_of pairs) ++ (number 0 ∷ []))) e2
+    (put_on b2 b3 b5 (number (length pairs) ∷ []) ((fields_of pairs) ++ (number 0 ∷ [])) e3 (put_on b3 b4 b5 (fields_of pairs) (number 0 ∷ []) e4 (e))))) c.put_count-4.ensures

@@ -29,4 +29,5 @@ loop-index-preserved c =
 
 pub returns : goal.returns
 returns c =
-    subst (λ (p : List Pair). Extends c.args.pack.now.items c.loop-index.pack.items (flat_map (pair_texts c.args.same) p)) (take_all c.loop-index.index c.args.pairs.now (omega arith)) c.loop-index.invariant
+    subst (λ (p : List Pair). Extends c.args.pack.now.items c.loop-index.pack.items (flat_map (pair_texts c.args.same) p)) (take_all c.loop-index.index c.args.pairs.now (omega arith))
+    c.loop-index.invariant

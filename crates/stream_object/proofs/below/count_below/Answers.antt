@@ -19,13 +19,26 @@ loop-entry-init c = record { joined = refl; count = refl }
 pub overflow_add-count : goal.overflow_add-count
 overflow_add-count c =
     let all = ap left_of c.into_iter-entry-iterator.ensures.into_iter_gives ∙ c.entries-entry-items.ensures in
-    let inside = walked_inside c.loop-entry.yielded c.in-Some.entry (left_of c.loop-entry.entry-iterator) (left_of c.next.new.self) (left_of c.into_iter-entry-iterator.result) c.loop-entry.invariant.joined c.in-Some.ensures.steps in
+    let inside = walked_inside c.loop-entry.yielded c.in-Some.entry (left_of c.loop-entry.entry-iterator) (left_of c.next.new.self) (left_of c.into_iter-entry-iterator.result)
+    c.loop-entry.invariant.joined c.in-Some.ensures.steps in
     let es = map stored c.loop-entry.yielded in
-    omega (arith, inside, ap length all, c.requires.few, c.loop-entry.invariant.count, length-kept (is_low c.args.least) (live_of es), length-map (filter is_live es) plain, length-kept is_live es, length-stored c.loop-entry.yielded)
+    omega (
+      arith,
+      inside,
+      ap length all,
+      c.requires.few,
+      c.loop-entry.invariant.count,
+      length-kept (is_low c.args.least) (live_of es),
+      length-map (filter is_live es) plain,
+      length-kept
+          is_live es,
+      length-stored c.loop-entry.yielded,
+    )
 
 pub loop-entry-preserved : goal.loop-entry-preserved
 loop-entry-preserved c = record {
-  joined = walked c.loop-entry.yielded c.in-Some.entry (left_of c.loop-entry.entry-iterator) (left_of c.next.new.self) (left_of c.into_iter-entry-iterator.result) c.loop-entry.invariant.joined c.in-Some.ensures.steps;
+  joined = walked c.loop-entry.yielded c.in-Some.entry (left_of c.loop-entry.entry-iterator) (left_of c.next.new.self) (left_of c.into_iter-entry-iterator.result)
+      c.loop-entry.invariant.joined c.in-Some.ensures.steps;
   count = c.loop-entry.invariant.count ∙ sym (ap length (low_more c.args.least c.loop-entry.yielded c.in-Some.entry c.is_below.result c.is_below.ensures
       ∙ ap (λ b. low_of c.args.least c.loop-entry.yielded ++ (if b then seen c.in-Some.entry ∷ [] else [])) c.if-is_below.false
       ∙ append-nil (low_of c.args.least c.loop-entry.yielded)));
@@ -34,5 +47,6 @@ loop-entry-preserved c = record {
 pub returns : goal.returns
 returns c =
     let all = ap left_of c.into_iter-entry-iterator.ensures.into_iter_gives ∙ c.entries-entry-items.ensures in
-    let passed : map stored c.loop-entry.yielded ≡ entries_of c.args.key (texts c.args.bytes.now) = sym (append-nil (map stored c.loop-entry.yielded)) ∙ ap (λ es. map stored c.loop-entry.yielded ++ es) (sym c.in-None.ensures.steps.0) ∙ c.loop-entry.invariant.joined ∙ all in
+    let passed : map stored c.loop-entry.yielded ≡ entries_of c.args.key (texts c.args.bytes.now) = sym (append-nil (map stored c.loop-entry.yielded))
+    ∙ ap (λ es. map stored c.loop-entry.yielded ++ es) (sym c.in-None.ensures.steps.0) ∙ c.loop-entry.invariant.joined ∙ all in
     c.loop-entry.invariant.count ∙ ap (λ es. length (filter (is_low c.args.least) (live_of es))) passed

@@ -18,7 +18,8 @@ returns-clause-put g c =
     let bytes = c.args.bytes.now in
     record {
       spare = replicate {A = ℕ} (c.room_for.result - length bytes) 0;
-      put = placed_over (g.B.BlockStore.blocks c.args.store.now) (g.B.BlockStore.blocks c.place.new.self) (g.B.BlockStore.blocks c.write.new.self) c.in_ok-at.at c.room_for.result bytes bytes c.in_ok-at.ensures.placed c.write.ensures.written refl c.room_for.ensures;
+      put = placed_over (g.B.BlockStore.blocks c.args.store.now) (g.B.BlockStore.blocks c.place.new.self) (g.B.BlockStore.blocks c.write.new.self) c.in_ok-at.at c.room_for.result bytes
+          bytes c.in_ok-at.ensures.placed c.write.ensures.written refl c.room_for.ensures;
     }
 
 pub returns-clause-changes : goal.returns-clause-changes

@@ -30,8 +30,10 @@ returns-in_ok-at-in-Some-2-clause-grows g c =
     let after = g.B.BlockStore.blocks c.replace.new.store in
     let n = c.in-Some.ensures in
     let spot = c.in-Some.spot in
-    let grown = subst (λ (b : List ℕ). IsGrown spot.key (entries_of spot.key (texts spot.bytes.now)) b c.args.id c.args.pairs.now) (sym c.deref.ensures.value) (rw c.in-Some-2.is at c.in_ok-pack.ensures) in
-    becomes_grows m after c.args.tree.now c.replace.new.tree c.args.id c.args.pairs.now c.deref.result.now spot.key spot.at c.in_ok-at-in-Some-2.at spot.bytes.now n.before c.requires.parts c.requires.below n.place grown c.in_ok-at-in-Some-2.ensures.replaced
+    let grown = subst (λ (b : List ℕ). IsGrown spot.key (entries_of spot.key (texts spot.bytes.now)) b c.args.id c.args.pairs.now) (sym c.deref.ensures.value)
+    (rw c.in-Some-2.is at c.in_ok-pack.ensures) in
+    becomes_grows m after c.args.tree.now c.replace.new.tree c.args.id c.args.pairs.now c.deref.result.now spot.key spot.at c.in_ok-at-in-Some-2.at spot.bytes.now n.before c.requires.parts
+    c.requires.below n.place grown c.in_ok-at-in-Some-2.ensures.replaced
 
 pub returns-in_err-pack-clause-served : goal.returns-in_err-pack-clause-served
 returns-in_err-pack-clause-served g c = Served-same _ _ refl

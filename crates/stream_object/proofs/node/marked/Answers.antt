@@ -16,8 +16,10 @@ mark_deleted-requires-clause-entry c =
 
 pub mark_deleted-requires-clause-room : goal.mark_deleted-requires-clause-room
 mark_deleted-requires-clause-room c =
-    subst (λ (b : List ℕ). pack_len (marked_spellings b c.args.index) < 2 ^ 32) (sym c.in_ok-pack.ensures.items) (mark_room c.requires.0 c.args.bytes.now c.args.index c.requires.2.0 c.requires.1 c.requires.2.1)
+    subst (λ (b : List ℕ). pack_len (marked_spellings b c.args.index) < 2 ^ 32) (sym c.in_ok-pack.ensures.items)
+    (mark_room c.requires.0 c.args.bytes.now c.args.index c.requires.2.0 c.requires.1 c.requires.2.1)
 
 pub returns : goal.returns
 returns c =
-    is_marked c.args.bytes.now c.mark_deleted.new.pack.items c.args.index (subst (λ (b : List ℕ). IsMarked b c.mark_deleted.new.pack.items c.args.index) c.in_ok-pack.ensures.items c.in_ok-mark_deleted.ensures.marked)
+    is_marked c.args.bytes.now c.mark_deleted.new.pack.items c.args.index
+    (subst (λ (b : List ℕ). IsMarked b c.mark_deleted.new.pack.items c.args.index) c.in_ok-pack.ensures.items c.in_ok-mark_deleted.ensures.marked)

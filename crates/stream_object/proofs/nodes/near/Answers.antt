@@ -26,7 +26,12 @@ node_in-requires g c =
     let found = near_found m c.args.id id c.args.up c.in-Some.key c.args.tree.now ps c.requires.parts (sym c.in-Some.is ∙ c.seek.ensures) in
     let same : Some c.in-Some-find.at ≡ Some found.0.at = sym c.in-Some-find.is ∙ c.find.ensures ∙ found_value m c.args.tree.now ps c.requires.parts c.args.up c.args.id c.in-Some.key found in
     let at : found.0.at ≡ c.in-Some-find.at = cc in
-    subst (IsReadable m) at (found.0.bytes, found_block m c.args.tree.now ps c.requires.parts c.args.up c.args.id c.in-Some.key found, found_pack m c.args.tree.now ps c.requires.parts c.args.up c.args.id c.in-Some.key found)
+    subst (IsReadable m) at (
+      found.0.bytes,
+      found_block m c.args.tree.now ps c.requires.parts c.args.up c.args.id c.in-Some.key found,
+      found_pack m c.args.tree.now ps c.requires.parts c.args.up c.args.id
+          c.in-Some.key found,
+    )
 
 pub unreachable-requires : goal.unreachable-requires
 unreachable-requires g c =
@@ -43,5 +48,6 @@ returns-clause-some g c =
     let id : IsId c.args.id = record { ms = omega arith; seq = omega arith } in
     let ps = parts_of m c.args.tree.now in
     let found = near_found m c.args.id id c.args.up c.in-Some.key c.args.tree.now ps c.requires.parts (sym c.in-Some.is ∙ c.seek.ensures) in
-    let near = found_near m c.args.tree.now ps c.requires.parts c.args.up c.args.id c.in-Some.key found c.in-Some-find.at c.node_in.result.now (sym c.in-Some-find.is ∙ c.find.ensures) c.node_in.ensures in
+    let near = found_near m c.args.tree.now ps c.requires.parts c.args.up c.args.id c.in-Some.key found c.in-Some-find.at c.node_in.result.now (sym c.in-Some-find.is ∙ c.find.ensures)
+    c.node_in.ensures in
     subst (λ k. IsNear c.args.up ps c.args.id (part k c.in-Some-find.at c.node_in.result.now)) (sym c.of_key.ensures) near

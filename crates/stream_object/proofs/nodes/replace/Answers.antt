@@ -19,7 +19,8 @@ pub returns-then-bytes-clause-replaced : goal.returns-then-bytes-clause-replaced
 returns-then-bytes-clause-replaced g c =
     let m = g.B.BlockStore.blocks c.args.store.now in
     let after = g.B.BlockStore.blocks c.write.new.self in
-    λ s is rising. rewritten m c.args.tree.now (parts_of m c.args.tree.now) c.args.key c.args.was c.requires.parts s after c.args.bytes.now (put_over m after c.args.was c.args.bytes.now c.write.ensures.written) is rising
+    λ s is rising. rewritten m c.args.tree.now (parts_of m c.args.tree.now) c.args.key c.args.was c.requires.parts s after c.args.bytes.now
+    (put_over m after c.args.was c.args.bytes.now c.write.ensures.written) is rising
 
 pub returns-then-bytes-clause-served : goal.returns-then-bytes-clause-served
 returns-then-bytes-clause-served g c = Served-once _ _ c.write.ensures.step
@@ -28,7 +29,8 @@ pub set-requires : goal.set-requires
 set-requires g c =
     let m = g.B.BlockStore.blocks c.args.store.now in
     let mid = g.B.BlockStore.blocks c.place_node.new.store in
-    set_tree m c.args.tree.now (parts_of m c.args.tree.now) c.args.key c.args.was c.requires.parts c.requires.stands mid mid mid c.args.tree.now c.in_ok-at.at c.args.bytes.now c.in_ok-at.ensures.put c.in_ok-at.ensures.changes
+    set_tree m c.args.tree.now (parts_of m c.args.tree.now) c.args.key c.args.was c.requires.parts c.requires.stands mid mid mid c.args.tree.now c.in_ok-at.at c.args.bytes.now
+    c.in_ok-at.ensures.put c.in_ok-at.ensures.changes
 
 pub give_back-requires : goal.give_back-requires
 give_back-requires g c =
@@ -36,9 +38,11 @@ give_back-requires g c =
     let mid = g.B.BlockStore.blocks c.place_node.new.store in
     let later = g.B.BlockStore.blocks c.set.new.store in
     let es = entries_of mid c.args.tree.now in
-    let value = ap (value_at es) c.key.ensures ∙ set_value m c.args.tree.now (parts_of m c.args.tree.now) c.args.key c.args.was c.requires.parts c.requires.stands mid mid mid c.args.tree.now c.in_ok-at.at c.args.bytes.now c.in_ok-at.ensures.put c.in_ok-at.ensures.changes in
+    let value = ap (value_at es) c.key.ensures ∙ set_value m c.args.tree.now (parts_of m c.args.tree.now) c.args.key c.args.was c.requires.parts c.requires.stands mid mid mid
+    c.args.tree.now c.in_ok-at.at c.args.bytes.now c.in_ok-at.ensures.put c.in_ok-at.ensures.changes in
     let set : entries_of later c.set.new.self ≡ with_entry es c.key.result c.in_ok-at.at = c.set.ensures.set (c.set.ensures.there ∙ ap is_some value) in
-    set_live m c.args.tree.now (parts_of m c.args.tree.now) c.args.key c.args.was c.requires.parts c.requires.stands mid later later c.set.new.self c.in_ok-at.at c.args.bytes.now c.in_ok-at.ensures.put c.in_ok-at.ensures.changes
+    set_live m c.args.tree.now (parts_of m c.args.tree.now) c.args.key c.args.was c.requires.parts c.requires.stands mid later later c.set.new.self c.in_ok-at.at c.args.bytes.now
+    c.in_ok-at.ensures.put c.in_ok-at.ensures.changes
     c.set.ensures.sound (set ∙ ap (λ k. with_entry es k c.in_ok-at.at) c.key.ensures) c.set.ensures.changes
 
 pub returns-clause-replaced : goal.returns-clause-replaced
@@ -48,10 +52,12 @@ returns-clause-replaced g c =
     let later = g.B.BlockStore.blocks c.set.new.store in
     let after = g.B.BlockStore.blocks c.give_back.new.self in
     let es = entries_of mid c.args.tree.now in
-    let value = ap (value_at es) c.key.ensures ∙ set_value m c.args.tree.now (parts_of m c.args.tree.now) c.args.key c.args.was c.requires.parts c.requires.stands mid mid mid c.args.tree.now c.in_ok-at.at c.args.bytes.now c.in_ok-at.ensures.put c.in_ok-at.ensures.changes in
+    let value = ap (value_at es) c.key.ensures ∙ set_value m c.args.tree.now (parts_of m c.args.tree.now) c.args.key c.args.was c.requires.parts c.requires.stands mid mid mid
+    c.args.tree.now c.in_ok-at.at c.args.bytes.now c.in_ok-at.ensures.put c.in_ok-at.ensures.changes in
     let set : entries_of later c.set.new.self ≡ with_entry es c.key.result c.in_ok-at.at = c.set.ensures.set (c.set.ensures.there ∙ ap is_some value) in
     λ s is rising.
-    becomes m c.args.tree.now (parts_of m c.args.tree.now) c.args.key c.args.was c.requires.parts s mid later after c.set.new.self c.in_ok-at.at c.args.bytes.now c.in_ok-at.ensures.put c.in_ok-at.ensures.changes
+    becomes m c.args.tree.now (parts_of m c.args.tree.now) c.args.key c.args.was c.requires.parts s mid later after c.set.new.self c.in_ok-at.at c.args.bytes.now c.in_ok-at.ensures.put
+    c.in_ok-at.ensures.changes
     c.set.ensures.sound (set ∙ ap (λ k. with_entry es k c.in_ok-at.at) c.key.ensures) c.set.ensures.changes c.give_back.ensures.ended is rising
 
 pub returns-clause-served : goal.returns-clause-served

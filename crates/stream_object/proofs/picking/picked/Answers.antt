@@ -17,7 +17,8 @@ loop-entry-init c = record { joined = refl; picked = ap (map seen) c.new-picked.
 
 pub loop-entry-preserved : goal.loop-entry-preserved
 loop-entry-preserved c = record {
-  joined = walked c.loop-entry.yielded c.in-Some.entry (left_of c.loop-entry.entry-iterator) (left_of c.next.new.self) (left_of c.into_iter-entry-iterator.result) c.loop-entry.invariant.joined c.in-Some.ensures.steps;
+  joined = walked c.loop-entry.yielded c.in-Some.entry (left_of c.loop-entry.entry-iterator) (left_of c.next.new.self) (left_of c.into_iter-entry-iterator.result)
+      c.loop-entry.invariant.joined c.in-Some.ensures.steps;
   picked = c.loop-entry.invariant.picked ∙ sym (picked_more c.args.from c.args.to c.loop-entry.yielded c.in-Some.entry c.is_picked.result c.is_picked.ensures
       ∙ ap (λ b. picked_of c.args.from c.args.to c.loop-entry.yielded ++ (if b then seen c.in-Some.entry ∷ [] else [])) c.if-is_picked.false
       ∙ append-nil (picked_of c.args.from c.args.to c.loop-entry.yielded));
@@ -26,5 +27,6 @@ loop-entry-preserved c = record {
 pub returns : goal.returns
 returns c =
     let all = ap left_of c.into_iter-entry-iterator.ensures.into_iter_gives ∙ c.entries-entry-items.ensures in
-    let passed : map stored c.loop-entry.yielded ≡ entries_of c.args.key (texts c.args.bytes.now) = sym (append-nil (map stored c.loop-entry.yielded)) ∙ ap (λ es. map stored c.loop-entry.yielded ++ es) (sym c.in-None.ensures.steps.0) ∙ c.loop-entry.invariant.joined ∙ all in
+    let passed : map stored c.loop-entry.yielded ≡ entries_of c.args.key (texts c.args.bytes.now) = sym (append-nil (map stored c.loop-entry.yielded))
+    ∙ ap (λ es. map stored c.loop-entry.yielded ++ es) (sym c.in-None.ensures.steps.0) ∙ c.loop-entry.invariant.joined ∙ all in
     c.loop-entry.invariant.picked ∙ ap (λ es. filter (is_between c.args.from c.args.to) (live_of es)) passed

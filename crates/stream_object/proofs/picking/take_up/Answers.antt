@@ -9,7 +9,8 @@ loop-index-init c = record { found = sym (append-nil (map taken c.args.found.now
 
 pub loop-index-preserved : goal.loop-index-preserved
 loop-index-preserved c = record {
-  found = one_more_taken c.args.wanted.back c.args.picked.now (map taken c.args.found.now.items) c.loop-index.found.items c.push.new.self.items c.in_ok-one.one c.index-picked-place_of.result c.loop-index.index c.place_of.result
+  found = one_more_taken c.args.wanted.back c.args.picked.now (map taken c.args.found.now.items) c.loop-index.found.items c.push.new.self.items c.in_ok-one.one
+      c.index-picked-place_of.result c.loop-index.index c.place_of.result
       c.loop-index.invariant.found c.in_ok-push.ensures.items c.in_ok-one.ensures
       c.index-picked-place_of.is
       (c.place_of.ensures.place (map seen c.args.picked.now) (seen c.index-picked-place_of.result) (length-map c.args.picked.now seen)) c.loop-index-test.true;
@@ -18,7 +19,8 @@ loop-index-preserved c = record {
 
 pub returns-then-len-wanted-clause-found : goal.returns-then-len-wanted-clause-found
 returns-then-len-wanted-clause-found c =
-    taken_early (map taken c.args.found.now.items) (turned c.args.wanted.back (map seen c.args.picked.now)) (map taken c.loop-index.found.items) c.loop-index.index c.args.wanted.limit c.loop-index.invariant.found
+    taken_early (map taken c.args.found.now.items) (turned c.args.wanted.back (map seen c.args.picked.now)) (map taken c.loop-index.found.items) c.loop-index.index c.args.wanted.limit
+    c.loop-index.invariant.found
     (omega (arith, length-map c.loop-index.found.items taken, c.loop-index.invariant.within, c.if-len-wanted.true, c.len.ensures))
 
 pub returns-then-len-wanted-clause-within : goal.returns-then-len-wanted-clause-within
@@ -26,7 +28,8 @@ returns-then-len-wanted-clause-within c = c.loop-index.invariant.within
 
 pub returns-clause-found : goal.returns-clause-found
 returns-clause-found c =
-    taken_all (map taken c.args.found.now.items) (turned c.args.wanted.back (map seen c.args.picked.now)) (map taken c.loop-index.found.items) c.loop-index.index c.args.wanted.limit c.loop-index.invariant.found
+    taken_all (map taken c.args.found.now.items) (turned c.args.wanted.back (map seen c.args.picked.now)) (map taken c.loop-index.found.items) c.loop-index.index c.args.wanted.limit
+    c.loop-index.invariant.found
     (omega (arith, length-turned c.args.wanted.back (map seen c.args.picked.now), length-map c.args.picked.now seen, c.loop-index-test.false))
     (omega (arith, length-map c.loop-index.found.items taken, c.loop-index.invariant.within))
 

@@ -11,7 +11,8 @@ returns-in_default g c =
     let w = c.args.wanted in
     let ff : IsId w.from = record { ms = omega arith; seq = omega arith } in
     let ft : IsId w.to = record { ms = omega arith; seq = omega arith } in
-    goes_nowhere m w.from w.to w.limit ff ft (parts_of m c.args.tree.now) c.requires.parts.each c.requires.parts.rising c.args.at w.back c.args.found.now.items c.requires.within c.in_default.ensures.none
+    goes_nowhere m w.from w.to w.limit ff ft (parts_of m c.args.tree.now) c.requires.parts.each c.requires.parts.rising c.args.at w.back c.args.found.now.items c.requires.within
+    c.in_default.ensures.none
 
 pub take_wanted-requires-clause-is_node : goal.take_wanted-requires-clause-is_node
 take_wanted-requires-clause-is_node g c =

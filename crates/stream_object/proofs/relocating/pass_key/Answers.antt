@@ -74,10 +74,13 @@ returns-clause-moves g c =
     let h0 = g.B.BlockStore.heap c.args.store.now in
     let h1 = g.B.BlockStore.heap c.relocate_path.new.store in
     let passed1 = rw c.key-name.ensures at c.relocate_path.ensures.passed in
-    let value = ap (value_at (entries_of m2 t1)) c.key-name.ensures ∙ settled_value m m1 t0 t1 c.args.key c.args.at h s sound1 entries1 changes1 m2 new c.settle-new.ensures.bytes c.settle-new.ensures.changes ∙ stands_value m t0 (parts_of m t0) c.args.key c.args.at h s in
+    let value = ap (value_at (entries_of m2 t1)) c.key-name.ensures
+    ∙ settled_value m m1 t0 t1 c.args.key c.args.at h s sound1 entries1 changes1 m2 new c.settle-new.ensures.bytes c.settle-new.ensures.changes
+    ∙ stands_value m t0 (parts_of m t0) c.args.key c.args.at h s in
     let there = c.set.ensures.there ∙ ap is_some value in
     let set3 = c.set.ensures.set there ∙ ap (λ k. with_entry (entries_of m2 t1) k new) c.key-name.ensures in
-    moves m m1 t0 t1 c.args.key c.args.at h s sound1 entries1 changes1 m2 new c.settle-new.ensures.bytes c.settle-new.ensures.changes m3 t2 h0 h1 passed1 c.set.ensures.sound set3 c.set.ensures.changes (c.set.ensures.marks there)
+    moves m m1 t0 t1 c.args.key c.args.at h s sound1 entries1 changes1 m2 new c.settle-new.ensures.bytes c.settle-new.ensures.changes m3 t2 h0 h1 passed1 c.set.ensures.sound set3
+    c.set.ensures.changes (c.set.ensures.marks there)
 
 pub returns-clause-passed : goal.returns-clause-passed
 returns-clause-passed g c =
@@ -97,11 +100,14 @@ returns-clause-passed g c =
     let h0 = g.B.BlockStore.heap c.args.store.now in
     let h1 = g.B.BlockStore.heap c.relocate_path.new.store in
     let passed1 = rw c.key-name.ensures at c.relocate_path.ensures.passed in
-    let value = ap (value_at (entries_of m2 t1)) c.key-name.ensures ∙ settled_value m m1 t0 t1 c.args.key c.args.at h s sound1 entries1 changes1 m2 new c.settle-new.ensures.bytes c.settle-new.ensures.changes ∙ stands_value m t0 (parts_of m t0) c.args.key c.args.at h s in
+    let value = ap (value_at (entries_of m2 t1)) c.key-name.ensures
+    ∙ settled_value m m1 t0 t1 c.args.key c.args.at h s sound1 entries1 changes1 m2 new c.settle-new.ensures.bytes c.settle-new.ensures.changes
+    ∙ stands_value m t0 (parts_of m t0) c.args.key c.args.at h s in
     let there = c.set.ensures.there ∙ ap is_some value in
     let set3 = c.set.ensures.set there ∙ ap (λ k. with_entry (entries_of m2 t1) k new) c.key-name.ensures in
     subst (λ h2. PassesAll h2 (λ a. a == id_number c.args.key) (tree_marks m t0) (all_refs m t0) (all_refs m3 t2)) (sym c.set.ensures.slabs)
-    (passes m m1 t0 t1 c.args.key c.args.at h s sound1 entries1 changes1 m2 new c.settle-new.ensures.bytes c.settle-new.ensures.changes m3 t2 h0 h1 passed1 c.set.ensures.sound set3 c.set.ensures.changes (c.set.ensures.marks there) (g.B.BlockStore.heap c.settle-new.new.store) c.settle-new.ensures.calmer c.settle-new.ensures.calm)
+    (passes m m1 t0 t1 c.args.key c.args.at h s sound1 entries1 changes1 m2 new c.settle-new.ensures.bytes c.settle-new.ensures.changes m3 t2 h0 h1 passed1 c.set.ensures.sound set3
+    c.set.ensures.changes (c.set.ensures.marks there) (g.B.BlockStore.heap c.settle-new.new.store) c.settle-new.ensures.calmer c.settle-new.ensures.calm)
 
 pub returns-clause-count : goal.returns-clause-count
 returns-clause-count g c =
@@ -115,4 +121,5 @@ returns-clause-count g c =
 pub returns-clause-calmer : goal.returns-clause-calmer
 returns-clause-calmer g c =
     subst (λ h2. Calmer (g.B.BlockStore.heap c.args.store.now) h2) (sym c.set.ensures.slabs)
-    (Calmer-next (g.B.BlockStore.heap c.args.store.now) (g.B.BlockStore.heap c.relocate_path.new.store) (g.B.BlockStore.heap c.settle-new.new.store) c.relocate_path.ensures.calmer c.settle-new.ensures.calmer)
+    (Calmer-next (g.B.BlockStore.heap c.args.store.now) (g.B.BlockStore.heap c.relocate_path.new.store) (g.B.BlockStore.heap c.settle-new.new.store) c.relocate_path.ensures.calmer
+    c.settle-new.ensures.calmer)

@@ -30,7 +30,8 @@ keys-init g c =
     let ks = tree_marks m t0 in
     let rs = all_refs m t0 in
     let is : id_number c.of_number-at.result ≡ c.args.from = c.of_number-at.ensures in
-    let none : AllByRecursion (λ k. is_within c.args.from (id_number c.of_number-at.result) k ≡ false) ks = subst (λ a. AllByRecursion (λ k. is_within c.args.from a k ≡ false) ks) (sym is) (each_none c.args.from ks) in
+    let none : AllByRecursion (λ k. is_within c.args.from (id_number c.of_number-at.result) k ≡ false) ks =
+    subst (λ a. AllByRecursion (λ k. is_within c.args.from a k ≡ false) ks) (sym is) (each_none c.args.from ks) in
     record {
       moves = moves_none m t0 c.requires.parts;
       passed = passes_none (g.B.BlockStore.heap c.args.store.now) (is_within c.args.from (id_number c.of_number-at.result)) ks rs (marks_many m t0) none;
@@ -83,7 +84,8 @@ keys-preserved g c =
     let l = g.B.BlockStore.heap c.pass_key-used.new.store in
     let low : c.args.from ≤ n = omega (arith, i.low, near.reaches) in
     let moves = moves_then m mid after t0 t now i.moves c.pass_key-used.ensures.moves in
-    let one : PassesAll l (λ a. a == n) ks (all_refs mid t) (all_refs after now) = subst (λ xs. PassesAll l (λ a. a == n) xs (all_refs mid t) (all_refs after now)) i.moves.marks_are c.pass_key-used.ensures.passed in
+    let one : PassesAll l (λ a. a == n) ks (all_refs mid t) (all_refs after now) =
+    subst (λ xs. PassesAll l (λ a. a == n) xs (all_refs mid t) (all_refs after now)) i.moves.marks_are c.pass_key-used.ensures.passed in
     let passed = step_all h l c.args.from at n ks rs (all_refs mid t) (all_refs after now) low near.reaches beside c.pass_key-used.ensures.calmer i.passed one in
     let count : c.pass_key-used.result ≡ count_by (λ a. a == n) ks = c.pass_key-used.ensures.count ∙ ap (count_by (λ a. a == n)) i.moves.marks_are in
     let counted : c.keys.used + c.pass_key-used.result ≡ count_by (is_within c.args.from (n + 1)) ks = omega (arith, i.counted, count, step_count c.args.from at n ks low near.reaches beside) in
@@ -159,7 +161,8 @@ returns-then-room-used-lt-MOST_BLOCKS-clause-bounded g c =
     let near : IsNear true (parts_of mid t) c.keys.at p = c.in-Some.ensures.some in
     let beside : AllByRecursion (IsBeside at n) ks = subst (AllByRecursion (IsBeside at n)) i.moves.marks_are (near_beside mid t c.keys.at p i.moves.parts near) in
     record {
-      used = i.counted ∙ sym (count_same (is_within c.args.from at) (is_passed c.args.from (Some n)) ks (next_all c.args.from at n ks near.reaches beside)) ∙ ap (λ a. count_by (is_passed c.args.from (Some a)) ks) (sym c.number.ensures);
+      used = i.counted ∙ sym (count_same (is_within c.args.from at) (is_passed c.args.from (Some n)) ks (next_all c.args.from at n ks near.reaches beside))
+          ∙ ap (λ a. count_by (is_passed c.args.from (Some a)) ks) (sym c.number.ensures);
       within = i.within;
       on = (omega (arith, i.on (omega (arith, c.if-room-used-lt-MOST_BLOCKS.true, c.requires.room)), near.reaches, c.number.ensures), omega (arith, c.if-room-used-lt-MOST_BLOCKS.true));
     }
@@ -203,7 +206,8 @@ returns-in-None-clause-moves g c =
     let l = g.B.BlockStore.heap c.pass_key-used.new.store in
     let low : c.args.from ≤ n = omega (arith, i.low, near.reaches) in
     let moves = moves_then m mid after t0 t now i.moves c.pass_key-used.ensures.moves in
-    let one : PassesAll l (λ a. a == n) ks (all_refs mid t) (all_refs after now) = subst (λ xs. PassesAll l (λ a. a == n) xs (all_refs mid t) (all_refs after now)) i.moves.marks_are c.pass_key-used.ensures.passed in
+    let one : PassesAll l (λ a. a == n) ks (all_refs mid t) (all_refs after now) =
+    subst (λ xs. PassesAll l (λ a. a == n) xs (all_refs mid t) (all_refs after now)) i.moves.marks_are c.pass_key-used.ensures.passed in
     let passed = step_all h l c.args.from at n ks rs (all_refs mid t) (all_refs after now) low near.reaches beside c.pass_key-used.ensures.calmer i.passed one in
     let count : c.pass_key-used.result ≡ count_by (λ a. a == n) ks = c.pass_key-used.ensures.count ∙ ap (count_by (λ a. a == n)) i.moves.marks_are in
     let counted : c.keys.used + c.pass_key-used.result ≡ count_by (is_within c.args.from (n + 1)) ks = omega (arith, i.counted, count, step_count c.args.from at n ks low near.reaches beside) in
@@ -231,7 +235,8 @@ returns-in-None-clause-passed g c =
     let l = g.B.BlockStore.heap c.pass_key-used.new.store in
     let low : c.args.from ≤ n = omega (arith, i.low, near.reaches) in
     let moves = moves_then m mid after t0 t now i.moves c.pass_key-used.ensures.moves in
-    let one : PassesAll l (λ a. a == n) ks (all_refs mid t) (all_refs after now) = subst (λ xs. PassesAll l (λ a. a == n) xs (all_refs mid t) (all_refs after now)) i.moves.marks_are c.pass_key-used.ensures.passed in
+    let one : PassesAll l (λ a. a == n) ks (all_refs mid t) (all_refs after now) =
+    subst (λ xs. PassesAll l (λ a. a == n) xs (all_refs mid t) (all_refs after now)) i.moves.marks_are c.pass_key-used.ensures.passed in
     let passed = step_all h l c.args.from at n ks rs (all_refs mid t) (all_refs after now) low near.reaches beside c.pass_key-used.ensures.calmer i.passed one in
     let count : c.pass_key-used.result ≡ count_by (λ a. a == n) ks = c.pass_key-used.ensures.count ∙ ap (count_by (λ a. a == n)) i.moves.marks_are in
     let counted : c.keys.used + c.pass_key-used.result ≡ count_by (is_within c.args.from (n + 1)) ks = omega (arith, i.counted, count, step_count c.args.from at n ks low near.reaches beside) in
@@ -259,7 +264,8 @@ returns-in-None-clause-bounded g c =
     let l = g.B.BlockStore.heap c.pass_key-used.new.store in
     let low : c.args.from ≤ n = omega (arith, i.low, near.reaches) in
     let moves = moves_then m mid after t0 t now i.moves c.pass_key-used.ensures.moves in
-    let one : PassesAll l (λ a. a == n) ks (all_refs mid t) (all_refs after now) = subst (λ xs. PassesAll l (λ a. a == n) xs (all_refs mid t) (all_refs after now)) i.moves.marks_are c.pass_key-used.ensures.passed in
+    let one : PassesAll l (λ a. a == n) ks (all_refs mid t) (all_refs after now) =
+    subst (λ xs. PassesAll l (λ a. a == n) xs (all_refs mid t) (all_refs after now)) i.moves.marks_are c.pass_key-used.ensures.passed in
     let passed = step_all h l c.args.from at n ks rs (all_refs mid t) (all_refs after now) low near.reaches beside c.pass_key-used.ensures.calmer i.passed one in
     let count : c.pass_key-used.result ≡ count_by (λ a. a == n) ks = c.pass_key-used.ensures.count ∙ ap (count_by (λ a. a == n)) i.moves.marks_are in
     let counted : c.keys.used + c.pass_key-used.result ≡ count_by (is_within c.args.from (n + 1)) ks = omega (arith, i.counted, count, step_count c.args.from at n ks low near.reaches beside) in
@@ -291,7 +297,8 @@ returns-in-None-clause-calmer g c =
     let l = g.B.BlockStore.heap c.pass_key-used.new.store in
     let low : c.args.from ≤ n = omega (arith, i.low, near.reaches) in
     let moves = moves_then m mid after t0 t now i.moves c.pass_key-used.ensures.moves in
-    let one : PassesAll l (λ a. a == n) ks (all_refs mid t) (all_refs after now) = subst (λ xs. PassesAll l (λ a. a == n) xs (all_refs mid t) (all_refs after now)) i.moves.marks_are c.pass_key-used.ensures.passed in
+    let one : PassesAll l (λ a. a == n) ks (all_refs mid t) (all_refs after now) =
+    subst (λ xs. PassesAll l (λ a. a == n) xs (all_refs mid t) (all_refs after now)) i.moves.marks_are c.pass_key-used.ensures.passed in
     let passed = step_all h l c.args.from at n ks rs (all_refs mid t) (all_refs after now) low near.reaches beside c.pass_key-used.ensures.calmer i.passed one in
     let count : c.pass_key-used.result ≡ count_by (λ a. a == n) ks = c.pass_key-used.ensures.count ∙ ap (count_by (λ a. a == n)) i.moves.marks_are in
     let counted : c.keys.used + c.pass_key-used.result ≡ count_by (is_within c.args.from (n + 1)) ks = omega (arith, i.counted, count, step_count c.args.from at n ks low near.reaches beside) in

@@ -10,7 +10,8 @@ use Rattle.stream_object.proofs.relocating.pass_keys.Given as goal
 abbrev pub invariant-keys : goal.invariant-keys
 invariant-keys g l = record {
   moves : Moves (g.B.BlockStore.blocks l.initial.store) (g.B.BlockStore.blocks l.store) l.initial.tree l.tree;
-  passed : PassesAll (g.B.BlockStore.heap l.store) (is_within l.from (id_number l.at)) (tree_marks (g.B.BlockStore.blocks l.initial.store) l.initial.tree) (all_refs (g.B.BlockStore.blocks l.initial.store) l.initial.tree) (all_refs (g.B.BlockStore.blocks l.store) l.tree);
+  passed : PassesAll (g.B.BlockStore.heap l.store) (is_within l.from (id_number l.at)) (tree_marks (g.B.BlockStore.blocks l.initial.store) l.initial.tree)
+      (all_refs (g.B.BlockStore.blocks l.initial.store) l.initial.tree) (all_refs (g.B.BlockStore.blocks l.store) l.tree);
   counted : l.used ≡ count_by (is_within l.from (id_number l.at)) (tree_marks (g.B.BlockStore.blocks l.initial.store) l.initial.tree);
   within : l.used ≤ l.room;
   low : l.from ≤ id_number l.at;

@@ -12,8 +12,11 @@ use Rattle.stream_object.proofs.removing.mark_out.Goals as goal
 pub node_in-bytes-requires : goal.node_in-bytes-requires
 node_in-bytes-requires g c =
     let m = g.B.BlockStore.blocks c.args.store.now in
-    let s = c.requires.stands.0 in
-    (s.bytes, stands_block m c.args.tree.now (parts_of m c.args.tree.now) c.args.key c.args.at c.requires.parts s, (stands_node m c.args.tree.now (parts_of m c.args.tree.now) c.args.key c.args.at c.requires.parts s).pack)
+    let s = c.requires.stands.0 in (
+      s.bytes,
+      stands_block m c.args.tree.now (parts_of m c.args.tree.now) c.args.key c.args.at c.requires.parts s,
+      (stands_node m c.args.tree.now (parts_of m c.args.tree.now) c.args.key c.args.at c.requires.parts s).pack,
+    )
 
 pub marked-requires : goal.marked-requires
 marked-requires g c =

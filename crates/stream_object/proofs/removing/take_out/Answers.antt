@@ -9,14 +9,18 @@ use Rattle.stream_object.proofs.removing.take_out.Goals as goal
 pub node_in-bytes-requires : goal.node_in-bytes-requires
 node_in-bytes-requires g c =
     let m = g.B.BlockStore.blocks c.args.store.now in
-    let s = c.requires.stands.0 in
-    (s.bytes, stands_block m c.args.tree.now (parts_of m c.args.tree.now) c.args.key c.args.at c.requires.parts s, (stands_node m c.args.tree.now (parts_of m c.args.tree.now) c.args.key c.args.at c.requires.parts s).pack)
+    let s = c.requires.stands.0 in (
+      s.bytes,
+      stands_block m c.args.tree.now (parts_of m c.args.tree.now) c.args.key c.args.at c.requires.parts s,
+      (stands_node m c.args.tree.now (parts_of m c.args.tree.now) c.args.key c.args.at c.requires.parts s).pack,
+    )
 
 pub count_live-requires : goal.count_live-requires
 count_live-requires g c =
     let m = g.B.BlockStore.blocks c.args.store.now in
     let s = c.requires.stands.0 in
-    subst (IsNodeOf c.args.key) (sym (stands_bytes m c.args.tree.now c.args.key c.args.at s c.requires.parts c.node_in-bytes.result.now c.node_in-bytes.ensures)) (stands_node m c.args.tree.now (parts_of m c.args.tree.now) c.args.key c.args.at c.requires.parts s)
+    subst (IsNodeOf c.args.key) (sym (stands_bytes m c.args.tree.now c.args.key c.args.at s c.requires.parts c.node_in-bytes.result.now c.node_in-bytes.ensures))
+    (stands_node m c.args.tree.now (parts_of m c.args.tree.now) c.args.key c.args.at c.requires.parts s)
 
 pub drop_node-requires-clause-stands : goal.drop_node-requires-clause-stands
 drop_node-requires-clause-stands g c = c.requires.stands.0
@@ -26,7 +30,8 @@ returns-then-count_live-eq1-clause-loses g c =
     let m = g.B.BlockStore.blocks c.args.store.now in
     let after = g.B.BlockStore.blocks c.drop_node.new.store in
     λ s e a. (let same = stands_bytes m c.args.tree.now c.args.key c.args.at s c.requires.parts c.node_in-bytes.result.now c.node_in-bytes.ensures in
-    let one : length (live_of (entries_of c.args.key (texts s.bytes))) ≡ 1 = omega (arith, c.count_live.ensures.count, ap (λ (b : List ℕ). length (live_of (entries_of c.args.key (texts b)))) same, c.if-count_live-eq1.true) in
+    let one : length (live_of (entries_of c.args.key (texts s.bytes))) ≡ 1 =
+    omega (arith, c.count_live.ensures.count, ap (λ (b : List ℕ). length (live_of (entries_of c.args.key (texts b)))) same, c.if-count_live-eq1.true) in
     goes_whole m after c.args.tree.now c.drop_node.new.tree c.args.key c.args.at s c.args.index e a one (c.drop_node.ensures.dropped s))
 
 pub mark_out-requires-clause-others : goal.mark_out-requires-clause-others

@@ -17,7 +17,8 @@ loop-entry-init c = record { joined = refl; stand = tt; last = refl }
 
 pub loop-entry-preserved : goal.loop-entry-preserved
 loop-entry-preserved c = record {
-  joined = walked c.loop-entry.yielded c.in-Some.entry (left_of c.loop-entry.entry-iterator) (left_of c.next.new.self) (left_of c.into_iter-entry-iterator.result) c.loop-entry.invariant.joined c.in-Some.ensures.steps;
+  joined = walked c.loop-entry.yielded c.in-Some.entry (left_of c.loop-entry.entry-iterator) (left_of c.next.new.self) (left_of c.into_iter-entry-iterator.result)
+      c.loop-entry.invariant.joined c.in-Some.ensures.steps;
   stand = stand_more c.args.key c.loop-entry.yielded c.in-Some.entry c.loop-entry.invariant.stand (c.may_stand.ensures c.if-not-may_stand.false);
   last = last_more (pair_of c.args.key) c.loop-entry.yielded c.in-Some.entry c.id-last.result c.id-last.ensures;
 }

@@ -7,4 +7,5 @@ use Rattle.stream_rows.proofs.grouped.set.Goals as goal
 -- the consumer was added
 pub set_pending-requires : goal.set_pending-requires
 set_pending-requires c =
-    subst (λ (m : Groups). IfSome (get m c.args.name.now) (λ group. IsTrue (has_consumer c.args.consumer.now group))) (sym c.in_ok-added.ensures.ok) (consumer-added c.args.groups.now c.args.name.now c.args.consumer.now)
+    subst (λ (m : Groups). IfSome (get m c.args.name.now) (λ group. IsTrue (has_consumer c.args.consumer.now group))) (sym c.in_ok-added.ensures.ok)
+    (consumer-added c.args.groups.now c.args.name.now c.args.consumer.now)

@@ -41,7 +41,8 @@ add-requires-clause-absent g c =
     let at : IsPairAt bytes i c.in-Some.at = subst (λ (o : Option ℕ). MatchOption o (i ≡ length (pairs bytes)) (λ at. IsPairAt bytes i at)) c.in-Some.is c.loop.invariant.place in
     let key : Key = (c.entry_at-score.result.1, c.text.result.now) in
     let there : slice_get (keys_in bytes) i ≡ Some key = c.entry_at-score.ensures i at ∙ (λ j. Some (c.entry_at-score.result.1, sym c.text.ensures j)) in
-    ap (λ (map : ScoreMap). get map c.text.result.now) c.loop.invariant.placed.scores_are ∙ next_absent (pairs bytes) i key c.requires.pack.once (pair_inside bytes i c.in-Some.at c.requires.pack.pack at) there
+    ap (λ (map : ScoreMap). get map c.text.result.now) c.loop.invariant.placed.scores_are
+    ∙ next_absent (pairs bytes) i key c.requires.pack.once (pair_inside bytes i c.in-Some.at c.requires.pack.pack at) there
 
 pub returns-in-Err-clause-served : goal.returns-in-Err-clause-served
 returns-in-Err-clause-served g c = Served-then _ _ _ (Served-then _ _ _ c.loop.invariant.served c.in-Err.ensures.served) c.release.ensures.served
@@ -52,7 +53,8 @@ returns-in-Err-clause-err_blocks g c =
     let mid = g.B.BlockStore.blocks c.loop.store in
     let n = g.B.BlockStore.blocks c.release.new.store in
     let ended : Changes mid n (table.refs c.loop.table) [] =
-    subst (λ (b : Blocks). Changes b n (table.refs c.loop.table) []) c.in-Err.ensures.err_blocks (subst (λ t. Changes (g.B.BlockStore.blocks c.add.new.store) n (table.refs t) []) c.in-Err.ensures.err_table c.release.ensures.changes) in
+    subst (λ (b : Blocks). Changes b n (table.refs c.loop.table) []) c.in-Err.ensures.err_blocks
+    (subst (λ t. Changes (g.B.BlockStore.blocks c.add.new.store) n (table.refs t) []) c.in-Err.ensures.err_table c.release.ensures.changes) in
     all_same m n (Changes-then m mid n [] (table.refs c.loop.table) [] c.loop.invariant.placed.changes ended)
 
 pub loop-preserved : goal.loop-preserved

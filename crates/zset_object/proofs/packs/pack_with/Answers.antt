@@ -16,19 +16,23 @@ without-requires-clause-index c = first_inside c.args.member.now (pairs c.args.b
 pub with_member-requires-clause-pack : goal.with_member-requires-clause-pack
 with_member-requires-clause-pack c =
     let first = subst (IsIndex (pairs c.args.bytes.now) c.args.member.now) c.in-Some.is c.requires.index in
-    (left_is c.args.bytes.now c.in_ok-left-in-Some.left.items c.in_ok-left-in-Some.left.items c.in-Some.index c.args.member.now c.requires.pack first refl c.in_ok-left-in-Some.ensures.pack c.in_ok-left-in-Some.ensures.list).pack
+    (left_is c.args.bytes.now c.in_ok-left-in-Some.left.items c.in_ok-left-in-Some.left.items c.in-Some.index c.args.member.now c.requires.pack first refl c.in_ok-left-in-Some.ensures.pack
+    c.in_ok-left-in-Some.ensures.list).pack
 
 pub with_member-requires-clause-lacks : goal.with_member-requires-clause-lacks
 with_member-requires-clause-lacks c =
     let first = subst (IsIndex (pairs c.args.bytes.now) c.args.member.now) c.in-Some.is c.requires.index in
-    (left_is c.args.bytes.now c.in_ok-left-in-Some.left.items c.in_ok-left-in-Some.left.items c.in-Some.index c.args.member.now c.requires.pack first refl c.in_ok-left-in-Some.ensures.pack c.in_ok-left-in-Some.ensures.list).lacks
+    (left_is c.args.bytes.now c.in_ok-left-in-Some.left.items c.in_ok-left-in-Some.left.items c.in-Some.index c.args.member.now c.requires.pack first refl c.in_ok-left-in-Some.ensures.pack
+    c.in_ok-left-in-Some.ensures.list).lacks
 
 pub with_member-requires-clause-fits : goal.with_member-requires-clause-fits
 with_member-requires-clause-fits c =
     let first = subst (IsIndex (pairs c.args.bytes.now) c.args.member.now) c.in-Some.is c.requires.index in
-    let left = left_is c.args.bytes.now c.in_ok-left-in-Some.left.items c.in_ok-left-in-Some.left.items c.in-Some.index c.args.member.now c.requires.pack first refl c.in_ok-left-in-Some.ensures.pack c.in_ok-left-in-Some.ensures.list in
+    let left = left_is c.args.bytes.now c.in_ok-left-in-Some.left.items c.in_ok-left-in-Some.left.items c.in-Some.index c.args.member.now c.requires.pack first refl
+    c.in_ok-left-in-Some.ensures.pack c.in_ok-left-in-Some.ensures.list in
     subst (λ (n : ℤ). FitsPair c.in_ok-left-in-Some.left.items c.args.member.now (canonical n)) (sym (to_z-of_z w64 c.args.score c.ranges.score))
-    (member_fits c.in_ok-left-in-Some.left.items c.args.member.now c.args.score c.ranges.score left.pack (omega (arith, left.fewer, c.requires.few)) (omega (arith, left.shorter, c.requires.short)) (omega (arith, c.requires.short)))
+    (member_fits c.in_ok-left-in-Some.left.items c.args.member.now c.args.score c.ranges.score left.pack (omega (arith, left.fewer, c.requires.few))
+    (omega (arith, left.shorter, c.requires.short)) (omega (arith, c.requires.short)))
 
 pub with_member-requires-in-None-clause-fits : goal.with_member-requires-in-None-clause-fits
 with_member-requires-in-None-clause-fits c =
@@ -42,17 +46,22 @@ returns-in_ok-left-in-Some-clause-scores c =
     let first = subst (IsIndex (pairs c.args.bytes.now) c.args.member.now) c.in-Some.is c.requires.index in
     let bytes = c.args.bytes.now in
     let member = c.args.member.now in
-    let left = left_is bytes c.in_ok-left-in-Some.left.items c.in_ok-left-in-Some.left.items c.in-Some.index member c.requires.pack first refl c.in_ok-left-in-Some.ensures.pack c.in_ok-left-in-Some.ensures.list in
+    let left = left_is bytes c.in_ok-left-in-Some.left.items c.in_ok-left-in-Some.left.items c.in-Some.index member c.requires.pack first refl c.in_ok-left-in-Some.ensures.pack
+    c.in_ok-left-in-Some.ensures.list in
     let same = to_z-of_z w64 c.args.score c.ranges.score in
     subst (λ (map : ScoreMap). IfOk c.with_member.result (λ new. scores_in new.items ≡ map))
-    (ap (λ map. insert map member (to_z w64 (of_z w64 c.args.score))) left.scores_are ∙ put_again (scores_in bytes) member (to_z w64 (of_z w64 c.args.score)) ∙ ap (insert (scores_in bytes) member) same)
-    (if_joined_scores (λ new. new.items) c.in_ok-left-in-Some.left.items _ (to_z w64 (of_z w64 c.args.score)) member c.with_member.result (subst (FitsSigned w64) (sym same) c.ranges.score) left.lacks c.with_member.ensures.list)
+    (ap (λ map. insert map member (to_z w64 (of_z w64 c.args.score))) left.scores_are ∙ put_again (scores_in bytes) member (to_z w64 (of_z w64 c.args.score))
+    ∙ ap (insert (scores_in bytes) member) same)
+    (if_joined_scores (λ new. new.items) c.in_ok-left-in-Some.left.items _ (to_z w64 (of_z w64 c.args.score)) member c.with_member.result (subst (FitsSigned w64) (sym same) c.ranges.score)
+    left.lacks c.with_member.ensures.list)
 
 pub returns-in_ok-left-in-Some-clause-longest : goal.returns-in_ok-left-in-Some-clause-longest
 returns-in_ok-left-in-Some-clause-longest c =
     let first = subst (IsIndex (pairs c.args.bytes.now) c.args.member.now) c.in-Some.is c.requires.index in
-    let left = left_is c.args.bytes.now c.in_ok-left-in-Some.left.items c.in_ok-left-in-Some.left.items c.in-Some.index c.args.member.now c.requires.pack first refl c.in_ok-left-in-Some.ensures.pack c.in_ok-left-in-Some.ensures.list in
-    if_longer (λ new. new.items) c.with_member.result _ _ (omega (arith, left.shorter)) (if_joined_longest (λ new. new.items) c.in_ok-left-in-Some.left.items _ (to_z w64 (of_z w64 c.args.score)) c.args.member.now c.with_member.result c.with_member.ensures.list)
+    let left = left_is c.args.bytes.now c.in_ok-left-in-Some.left.items c.in_ok-left-in-Some.left.items c.in-Some.index c.args.member.now c.requires.pack first refl
+    c.in_ok-left-in-Some.ensures.pack c.in_ok-left-in-Some.ensures.list in
+    if_longer (λ new. new.items) c.with_member.result _ _ (omega (arith, left.shorter))
+    (if_joined_longest (λ new. new.items) c.in_ok-left-in-Some.left.items _ (to_z w64 (of_z w64 c.args.score)) c.args.member.now c.with_member.result c.with_member.ensures.list)
 
 pub returns-in_ok-all-in-None-clause-scores : goal.returns-in_ok-all-in-None-clause-scores
 returns-in_ok-all-in-None-clause-scores c =
@@ -63,7 +72,8 @@ returns-in_ok-all-in-None-clause-scores c =
     let same = to_z-of_z w64 c.args.score c.ranges.score in
     subst (λ (bs : List ℕ). IfOk c.with_member-in-None.result (λ new. scores_in new.items ≡ insert (scores_in bs) member c.args.score)) c.in_ok-all-in-None.ensures.items
     (subst (λ (n : ℤ). IfOk c.with_member-in-None.result (λ new. scores_in new.items ≡ insert (scores_in all) member n)) same
-    (if_joined_scores (λ new. new.items) all _ (to_z w64 (of_z w64 c.args.score)) member c.with_member-in-None.result (subst (FitsSigned w64) (sym same) c.ranges.score) none c.with_member-in-None.ensures.list))
+    (if_joined_scores (λ new. new.items) all _ (to_z w64 (of_z w64 c.args.score)) member c.with_member-in-None.result (subst (FitsSigned w64) (sym same) c.ranges.score) none
+    c.with_member-in-None.ensures.list))
 
 pub returns-in_ok-all-in-None-clause-longest : goal.returns-in_ok-all-in-None-clause-longest
 returns-in_ok-all-in-None-clause-longest c =

@@ -14,7 +14,8 @@ use Rattle.zset_object.proofs.Keys.{keys_len}
 use Rattle.zset_object.proofs.packs.place_of.Goals as goal
 
 -- the key at an index, its score as it is handed on
-there : (bytes : List ℕ) (i : ℕ) (score : ℤ) (member : List ℕ) → FitsSigned w64 score → slice_get (keys_in bytes) i ≡ Some (score, member) → slice_get (keys_in bytes) i ≡ Some (to_z w64 (of_z w64 score), member)
+there : (bytes : List ℕ) (i : ℕ) (score : ℤ) (member : List ℕ) → FitsSigned w64 score → slice_get (keys_in bytes) i ≡ Some (score, member)
+    → slice_get (keys_in bytes) i ≡ Some (to_z w64 (of_z w64 score), member)
 there bytes i score member fits is = is ∙ ap (λ (n : ℤ). Some (n, member)) (sym (to_z-of_z w64 score fits))
 
 pub returns-then-not-is_before : goal.returns-then-not-is_before
@@ -53,7 +54,8 @@ loop-index-preserved c =
 pub returns : goal.returns
 returns c =
     let list = keys_in c.args.bytes.now in
-    let many : c.len-count.result / 2 ≡ length list = omega (arith, keys_len (pairs c.args.bytes.now), c.len-count.ensures, ap (λ (bs : List ℕ). length (texts bs)) c.known.ensures, texts_len c.args.bytes.now c.requires.pack) in
+    let many : c.len-count.result / 2 ≡ length list = omega
+    (arith, keys_len (pairs c.args.bytes.now), c.len-count.ensures, ap (λ (bs : List ℕ). length (texts bs)) c.known.ensures, texts_len c.args.bytes.now c.requires.pack) in
     let all : take c.loop-index.index list ≡ list = take_all c.loop-index.index list (omega (arith, many, c.loop-index-test.false)) in
     let last : c.loop-index.index ≡ c.len-count.result / 2 = omega (arith, c.loop-index-test.false, c.loop-index.auto.index-end) in
     subst (λ (score : ℤ). c.len-count.result / 2 ≡ place_in (score, c.args.member.now) list) (to_z-of_z w64 c.args.score c.ranges.score)

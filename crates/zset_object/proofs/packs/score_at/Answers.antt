@@ -15,4 +15,5 @@ score_of-requires c =
 pub returns : goal.returns
 returns c = λ i at key there.
     let bytes = c.args.bytes.now in
-    number_there (pairs bytes) i key c.score_of.result (record { sfits = c.score_of.type_inv }) (pair_inside bytes i c.args.at c.requires.pack.pack at) there (c.score_of.ensures ∙ c.second.ensures i at)
+    number_there (pairs bytes) i key c.score_of.result (record { sfits = c.score_of.type_inv }) (pair_inside bytes i c.args.at c.requires.pack.pack at) there
+    (c.score_of.ensures ∙ c.second.ensures i at)

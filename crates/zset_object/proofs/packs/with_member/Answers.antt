@@ -19,9 +19,11 @@ returns-clause-list c =
     let same = to_z-of_z w64 c.args.score c.ranges.score in
     let text : c.as_bytes.result.now ≡ canonical c.args.score = c.as_bytes.ensures.value ∙ c.format.ensures.text ∙ ap canonical same in
     let place : c.place_of-index.result ≡ place_in (c.args.score, member) (keys_in pack) =
-    c.place_of-index.ensures ∙ ap (λ (score : ℤ). place_in (score, member) (keys_in c.deref.result.now)) same ∙ ap (λ (bs : List ℕ). place_in (c.args.score, member) (keys_in bs)) c.deref.ensures.value in
+    c.place_of-index.ensures ∙ ap (λ (score : ℤ). place_in (score, member) (keys_in c.deref.result.now)) same
+    ∙ ap (λ (bs : List ℕ). place_in (c.args.score, member) (keys_in bs)) c.deref.ensures.value in
     subst (λ (n : ℕ). IfOk c.put_pair.result (λ new. pairs new.items ≡ inserted (pairs pack) n (member, canonical c.args.score))) place
     (subst (λ (t : List ℕ). IfOk c.put_pair.result (λ new. pairs new.items ≡ inserted (pairs pack) c.place_of-index.result (member, t))) text c.put_pair.ensures.list)
 
 pub returns-clause-pack : goal.returns-clause-pack
-returns-clause-pack c = if_pack_joined (λ new. new.items) c.put_pair.result c.args.pack.items c.args.score c.args.member.now c.ranges.score c.requires.pack c.requires.lacks c.put_pair.ensures.pack (returns-clause-list c)
+returns-clause-pack c = if_pack_joined (λ new. new.items) c.put_pair.result c.args.pack.items c.args.score c.args.member.now c.ranges.score c.requires.pack c.requires.lacks
+    c.put_pair.ensures.pack (returns-clause-list c)

@@ -22,15 +22,18 @@ loop-item-preserved g c =
     let inv = c.loop-item.invariant in
     let one = c.settle_item.ensures in
     record {
-      settled = settled_more m (g.B.BlockStore.blocks c.loop-item.store) (g.B.BlockStore.blocks c.settle_item.new.store) c.args.table.now c.loop-item.table c.settle_item.new.self c.args.part.start c.loop-item.item (omega arith) inv.settled one.settled;
-      calm = calm_more (g.B.BlockStore.heap c.loop-item.store) (g.B.BlockStore.heap c.settle_item.new.store) c.loop-item.table.table c.settle_item.new.self.table c.args.part.start c.loop-item.item one.calmer one.settled.others inv.calm
+      settled = settled_more m (g.B.BlockStore.blocks c.loop-item.store) (g.B.BlockStore.blocks c.settle_item.new.store) c.args.table.now c.loop-item.table c.settle_item.new.self
+          c.args.part.start c.loop-item.item (omega arith) inv.settled one.settled;
+      calm = calm_more (g.B.BlockStore.heap c.loop-item.store) (g.B.BlockStore.heap c.settle_item.new.store) c.loop-item.table.table c.settle_item.new.self.table c.args.part.start
+          c.loop-item.item one.calmer one.settled.others inv.calm
           (λ i e low high there. let same : i ≡ c.loop-item.item = omega (arith, low, high) in one.calm e (ap (item c.settle_item.new.self.table) (sym same) ∙ there));
       calmer = Calmer-next (g.B.BlockStore.heap c.args.store.now) (g.B.BlockStore.heap c.loop-item.store) (g.B.BlockStore.heap c.settle_item.new.store) inv.calmer one.calmer;
     }
 
 pub returns-clause-settled : goal.returns-clause-settled
 returns-clause-settled g c =
-    settled_weaker (g.B.BlockStore.blocks c.args.store.now) (g.B.BlockStore.blocks c.loop-item.store) c.args.table.now c.loop-item.table (λ i. (i < c.args.part.start) ⊎ (c.loop-item.item ≤ i)) (λ i. (i < c.args.part.start) ⊎ (c.args.part.end ≤ i))
+    settled_weaker (g.B.BlockStore.blocks c.args.store.now) (g.B.BlockStore.blocks c.loop-item.store) c.args.table.now c.loop-item.table
+    (λ i. (i < c.args.part.start) ⊎ (c.loop-item.item ≤ i)) (λ i. (i < c.args.part.start) ⊎ (c.args.part.end ≤ i))
     (λ i h. elim h [
       | inl low ↦ inl low
       | inr high ↦ inr (omega (arith, high, c.loop-item.auto.item, c.requires.order, c.loop-item-test.false))

@@ -10,5 +10,6 @@ invariant_of-self c = both_same (plain_blocks c.self.inside.store) (plain_blocks
 
 pub invariant_of-self-then-bytes-len : goal.invariant_of-self-then-bytes-len
 invariant_of-self-then-bytes-len c =
-    let longer : IsSome (plain_blocks c.lengthen.new.self c.in_ok-new.new) = live-put (with_block (plain_blocks c.self.inside.store) c.self.inside.at None) (plain_blocks c.lengthen.new.self) c.in_ok-new.new _ c.in_ok-new.ensures.lengthened in
+    let longer : IsSome (plain_blocks c.lengthen.new.self c.in_ok-new.new) =
+    live-put (with_block (plain_blocks c.self.inside.store) c.self.inside.at None) (plain_blocks c.lengthen.new.self) c.in_ok-new.new _ c.in_ok-new.ensures.lengthened in
     (longer, longer)

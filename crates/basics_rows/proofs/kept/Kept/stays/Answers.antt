@@ -4,7 +4,8 @@ use Rattle.std.proofs.Common.{ap, ◌∙◌, IsSome}
 use Rattle.basics_rows.proofs.kept.Kept.stays.Goals as goal
 
 pub settle-settled-requires : goal.settle-settled-requires
-settle-settled-requires c = live-kept (plain_blocks c.self.inside.store) (plain_blocks c.start_sweep.new.store) c.self.inside.at c.self.inside.at (ap (λ b. b c.self.inside.at) c.start_sweep.ensures.blocks) c.self.invariant.0
+settle-settled-requires c = live-kept (plain_blocks c.self.inside.store) (plain_blocks c.start_sweep.new.store) c.self.inside.at c.self.inside.at
+    (ap (λ b. b c.self.inside.at) c.start_sweep.ensures.blocks) c.self.invariant.0
 
 pub invariant_of-self : goal.invariant_of-self
 invariant_of-self c =

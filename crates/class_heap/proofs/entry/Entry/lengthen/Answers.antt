@@ -11,6 +11,7 @@ returns c =
       lengthened = record {
         block = c.resize.new.self;
         is = refl;
-        holds = filled_up c.in-Large.bytes c.args.len (unwrap_or (block_in c.args.self.now 0) []) c.resize.new.self.items _ was c.requires.longer (c.resize.ensures.succeeds room) c.resize.ensures.items;
+        holds = filled_up c.in-Large.bytes c.args.len (unwrap_or (block_in c.args.self.now 0) []) c.resize.new.self.items _ was c.requires.longer (c.resize.ensures.succeeds room)
+            c.resize.ensures.items;
       };
     }

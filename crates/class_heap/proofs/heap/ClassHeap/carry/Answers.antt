@@ -57,7 +57,8 @@ invariant_of-self c =
     let more = c.carry-slot.ensures.more ∙ ap (λ x. fuller (use_in x)) target in
     record {
       sound = sound_moved s.sound a n class m lt new c.give_back.new.self c.carry-slot.new.other two left more c.set-2.new.self (c.set-2.ensures.bound ∙ c.set.ensures.bound)
-          (labels_moved s.sound a n new c.give_back.new.self c.carry-slot.new.other c.set.new.self c.set-2.new.self c.labels-labels.result c.labels-labels-2.result two m.apart c.set.ensures.bound c.set-2.ensures.bound c.labels-labels.ensures c.labels-labels-2.ensures c.set.ensures.labels c.set-2.ensures.labels);
+          (labels_moved s.sound a n new c.give_back.new.self c.carry-slot.new.other c.set.new.self c.set-2.new.self c.labels-labels.result c.labels-labels-2.result two m.apart
+          c.set.ensures.bound c.set-2.ensures.bound c.labels-labels.ensures c.labels-labels-2.ensures c.set.ensures.labels c.set-2.ensures.labels);
     }
 
 pub returns-clause-fresh : goal.returns-clause-fresh
@@ -88,7 +89,9 @@ returns-clause-moved c =
     let more = c.carry-slot.ensures.more ∙ ap (λ x. fuller (use_in x)) target in
     moved_blocks es new c.args.at (record { slab = n; slot = c.carry-slot.result }) c.give_back.new.self c.carry-slot.new.other m.apart two
     (λ slot. c.give_back.ensures.ended slot ∙ ap (λ x. with_slot (block_in x) c.args.at.slot None slot) source)
-    (λ slot. c.carry-slot.ensures.carried slot ∙ (ap (λ x. with_slot (block_in x) c.carry-slot.result (block_in c.replace-source.result c.args.at.slot) slot) target ∙ ap (λ x. with_slot (block_in (entry_at es n)) c.carry-slot.result (block_in x c.args.at.slot) slot) source))
+    (λ slot. c.carry-slot.ensures.carried slot ∙
+    (ap (λ x. with_slot (block_in x) c.carry-slot.result (block_in c.replace-source.result c.args.at.slot) slot) target
+    ∙ ap (λ x. with_slot (block_in (entry_at es n)) c.carry-slot.result (block_in x c.args.at.slot) slot) source))
 
 pub returns-clause-slabs : goal.returns-clause-slabs
 returns-clause-slabs c =

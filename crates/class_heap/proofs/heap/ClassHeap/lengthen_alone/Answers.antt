@@ -7,4 +7,5 @@ pub lengthen_reserved-requires-clause-longer : goal.lengthen_reserved-requires-c
 lengthen_reserved-requires-clause-longer c = omega (arith, ap (λ m. length (bytes_at m c.args.at)) c.reserve_alone.ensures.blocks, c.requires.longer)
 
 pub returns-clause-lengthened : goal.returns-clause-lengthened
-returns-clause-lengthened c = lengthens_from c.args.self.now c.reserve_alone.new.self c.lengthen_reserved.new.self c.args.at c.args.len c.lengthen_reserved.result c.reserve_alone.ensures.blocks c.reserve_alone.ensures.slabs c.lengthen_reserved.ensures.lengthened
+returns-clause-lengthened c = lengthens_from c.args.self.now c.reserve_alone.new.self c.lengthen_reserved.new.self c.args.at c.args.len c.lengthen_reserved.result
+    c.reserve_alone.ensures.blocks c.reserve_alone.ensures.slabs c.lengthen_reserved.ensures.lengthened

@@ -17,5 +17,6 @@ returns-clause-placed c =
     let change = change_set m.entries.items c.in_ok-slab.slab e v.within in
     placing old m.entries.items new e (record { slab = c.in_ok-slab.slab; slot = 0 }) c.args.len c.vacant.ensures.passing c.vacant.ensures.entries change
     (ap (λ x. block_in x 0) v.vacant)
-    (λ slot. let zeros : c.in_ok-bytes.bytes.items ≡ replicate c.args.len 0 = search rules in ap (λ b. cond (eqb slot 0) (Some b) None) zeros ∙ large_slots (replicate c.args.len 0) (entry_at m.entries.items c.in_ok-slab.slab) slot v.vacant)
+    (λ slot. let zeros : c.in_ok-bytes.bytes.items ≡ replicate c.args.len 0 = search rules in ap (λ b. cond (eqb slot 0) (Some b) None) zeros
+    ∙ large_slots (replicate c.args.len 0) (entry_at m.entries.items c.in_ok-slab.slab) slot v.vacant)
     (goes_alone old m.entries.items new e c.args.len c.in_ok-slab.slab c.requires c.vacant.ensures.entries v change refl)

@@ -30,7 +30,8 @@ invariant_of-self c =
     let of_class : class_in (use_in (entry_at s.entries.items c.args.at.slab)) ≡ Some c.in-Some.class = ap (λ x. class_in (use_in x)) (sym is) ∙ (sym c.class-class.ensures ∙ c.in-Some.is) in
     let margins = slice_set s.margins c.in-Some.class (slice_index_or s.margins c.in-Some.class 0 + 1) in
     record {
-      sound = sound_set s.sound c.args.at.slab e c.labels-labels.result c.set.new.self margins there c.labels-labels.ensures c.set.ensures.bound c.set.ensures.labels (entry_given s.sound c.args.at.slab e left) (length-set s.margins c.in-Some.class (slice_index_or s.margins c.in-Some.class 0 + 1) ∙ s.sound.classes)
+      sound = sound_set s.sound c.args.at.slab e c.labels-labels.result c.set.new.self margins there c.labels-labels.ensures c.set.ensures.bound c.set.ensures.labels
+          (entry_given s.sound c.args.at.slab e left) (length-set s.margins c.in-Some.class (slice_index_or s.margins c.in-Some.class 0 + 1) ∙ s.sound.classes)
           (λ open' k within. margin_given s.margins (entry_at s.entries.items c.args.at.slab) e c.in-Some.class c.args.at.slot s.sound.classes of_class c.requires left k within);
     }
 
@@ -40,8 +41,10 @@ invariant_of-self-in_default c =
     let is = get_or_read s.entries.items _ _ there c.index_mut-entry.ensures.value Vacant in let e = c.give_back.new.self in
     let left = c.give_back.ensures.left ∙ ap (λ x. returned (use_in x)) is in
     record {
-      sound = sound_set s.sound c.args.at.slab e c.labels-labels.result c.set.new.self s.margins there c.labels-labels.ensures c.set.ensures.bound c.set.ensures.labels (entry_given s.sound c.args.at.slab e left) s.sound.classes
-          (λ open' k within. margin_alone s.margins (entry_at s.entries.items c.args.at.slab) e (λ class of_class. c.in_default.not-Some class (c.class-class.ensures ∙ (ap (λ x. class_in (use_in x)) is ∙ of_class))) left k within);
+      sound = sound_set s.sound c.args.at.slab e c.labels-labels.result c.set.new.self s.margins there c.labels-labels.ensures c.set.ensures.bound c.set.ensures.labels
+          (entry_given s.sound c.args.at.slab e left) s.sound.classes
+          (λ open' k within. margin_alone s.margins (entry_at s.entries.items c.args.at.slab) e
+          (λ class of_class. c.in_default.not-Some class (c.class-class.ensures ∙ (ap (λ x. class_in (use_in x)) is ∙ of_class))) left k within);
     }
 
 pub invariant_of-self-else-self : goal.invariant_of-self-else-self
@@ -50,7 +53,8 @@ invariant_of-self-else-self c =
     let is = get_or_read s.entries.items _ _ there c.index_mut-entry.ensures.value Vacant in let e = c.give_back.new.self in
     let left = c.give_back.ensures.left ∙ ap (λ x. returned (use_in x)) is in
     record {
-      sound = sound_set s.sound c.args.at.slab e c.labels-labels.result c.set.new.self s.margins there c.labels-labels.ensures c.set.ensures.bound c.set.ensures.labels (entry_given s.sound c.args.at.slab e left) s.sound.classes
+      sound = sound_set s.sound c.args.at.slab e c.labels-labels.result c.set.new.self s.margins there c.labels-labels.ensures c.set.ensures.bound c.set.ensures.labels
+          (entry_given s.sound c.args.at.slab e left) s.sound.classes
           (λ open'. absurd (false≢true (sym c.if-self.false ∙ open')));
     }
 
@@ -62,7 +66,8 @@ returns-in-Some-clause-ended c =
 pub returns-in-Some-clause-step : goal.returns-in-Some-clause-step
 returns-in-Some-clause-step c =
     let s = c.args.self.now in let is = get_or_read s.entries.items _ _ (slab_there s.entries.items c.args.at.slab c.args.at.slot c.requires) c.index_mut-entry.ensures.value Vacant in
-    given_step s.passing s.entries.items c.args.at c.give_back.new.self c.requires (λ slot. c.give_back.ensures.ended slot ∙ ap (λ x. with_slot (block_in x) c.args.at.slot None slot) is) (c.give_back.ensures.left ∙ ap (λ x. returned (use_in x)) is)
+    given_step s.passing s.entries.items c.args.at c.give_back.new.self c.requires (λ slot. c.give_back.ensures.ended slot ∙ ap (λ x. with_slot (block_in x) c.args.at.slot None slot) is)
+    (c.give_back.ensures.left ∙ ap (λ x. returned (use_in x)) is)
 
 pub returns-in-Some-clause-calm : goal.returns-in-Some-clause-calm
 returns-in-Some-clause-calm c =
@@ -77,7 +82,8 @@ returns-in_default-clause-calm c =
 pub returns-in_default-clause-step : goal.returns-in_default-clause-step
 returns-in_default-clause-step c =
     let s = c.args.self.now in let is = get_or_read s.entries.items _ _ (slab_there s.entries.items c.args.at.slab c.args.at.slot c.requires) c.index_mut-entry.ensures.value Vacant in
-    given_step s.passing s.entries.items c.args.at c.give_back.new.self c.requires (λ slot. c.give_back.ensures.ended slot ∙ ap (λ x. with_slot (block_in x) c.args.at.slot None slot) is) (c.give_back.ensures.left ∙ ap (λ x. returned (use_in x)) is)
+    given_step s.passing s.entries.items c.args.at c.give_back.new.self c.requires (λ slot. c.give_back.ensures.ended slot ∙ ap (λ x. with_slot (block_in x) c.args.at.slot None slot) is)
+    (c.give_back.ensures.left ∙ ap (λ x. returned (use_in x)) is)
 
 pub returns-else-self-clause-ended : goal.returns-else-self-clause-ended
 returns-else-self-clause-ended c =
@@ -87,4 +93,5 @@ returns-else-self-clause-ended c =
 pub returns-else-self-clause-step : goal.returns-else-self-clause-step
 returns-else-self-clause-step c =
     let s = c.args.self.now in let is = get_or_read s.entries.items _ _ (slab_there s.entries.items c.args.at.slab c.args.at.slot c.requires) c.index_mut-entry.ensures.value Vacant in
-    given_step s.passing s.entries.items c.args.at c.give_back.new.self c.requires (λ slot. c.give_back.ensures.ended slot ∙ ap (λ x. with_slot (block_in x) c.args.at.slot None slot) is) (c.give_back.ensures.left ∙ ap (λ x. returned (use_in x)) is)
+    given_step s.passing s.entries.items c.args.at c.give_back.new.self c.requires (λ slot. c.give_back.ensures.ended slot ∙ ap (λ x. with_slot (block_in x) c.args.at.slot None slot) is)
+    (c.give_back.ensures.left ∙ ap (λ x. returned (use_in x)) is)

@@ -8,13 +8,15 @@ use Rattle.class_heap.proofs.Lengthening.{ok-blocks, ok-calm, ok-served}
 use Rattle.class_heap.proofs.heap.ClassHeapBlockStore.lengthen.Goals as goal
 
 pub returns-then-is_none-2-clause-lengthened : goal.returns-then-is_none-2-clause-lengthened
-returns-then-is_none-2-clause-lengthened c = ok-blocks c.args.self.now c.lengthen_alone.new.self c.args.at c.args.len c.lengthen_alone.result c.lengthen_alone.ensures.lengthened c.requires.live c.requires.longer
+returns-then-is_none-2-clause-lengthened c = ok-blocks c.args.self.now c.lengthen_alone.new.self c.args.at c.args.len c.lengthen_alone.result c.lengthen_alone.ensures.lengthened
+    c.requires.live c.requires.longer
 
 pub returns-then-is_none-2-clause-calm : goal.returns-then-is_none-2-clause-calm
 returns-then-is_none-2-clause-calm c = ok-calm c.args.self.now c.lengthen_alone.new.self c.args.at c.args.len c.lengthen_alone.result c.lengthen_alone.ensures.lengthened
 
 pub returns-then-is_none-2-clause-served : goal.returns-then-is_none-2-clause-served
-returns-then-is_none-2-clause-served c = ok-served c.args.self.now c.lengthen_alone.new.self c.args.at c.args.len c.lengthen_alone.result c.lengthen_alone.ensures.lengthened c.lengthen_alone.ensures.err_blocks c.lengthen_alone.ensures.err_slabs
+returns-then-is_none-2-clause-served c = ok-served c.args.self.now c.lengthen_alone.new.self c.args.at c.args.len c.lengthen_alone.result c.lengthen_alone.ensures.lengthened
+    c.lengthen_alone.ensures.err_blocks c.lengthen_alone.ensures.err_slabs
 
 pub returns-in_err-new-clause-served : goal.returns-in_err-new-clause-served
 returns-in_err-new-clause-served c = Served-once _ _ c.place.ensures.step
@@ -32,7 +34,8 @@ copy_block-requires-clause-room c =
     omega (arith, ap length same, length-placed m mid c.in_ok-new.new c.args.len c.in_ok-new.ensures.placed, c.requires.longer)
 
 pub give_back-requires : goal.give_back-requires
-give_back-requires c = live-beside_put (heap_blocks c.place.new.self) (heap_blocks c.copy_block.new.self) c.in_ok-new.new c.args.at _ c.copy_block.ensures.copied (live-beside_put (heap_blocks c.args.self.now) (heap_blocks c.place.new.self) c.in_ok-new.new c.args.at _ c.in_ok-new.ensures.placed c.requires.live)
+give_back-requires c = live-beside_put (heap_blocks c.place.new.self) (heap_blocks c.copy_block.new.self) c.in_ok-new.new c.args.at _ c.copy_block.ensures.copied
+    (live-beside_put (heap_blocks c.args.self.now) (heap_blocks c.place.new.self) c.in_ok-new.new c.args.at _ c.in_ok-new.ensures.placed c.requires.live)
 
 pub returns-clause-lengthened : goal.returns-clause-lengthened
 returns-clause-lengthened c =

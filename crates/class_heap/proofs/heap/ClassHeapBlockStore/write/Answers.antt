@@ -20,7 +20,9 @@ pub returns-clause-written : goal.returns-clause-written
 returns-clause-written c =
     let s = c.args.self.now in let there = slab_there s.entries.items c.args.at.slab c.args.at.slot c.requires.live in
     let is = get_or_read s.entries.items _ _ there c.index_mut.ensures.value Vacant in
-    blocks_written s.entries.items c.args.at c.write.new.self _ c.requires.live (λ slot. c.write.ensures.written slot ∙ ap (λ x. with_slot (block_in x) c.args.at.slot (Some (overwritten (unwrap_or (block_in x c.args.at.slot) []) c.args.from c.args.piece.now)) slot) is)
+    blocks_written s.entries.items c.args.at c.write.new.self _ c.requires.live
+    (λ slot. c.write.ensures.written slot ∙ ap
+    (λ x. with_slot (block_in x) c.args.at.slot (Some (overwritten (unwrap_or (block_in x c.args.at.slot) []) c.args.from c.args.piece.now)) slot) is)
 
 pub returns-clause-slabs : goal.returns-clause-slabs
 returns-clause-slabs c =

@@ -18,7 +18,8 @@ use Rattle.class_heap.proofs.held.Held.TheLaw.Statement.{statement}
 use mir.Raw.{raw as bare}
 
 pub shares : (T B : RattleType) (g : Ghosts B.Denot) (L : Laws T) (K : Laws B) → statement T B g L K
-shares T B g L K = of_Lends (C.struct T B g) (C.the_codes T.Denot B.Denot T.coded B.coded) (C.the_heap T B g) (C.the_lent T B g) (λ d p. lent_at_shr_laws T L.shr_laws d.at d.value) (copy_shared RawPtr-field RawPtr-copy, (row_shared B K, tt)) (λ M 𝓤 𝓛 d p.
+shares T B g L K = of_Lends (C.struct T B g) (C.the_codes T.Denot B.Denot T.coded B.coded) (C.the_heap T B g) (C.the_lent T B g) (λ d p. lent_at_shr_laws T L.shr_laws d.at d.value)
+    (copy_shared RawPtr-field RawPtr-copy, (row_shared B K, tt)) (λ M 𝓤 𝓛 d p.
     let l = (C.the_row T B g).lives in
     Lends-first 𝓛 (lies_at T full_share d.at d.value) (g.dealloc_token d.alloc (bare (lone T.mir)) d.at) (lent_at T d.at d.value) l
     (Lends-lies 𝓛 T l d.at d.value (Shares-less 𝓛 T T.lives l (Incl-trans (meet_⊑_left (T.lives ++ (B.lives ++ [])) _) (meet_⊑_left T.lives (B.lives ++ []))) (L.shares 𝓛) d.value)))

@@ -46,7 +46,11 @@ module _ (E : Bx) where
   fn' = inst_fn (args E) code.function
 
   abbrev ended : Ended
-  ended = record { signature = record { lifetimes = 1; outlives = []; params = RefOf (0 ∷ []) tt (plain (λ _. B E)) (λ _. tt) ∷ []; result = RefOf (0 ∷ []) tt (plain (λ _. R E)) (λ _. tt) }; kept = (yes, tt) }
+  ended = record {
+    signature = record { lifetimes = 1; outlives = []; params = RefOf (0 ∷ []) tt (plain (λ _. B E)) (λ _. tt) ∷ []; result = RefOf (0 ∷ []) tt (plain (λ _. R E)) (λ _. tt) };
+    kept =
+        (yes, tt);
+  }
 
   abbrev stayed : Stays ended.signature.params ended.kept
   stayed = (stay_none_ref (0 ∷ []) tt (plain (λ _. B E)) yes, tt)
@@ -83,17 +87,22 @@ module _ (E : Bx) {M : Type 1} {𝓤 : Ura M} (𝓛 : Logic 𝓤) where
     exits =
         qed 𝓛 (‵ (flft κ q) ∷ ‵ (hidden_shr (B E) κ d b o) ∷ ‵ (hidden_shr (R E) κ d.value at.0 at.1) ∷ []) ∵
         suffices ! _ (ends_at 𝓛 (ended E) (stayed E) (spec E 𝓤) bound (vptr at.0 at.1) (record { ref_ptr = at; now = d.value }) (tt, tt) (tt, tt)) $ says ! refl $
-        nothing ! $ move ! (1 ∷ 0 ∷ []) $ join ! $ frame ! $ feq_i ! (List Val) (vptr b o ∷ []) (vptr b o ∷ []) refl $ fjoin ! $ nothing ! $ move ! (1 ∷ 0 ∷ []) $ fjoin ! $ frame ! $ feq_i ! (List Val) (vptr at.0 at.1 ∷ []) (vptr at.0 at.1 ∷ []) refl $ fjoin ! $ done !
+        nothing ! $ move ! (1 ∷ 0 ∷ []) $ join ! $ frame ! $ feq_i ! (List Val) (vptr b o ∷ []) (vptr b o ∷ []) refl $ fjoin ! $ nothing ! $ move ! (1 ∷ 0 ∷ []) $ fjoin ! $ frame ! $ feq_i
+        ! (List Val) (vptr at.0 at.1 ∷ []) (vptr at.0 at.1 ∷ []) refl $ fjoin ! $ done !
 
     module _ (C : Calls 𝓤 H) (Λ : Loops 𝓤 H) where
       walk : ent 𝓤 (on_entry 𝓛 (ended E).signature (κ, tt) (q, tt) (self, tt) (vptr b o ∷ [], tt)) (WpFn 𝓤 H C Λ (fn' E) (vptr b o ∷ []) Post)
       walk =
           qed 𝓛 ((‵ (flft κ q) ⊛ ‵ ftrue) ∷ ‵ (owns (ShrRef (named 0) κ (B E) ∷ []) (self, tt) (vptr b o ∷ [], tt)) ∷ []) ∵ enter ! C Λ (fn' E) (vptr b o ∷ []) _ $
           alloc1 ! (λ l₀. alloc1 ! (λ l₁. alloc1 ! (λ l₂. alloc0 ! $ params1 ! $ pass1 ! (init ! 2 refl (tt, tt)) $ pass0 ! $
-          let En : Env 𝓤 H = ((ty_ref (named 0) imm (ty_param 0), l₀) ∷ (ty_ref (named 0) imm (ty_named ((owning E).name, []) (tcons (ty_param 0) (tcons (ty_param 1) tnil))), l₁) ∷ (ty_ref erased imm (ty_param 0), l₂) ∷ []) in
+          let En : Env 𝓤 H =
+          ((ty_ref (named 0) imm (ty_param 0), l₀) ∷ (ty_ref (named 0) imm (ty_named ((owning E).name, []) (tcons (ty_param 0) (tcons (ty_param 1) tnil))), l₁)
+          ∷ (ty_ref erased imm (ty_param 0), l₂) ∷ []) in
           move ! (7 ∷ []) $
           fsplit ! $ fsplit ! $ drop ! $ shr_dup ! (B E) (box_row_laws E) d b o κ $
-          use1 𝓛 (‵ (hidden_shr Words κ fields b o) ⊛ ‵ (fhide (box-type.the_lent (R E) (P E) E.al.g d d.at κ))) (lent_out 𝓛 (box-type.struct (R E) (P E) E.al.g) (box-type.the_codes (X E) (P E).Denot (R E).coded (P E).coded) (box-type.the_heap (R E) (P E) E.al.g) (box-type.the_lent (R E) (P E) E.al.g) κ d b o) $ split ! $
+          use1 𝓛 (‵ (hidden_shr Words κ fields b o) ⊛ ‵ (fhide (box-type.the_lent (R E) (P E) E.al.g d d.at κ)))
+          (lent_out 𝓛 (box-type.struct (R E) (P E) E.al.g) (box-type.the_codes (X E) (P E).Denot (R E).coded (P E).coded) (box-type.the_heap (R E) (P E) E.al.g)
+          (box-type.the_lent (R E) (P E) E.al.g) κ d b o) $ split ! $
           move ! (1 ∷ []) $
           unhide ! $ fsplit ! $ use1 𝓛 (raw (fact 𝓤 (InBlock d.at))) (in_block_says 𝓛 d.at) $ heard ! (InBlock d.at) (λ inb. hide ! $
           move ! (10 ∷ []) $

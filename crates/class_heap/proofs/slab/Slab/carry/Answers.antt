@@ -7,7 +7,9 @@ use Rattle.class_heap.proofs.Parts.{placed_over, carried, sound_over}
 use Rattle.class_heap.proofs.slab.Slab.carry.Goals as goal
 
 pub copy_across-requires-clause-from : goal.copy_across-requires-clause-from
-copy_across-requires-clause-from c = (let s = c.args.self.now in let f = part_fits s.sound c.args.slot c.requires.live in let e = get_or_read s.words.items _ _ (live_there s.sound c.args.slot c.requires.live) c.index.ensures 65535 in omega (arith, f, e))
+copy_across-requires-clause-from c =
+    (let s = c.args.self.now in let f = part_fits s.sound c.args.slot c.requires.live in let e =
+    get_or_read s.words.items _ _ (live_there s.sound c.args.slot c.requires.live) c.index.ensures 65535 in omega (arith, f, e))
 
 pub copy_across-requires-clause-room : goal.copy_across-requires-clause-room
 copy_across-requires-clause-room c =
@@ -22,7 +24,10 @@ invariant_of-other c =
     let p : length piece ≤ c.index.result.now = omega (arith, length-take c.index.result.now (drop (c.args.slot * c.args.self.now.size) c.args.self.now.mem)) in
     let f = part_fits o.sound c.take_slot-new.result c.take_slot-new.ensures.taken in
     let l = block_length o.sound c.take_slot-new.result c.take_slot-new.ensures.taken in let m = c.take_slot-new.ensures.long in
-    record { sound = subst (λ m. IsSlab o.class o.size o.used o.head o.words.items m) (sym c.copy_across.ensures) (sound_over o.sound (c.take_slot-new.result * o.size) piece (omega (arith, p, f, l, m))) }
+    record {
+      sound = subst (λ m. IsSlab o.class o.size o.used o.head o.words.items m) (sym c.copy_across.ensures)
+          (sound_over o.sound (c.take_slot-new.result * o.size) piece (omega (arith, p, f, l, m)));
+    }
 
 pub returns-clause-carried : goal.returns-clause-carried
 returns-clause-carried c = λ at.

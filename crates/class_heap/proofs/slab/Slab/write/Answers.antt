@@ -20,4 +20,7 @@ returns-clause-written c = λ other.
 pub invariant_of-self : goal.invariant_of-self
 invariant_of-self c =
     let s = c.args.self.now in
-    record { sound = subst (λ m. IsSlab s.class s.size s.used s.head s.words.items m) (sym c.put.ensures) (sound_over s.sound (c.args.slot * s.size + c.args.from) c.args.piece.now (written_fits s.sound c.args.slot c.args.from c.args.piece.now c.requires.live c.requires.room)) }
+    record {
+      sound = subst (λ m. IsSlab s.class s.size s.used s.head s.words.items m) (sym c.put.ensures)
+          (sound_over s.sound (c.args.slot * s.size + c.args.from) c.args.piece.now (written_fits s.sound c.args.slot c.args.from c.args.piece.now c.requires.live c.requires.room));
+    }

@@ -25,6 +25,7 @@ returns-clause-makes g c =
       was_form = ap encoding_of c.in-Hash.is;
       is = refl;
       is_form = refl;
-      made = subst (λ (h : Fields). g.E.HashEdit.makes c.args.self.now.edit c.edit_hash.new.self h.limits (fields m h) (form_of h) (fields after new) (form_of new)) same c.in_ok-edit_hash-in-Hash.ensures.makes;
+      made = subst (λ (h : Fields). g.E.HashEdit.makes c.args.self.now.edit c.edit_hash.new.self h.limits (fields m h) (form_of h) (fields after new) (form_of new)) same
+          c.in_ok-edit_hash-in-Hash.ensures.makes;
       counted = counted;
     }

@@ -17,20 +17,24 @@ pub returns-in_ok-copy_to-in-Some-clause-gives : goal.returns-in_ok-copy_to-in-S
 returns-in_ok-copy_to-in-Some-clause-gives g c =
     let blocks = g.B.BlockStore.blocks in
     let world = seen c.args.at.now c.args.keyspace.now.bases (blocks c.args.keyspace.now.store) in
-    copy_done world c.args.from.now c.args.to.now c.args.options c.number_of-number.result (c.number_of-number.ensures.number world refl) (seen c.args.at.now c.copy_to.new.keyspace.bases (blocks c.copy_to.new.keyspace.store)) c.count_reply-in-Some.result
+    copy_done world c.args.from.now c.args.to.now c.args.options c.number_of-number.result (c.number_of-number.ensures.number world refl)
+    (seen c.args.at.now c.copy_to.new.keyspace.bases (blocks c.copy_to.new.keyspace.store)) c.count_reply-in-Some.result
     (sym c.if-is_same_place.ensures) (ap is_some (rw c.in-Some.is at c.seek-found.ensures.until).stands) (sym c.if-is_taken.ensures) c.in_ok-copy_to-in-Some.ensures.world c.count_reply-in-Some.ensures
 
 pub returns-then-is_same_place-clause-kept : goal.returns-then-is_same_place-clause-kept
 returns-then-is_same_place-clause-kept g c =
-    unchanged g.B.BlockStore.blocks g.B.BlockStore.step (two_keys c.args.at.now.db c.args.from.now (number_or c.args.at.now.db c.args.options.db) c.args.to.now) c.args.keyspace.now _ c.requires.ready.sound
+    unchanged g.B.BlockStore.blocks g.B.BlockStore.step (two_keys c.args.at.now.db c.args.from.now (number_or c.args.at.now.db c.args.options.db) c.args.to.now) c.args.keyspace.now _
+    c.requires.ready.sound
 
 pub returns-in-None-clause-kept : goal.returns-in-None-clause-kept
 returns-in-None-clause-kept g c =
-    unchanged g.B.BlockStore.blocks g.B.BlockStore.step (two_keys c.args.at.now.db c.args.from.now (number_or c.args.at.now.db c.args.options.db) c.args.to.now) c.args.keyspace.now _ c.requires.ready.sound
+    unchanged g.B.BlockStore.blocks g.B.BlockStore.step (two_keys c.args.at.now.db c.args.from.now (number_or c.args.at.now.db c.args.options.db) c.args.to.now) c.args.keyspace.now _
+    c.requires.ready.sound
 
 pub returns-then-is_taken-clause-kept : goal.returns-then-is_taken-clause-kept
 returns-then-is_taken-clause-kept g c =
-    unchanged g.B.BlockStore.blocks g.B.BlockStore.step (two_keys c.args.at.now.db c.args.from.now (number_or c.args.at.now.db c.args.options.db) c.args.to.now) c.args.keyspace.now _ c.requires.ready.sound
+    unchanged g.B.BlockStore.blocks g.B.BlockStore.step (two_keys c.args.at.now.db c.args.from.now (number_or c.args.at.now.db c.args.options.db) c.args.to.now) c.args.keyspace.now _
+    c.requires.ready.sound
 
 pub returns-then-is_same_place-clause-forms : goal.returns-then-is_same_place-clause-forms
 returns-then-is_same_place-clause-forms g c = unformed g.B.BlockStore.blocks (AsAt c.args.at.now.db c.args.from.now) c.args.keyspace.now _
@@ -42,4 +46,5 @@ pub returns-then-is_taken-clause-forms : goal.returns-then-is_taken-clause-forms
 returns-then-is_taken-clause-forms g c = unformed g.B.BlockStore.blocks (AsAt c.args.at.now.db c.args.from.now) c.args.keyspace.now _
 
 pub returns-in_ok-copy_to-in-Some-clause-forms : goal.returns-in_ok-copy_to-in-Some-clause-forms
-returns-in_ok-copy_to-in-Some-clause-forms g c = formed_ok g.B.BlockStore.blocks (AsAt c.args.at.now.db c.args.from.now) c.args.keyspace.now c.copy_to.new.keyspace _ c.in_ok-copy_to-in-Some.ensures.forms
+returns-in_ok-copy_to-in-Some-clause-forms g c = formed_ok g.B.BlockStore.blocks (AsAt c.args.at.now.db c.args.from.now) c.args.keyspace.now c.copy_to.new.keyspace _
+    c.in_ok-copy_to-in-Some.ensures.forms

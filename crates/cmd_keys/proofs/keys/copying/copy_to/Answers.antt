@@ -12,7 +12,8 @@ pub returns-in-Ok-clause-world : goal.returns-in-Ok-clause-world
 returns-in-Ok-clause-world g c =
     let blocks = g.B.BlockStore.blocks in
     on_ok_so c.put.result (λ clause entry stands.
-    copied_put c.args.at.now c.args.keyspace.now.bases c.copy_value.new.keyspace.bases c.put.new.self.bases (blocks c.args.keyspace.now.store) (blocks c.copy_value.new.keyspace.store) (blocks c.put.new.self.store)
+    copied_put c.args.at.now c.args.keyspace.now.bases c.copy_value.new.keyspace.bases c.put.new.self.bases (blocks c.args.keyspace.now.store) (blocks c.copy_value.new.keyspace.store)
+    (blocks c.put.new.self.store)
     c.args.number c.args.to.now c.args.from.now c.in-Ok.value c.args.deadline entry stands c.copy_value.ensures.world (c.in-Ok.ensures.value entry stands)
     (ap deadline_of (sym c.requires.until.stands ∙ stands)) clause) c.put.ensures.means
 
@@ -21,7 +22,9 @@ returns-in-Ok-clause-held g c = record {
   sound = c.put.ensures.sound (value_refs (g.B.BlockStore.blocks c.copy_value.new.keyspace.store) c.in-Ok.value) [] c.in-Ok.ensures.sound (λ r. omega arith);
   served = Served-then _ _ _ c.copy_value.ensures.served c.put.ensures.served;
   settings = settings_then c.args.keyspace.now.bases c.copy_value.new.keyspace.bases c.put.new.self.bases c.copy_value.ensures.settings c.put.ensures.settings;
-  within = copied_within c.args.at.now.db c.args.from.now c.args.number c.args.to.now c.args.keyspace.now.bases c.copy_value.new.keyspace.bases c.put.new.self.bases (g.B.BlockStore.blocks c.args.keyspace.now.store) (g.B.BlockStore.blocks c.copy_value.new.keyspace.store) (g.B.BlockStore.blocks c.put.new.self.store) c.copy_value.ensures.within c.put.ensures.within;
+  within = copied_within c.args.at.now.db c.args.from.now c.args.number c.args.to.now c.args.keyspace.now.bases c.copy_value.new.keyspace.bases c.put.new.self.bases
+      (g.B.BlockStore.blocks c.args.keyspace.now.store) (g.B.BlockStore.blocks c.copy_value.new.keyspace.store) (g.B.BlockStore.blocks c.put.new.self.store) c.copy_value.ensures.within
+      c.put.ensures.within;
 }
 
 pub returns-in-Err-clause-held : goal.returns-in-Err-clause-held
@@ -29,12 +32,14 @@ returns-in-Err-clause-held g c = record {
   sound = c.in-Err.ensures.err;
   served = c.copy_value.ensures.served;
   settings = c.copy_value.ensures.settings;
-  within = first_within c.args.at.now.db c.args.from.now c.args.number c.args.to.now c.args.keyspace.now.bases c.copy_value.new.keyspace.bases (g.B.BlockStore.blocks c.args.keyspace.now.store) (g.B.BlockStore.blocks c.copy_value.new.keyspace.store) c.copy_value.ensures.within;
+  within = first_within c.args.at.now.db c.args.from.now c.args.number c.args.to.now c.args.keyspace.now.bases c.copy_value.new.keyspace.bases
+      (g.B.BlockStore.blocks c.args.keyspace.now.store) (g.B.BlockStore.blocks c.copy_value.new.keyspace.store) c.copy_value.ensures.within;
 }
 
 pub returns-in-Ok-clause-forms : goal.returns-in-Ok-clause-forms
 returns-in-Ok-clause-forms g c =
-    formed_copied (AsAt c.args.at.now.db c.args.from.now) c.args.number c.args.to.now c.in-Ok.value c.args.keyspace.now.bases c.copy_value.new.keyspace.bases c.put.new.self.bases _ _ _ c.in-Ok.ensures.form c.in-Ok.ensures.forms c.put.ensures.within
+    formed_copied (AsAt c.args.at.now.db c.args.from.now) c.args.number c.args.to.now c.in-Ok.value c.args.keyspace.now.bases c.copy_value.new.keyspace.bases c.put.new.self.bases _ _ _
+    c.in-Ok.ensures.form c.in-Ok.ensures.forms c.put.ensures.within
     (c.put.ensures.sound (value_refs (g.B.BlockStore.blocks c.copy_value.new.keyspace.store) c.in-Ok.value) [] c.in-Ok.ensures.sound (λ r. omega arith)).arranged c.put.result c.put.ensures.has
 
 pub put-requires-clause-intact : goal.put-requires-clause-intact

@@ -5,7 +5,8 @@ use Rattle.cmd_keys.proofs.keys.encoding.object_encoding.Goals as goal
 
 pub returns-in_ok-new-in-Some-clause-actual : goal.returns-in_ok-new-in-Some-clause-actual
 returns-in_ok-new-in-Some-clause-actual g c =
-    actual_told c.args.keyspace.now.bases (g.B.BlockStore.blocks c.args.keyspace.now.store) c.args.at.now c.args.key.now c.in-Some.value.now _ _ c.bulk.result c.in-Some.ensures.found c.encoding-name.ensures.is (search rules) c.bulk.ensures
+    actual_told c.args.keyspace.now.bases (g.B.BlockStore.blocks c.args.keyspace.now.store) c.args.at.now c.args.key.now c.in-Some.value.now _ _ c.bulk.result c.in-Some.ensures.found
+    c.encoding-name.ensures.is (search rules) c.bulk.ensures
 
 pub encoding-name-requires-clause-sound : goal.encoding-name-requires-clause-sound
 encoding-name-requires-clause-sound g c = (

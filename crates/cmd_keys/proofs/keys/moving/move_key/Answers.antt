@@ -30,10 +30,13 @@ pub returns-in-None-free_place-clause-forms : goal.returns-in-None-free_place-cl
 returns-in-None-free_place-clause-forms g c = unformed g.B.BlockStore.blocks (AsAt c.args.at.now.db c.args.key.now) c.args.keyspace.now _
 
 pub returns-in_ok-move_to-in-Some-free_place-clause-forms : goal.returns-in_ok-move_to-in-Some-free_place-clause-forms
-returns-in_ok-move_to-in-Some-free_place-clause-forms g c = formed_ok g.B.BlockStore.blocks (AsAt c.args.at.now.db c.args.key.now) c.args.keyspace.now c.move_to.new.keyspace _ c.in_ok-move_to-in-Some-free_place.ensures.forms
+returns-in_ok-move_to-in-Some-free_place-clause-forms g c = formed_ok g.B.BlockStore.blocks (AsAt c.args.at.now.db c.args.key.now) c.args.keyspace.now c.move_to.new.keyspace _
+    c.in_ok-move_to-in-Some-free_place.ensures.forms
 
 pub returns-in_ok-move_to-in-Some-free_place-clause-gives : goal.returns-in_ok-move_to-in-Some-free_place-clause-gives
 returns-in_ok-move_to-in-Some-free_place-clause-gives g c =
     let blocks = g.B.BlockStore.blocks in
-    move_done (seen c.args.at.now c.args.keyspace.now.bases (blocks c.args.keyspace.now.store)) (seen c.args.at.now c.move_to.new.keyspace.bases (blocks c.move_to.new.keyspace.store)) c.args.key.now c.args.number c.count_reply-in-Some-free_place.result
-    (ne_eqb c.args.number c.args.at.now.db c.if-number-at.false) (ap is_some (rw c.in-Some.is at c.seek-found.ensures.until).stands) c.in-Some-free_place.ensures.free c.in_ok-move_to-in-Some-free_place.ensures.world c.count_reply-in-Some-free_place.ensures
+    move_done (seen c.args.at.now c.args.keyspace.now.bases (blocks c.args.keyspace.now.store)) (seen c.args.at.now c.move_to.new.keyspace.bases (blocks c.move_to.new.keyspace.store))
+    c.args.key.now c.args.number c.count_reply-in-Some-free_place.result
+    (ne_eqb c.args.number c.args.at.now.db c.if-number-at.false) (ap is_some (rw c.in-Some.is at c.seek-found.ensures.until).stands) c.in-Some-free_place.ensures.free
+    c.in_ok-move_to-in-Some-free_place.ensures.world c.count_reply-in-Some-free_place.ensures

@@ -12,4 +12,5 @@ pub returns-in-None-clause-forms : goal.returns-in-None-clause-forms
 returns-in-None-clause-forms g c = unformed g.B.BlockStore.blocks (AsAt c.args.at.now.db c.args.from.now) c.args.keyspace.now _
 
 pub returns-in_ok-rename_key-in-Some-clause-forms : goal.returns-in_ok-rename_key-in-Some-clause-forms
-returns-in_ok-rename_key-in-Some-clause-forms g c = formed_ok g.B.BlockStore.blocks (AsAt c.args.at.now.db c.args.from.now) c.args.keyspace.now c.rename_key.new.keyspace _ c.in_ok-rename_key-in-Some.ensures.forms
+returns-in_ok-rename_key-in-Some-clause-forms g c = formed_ok g.B.BlockStore.blocks (AsAt c.args.at.now.db c.args.from.now) c.args.keyspace.now c.rename_key.new.keyspace _
+    c.in_ok-rename_key-in-Some.ensures.forms

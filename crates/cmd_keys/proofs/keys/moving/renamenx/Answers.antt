@@ -19,4 +19,5 @@ pub returns-in-None-free_place-clause-forms : goal.returns-in-None-free_place-cl
 returns-in-None-free_place-clause-forms g c = unformed g.B.BlockStore.blocks (AsAt c.args.at.now.db c.args.from.now) c.args.keyspace.now _
 
 pub returns-in_ok-rename_key-in-Some-free_place-clause-forms : goal.returns-in_ok-rename_key-in-Some-free_place-clause-forms
-returns-in_ok-rename_key-in-Some-free_place-clause-forms g c = formed_ok g.B.BlockStore.blocks (AsAt c.args.at.now.db c.args.from.now) c.args.keyspace.now c.rename_key.new.keyspace _ c.in_ok-rename_key-in-Some-free_place.ensures.forms
+returns-in_ok-rename_key-in-Some-free_place-clause-forms g c = formed_ok g.B.BlockStore.blocks (AsAt c.args.at.now.db c.args.from.now) c.args.keyspace.now c.rename_key.new.keyspace _
+    c.in_ok-rename_key-in-Some-free_place.ensures.forms

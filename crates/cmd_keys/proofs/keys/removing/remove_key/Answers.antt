@@ -21,4 +21,5 @@ returns-clause-held g c = record {
 
 pub returns-clause-there : goal.returns-clause-there
 returns-clause-there g c =
-    c.is_some.ensures ∙ sought_there (sight g.B.BlockStore.blocks c.args.keyspace.now c.args.at.now) c.args.key.now c.seek-found.result.there c.seek-found.result.deadline c.seek-found.ensures.until c.seek-found.ensures.gone
+    c.is_some.ensures ∙ sought_there (sight g.B.BlockStore.blocks c.args.keyspace.now c.args.at.now) c.args.key.now c.seek-found.result.there c.seek-found.result.deadline
+    c.seek-found.ensures.until c.seek-found.ensures.gone

@@ -9,7 +9,16 @@ use Rattle.cmd_keys.proofs.keys.removing.remove_keys.Goals as goal
 
 pub loop-key-init : goal.loop-key-init
 loop-key-init g c =
-    record { count = omega arith; few = omega arith; world = refl; sound = c.requires.ready.sound; served = no_step; within = unmoved (no_key c.args.at.now.db) c.args.keyspace.now.bases (g.B.BlockStore.blocks c.args.keyspace.now.store); settings = same_settings c.args.keyspace.now.bases }
+    record {
+      count = omega arith;
+      few = omega arith;
+      world = refl;
+      sound = c.requires.ready.sound;
+      served = no_step;
+      within =
+          unmoved (no_key c.args.at.now.db) c.args.keyspace.now.bases (g.B.BlockStore.blocks c.args.keyspace.now.store);
+      settings = same_settings c.args.keyspace.now.bases;
+    }
 
 pub loop-key-preserved : goal.loop-key-preserved
 loop-key-preserved g c =
@@ -19,4 +28,15 @@ loop-key-preserved g c =
     let within : i < length keys = search rules in
     let is : drop i keys ≡ key ∷ drop (i + 1) keys = rw (add-one, drop-cons keys i key) (ap (λ (k : List ℕ). k ∷ drop (suc i) keys) (sym c.key-item.is)) in
     let more : length (drop (i + 1) keys) + 1 ≡ length (drop i keys) = omega (arith, within, length-drop i keys, length-drop (i + 1) keys) in
-    record { count = search rules; few = search rules; world = search rules; sound = c.remove_key.ensures.held.sound; served = Served-then _ _ _ c.loop-key.invariant.served c.remove_key.ensures.held.served; within = further (no_key c.args.at.now.db) _ _ _ _ _ _ c.loop-key.invariant.within c.remove_key.ensures.held.within; settings = settings_then _ _ _ c.loop-key.invariant.settings c.remove_key.ensures.held.settings }
+    record {
+      count = search rules;
+      few = search rules;
+      world = search rules;
+      sound = c.remove_key.ensures.held.sound;
+      served =
+          Served-then _ _ _ c.loop-key.invariant.served c.remove_key.ensures.held.served;
+      within =
+          further (no_key c.args.at.now.db) _ _ _ _ _ _ c.loop-key.invariant.within c.remove_key.ensures.held.within;
+      settings =
+          settings_then _ _ _ c.loop-key.invariant.settings c.remove_key.ensures.held.settings;
+    }

@@ -17,4 +17,5 @@ pub returns-else-not-has_type-clause-some : goal.returns-else-not-has_type-claus
 returns-else-not-has_type-clause-some g c =
     let m = g.B.BlockStore.blocks c.args.keyspace.now.store in
     let held = ap (λ t. value_at (item t c.args.item)) (sym c.table.ensures) ∙ ap value_at c.entry.ensures.found in
-    passes_at c.args.keyspace.now.bases m c.args.at.now c.requires.ready.db c.requires.ready.sound c.args.options.now c.args.item c.in-Some.key.now _ c.in-Some.ensures.found (search rules) held (sym (c.has_type.ensures m) ∙ (search rules))
+    passes_at c.args.keyspace.now.bases m c.args.at.now c.requires.ready.db c.requires.ready.sound c.args.options.now c.args.item c.in-Some.key.now _ c.in-Some.ensures.found (search rules)
+    held (sym (c.has_type.ensures m) ∙ (search rules))

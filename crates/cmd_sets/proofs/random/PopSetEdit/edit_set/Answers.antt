@@ -23,7 +23,8 @@ returns-clause-makes g c =
     let items = c.in_ok-items.items.items in
     let most : c.unwrap_or-most.result ≡ unwrap_or c.args.self.now.n 1 = search rules in
     let gone : c.in_ok-gone.gone.items ≡ elements_of (λ at. member_at m set at) items = c.in_ok-gone.ensures ∙ ap (elements_of (λ at. member_at m set at)) c.deref.ensures.value in
-    let picked = members_picked m set c.requires.sound (as_number c.args.self.now.n) items (as_many (λ blocks. IsMembers blocks set) _ c.args.self.now.n c.unwrap_or-most.result items most c.in_ok-items.ensures) in
+    let picked = members_picked m set c.requires.sound (as_number c.args.self.now.n) items
+    (as_many (λ blocks. IsMembers blocks set) _ c.args.self.now.n c.unwrap_or-most.result items most c.in_ok-items.ensures) in
     record {
       picked = subst (λ (l : List (List ℕ)). ArePicked (has (members m set)) (len (members m set)) (as_number c.args.self.now.n) l) (sym gone) picked;
       is = c.in_ok-drop_names.ensures.members ∙ ap (drop_all (members m set)) c.deref-2.ensures.value;

@@ -9,7 +9,8 @@ pub overflow_sub-self : goal.overflow_sub-self
 overflow_sub-self g c =
     let old = members (g.B.BlockStore.blocks c.args.store.now) c.args.set.now in
     let before = c.len-before.ensures (g.B.BlockStore.blocks c.args.store.now) c.requires.sound in
-    let after : c.len.result ≡ len (drop_all old c.args.self.now.words.now) = c.len.ensures (g.B.BlockStore.blocks c.drop_words.new.store) c.drop_words.ensures.sound ∙ ap len c.in_ok-drop_words.ensures.members in
+    let after : c.len.result ≡ len (drop_all old c.args.self.now.words.now) = c.len.ensures (g.B.BlockStore.blocks c.drop_words.new.store) c.drop_words.ensures.sound
+    ∙ ap len c.in_ok-drop_words.ensures.members in
     omega (arith, before, after, len_less old c.args.self.now.words.now)
 
 pub returns-clause-makes : goal.returns-clause-makes

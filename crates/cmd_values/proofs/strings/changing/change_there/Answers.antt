@@ -19,7 +19,9 @@ returns-in-Ok-clause-held g c = record {
       c.in-Some.ensures.lifts (c.in-Some.ensures.sound [] c.requires.ready.sound) c.change_text-done.ensures.changes _ _ (ap g.B.BlockStore.blocks c.lower.ensures.store) c.lower.ensures.sound;
   served = search rules;
   settings = search rules;
-  within = text_within c.args.at.now c.args.keyspace.now.bases c.lift.new.self.bases _ _ _ c.args.key.now c.in-Some.lifted c.into_text-text.result c.change_text-done.new.text c.into_text-text.ensures (ap g.B.BlockStore.blocks c.in-Some.ensures.store) c.in-Some.ensures.lifts (c.in-Some.ensures.sound [] c.requires.ready.sound) c.change_text-done.ensures.changes c.lower.new.self.bases _ (ap g.B.BlockStore.blocks c.lower.ensures.store) c.in-Some.ensures.within c.lower.ensures.within;
+  within = text_within c.args.at.now c.args.keyspace.now.bases c.lift.new.self.bases _ _ _ c.args.key.now c.in-Some.lifted c.into_text-text.result c.change_text-done.new.text
+      c.into_text-text.ensures (ap g.B.BlockStore.blocks c.in-Some.ensures.store) c.in-Some.ensures.lifts (c.in-Some.ensures.sound [] c.requires.ready.sound)
+      c.change_text-done.ensures.changes c.lower.new.self.bases _ (ap g.B.BlockStore.blocks c.lower.ensures.store) c.in-Some.ensures.within c.lower.ensures.within;
 }
 
 pub returns-in-Err-clause-held : goal.returns-in-Err-clause-held
@@ -29,19 +31,26 @@ returns-in-Err-clause-held g c = record {
       c.in-Some.ensures.lifts (c.in-Some.ensures.sound [] c.requires.ready.sound) c.change_text-done.ensures.changes _ _ (ap g.B.BlockStore.blocks c.lower.ensures.store) c.lower.ensures.sound;
   served = search rules;
   settings = search rules;
-  within = text_within c.args.at.now c.args.keyspace.now.bases c.lift.new.self.bases _ _ _ c.args.key.now c.in-Some.lifted c.into_text-text.result c.change_text-done.new.text c.into_text-text.ensures (ap g.B.BlockStore.blocks c.in-Some.ensures.store) c.in-Some.ensures.lifts (c.in-Some.ensures.sound [] c.requires.ready.sound) c.change_text-done.ensures.changes c.lower.new.self.bases _ (ap g.B.BlockStore.blocks c.lower.ensures.store) c.in-Some.ensures.within c.lower.ensures.within;
+  within = text_within c.args.at.now c.args.keyspace.now.bases c.lift.new.self.bases _ _ _ c.args.key.now c.in-Some.lifted c.into_text-text.result c.change_text-done.new.text
+      c.into_text-text.ensures (ap g.B.BlockStore.blocks c.in-Some.ensures.store) c.in-Some.ensures.lifts (c.in-Some.ensures.sound [] c.requires.ready.sound)
+      c.change_text-done.ensures.changes c.lower.new.self.bases _ (ap g.B.BlockStore.blocks c.lower.ensures.store) c.in-Some.ensures.within c.lower.ensures.within;
 }
 
 pub returns-in-Ok-clause-becomes : goal.returns-in-Ok-clause-becomes
 returns-in-Ok-clause-becomes g c =
-    text_becomes c.args.at.now c.args.keyspace.now.bases c.lift.new.self.bases _ _ _ c.args.key.now c.in-Some.lifted c.into_text-text.result c.change_text-done.new.text c.into_text-text.ensures (ap g.B.BlockStore.blocks c.in-Some.ensures.store)
-    c.in-Some.ensures.lifts (c.in-Some.ensures.sound [] c.requires.ready.sound) c.change_text-done.ensures.changes c.lower.new.self.bases _ (ap g.B.BlockStore.blocks c.lower.ensures.store) c.lower.ensures.means
+    text_becomes c.args.at.now c.args.keyspace.now.bases c.lift.new.self.bases _ _ _ c.args.key.now c.in-Some.lifted c.into_text-text.result c.change_text-done.new.text
+    c.into_text-text.ensures (ap g.B.BlockStore.blocks c.in-Some.ensures.store)
+    c.in-Some.ensures.lifts (c.in-Some.ensures.sound [] c.requires.ready.sound) c.change_text-done.ensures.changes c.lower.new.self.bases _ (ap g.B.BlockStore.blocks c.lower.ensures.store)
+    c.lower.ensures.means
     (changed c.args.change) c.in-Ok.ensures.bytes
 
 pub returns-in-Ok-clause-raw : goal.returns-in-Ok-clause-raw
 returns-in-Ok-clause-raw g c i e found bytes =
-    let has = text_has c.args.at.now c.args.keyspace.now.bases c.lift.new.self.bases _ _ _ c.args.key.now c.in-Some.lifted c.into_text-text.result c.change_text-done.new.text c.into_text-text.ensures (ap g.B.BlockStore.blocks c.in-Some.ensures.store) c.in-Some.ensures.lifts (c.in-Some.ensures.sound [] c.requires.ready.sound) c.change_text-done.ensures.changes c.lower.new.self.bases _ (ap g.B.BlockStore.blocks c.lower.ensures.store) c.lower.ensures.has in
+    let has = text_has c.args.at.now c.args.keyspace.now.bases c.lift.new.self.bases _ _ _ c.args.key.now c.in-Some.lifted c.into_text-text.result c.change_text-done.new.text
+    c.into_text-text.ensures (ap g.B.BlockStore.blocks c.in-Some.ensures.store) c.in-Some.ensures.lifts (c.in-Some.ensures.sound [] c.requires.ready.sound)
+    c.change_text-done.ensures.changes c.lower.new.self.bases _ (ap g.B.BlockStore.blocks c.lower.ensures.store) c.lower.ensures.has in
     subst IsRaw (sym (has i e found bytes)) (ap OfText c.in-Ok.ensures.raw)
 
 pub into_text-text-requires : goal.into_text-text-requires
-into_text-text-requires g c = lifted_there c.args.keyspace.now.bases c.lift.new.self.bases (g.B.BlockStore.blocks c.args.keyspace.now.store) c.args.at.now c.args.key.now c.requires.there.0 c.in-Some.lifted c.in-Some.ensures.lifts c.requires.there.1
+into_text-text-requires g c = lifted_there c.args.keyspace.now.bases c.lift.new.self.bases (g.B.BlockStore.blocks c.args.keyspace.now.store) c.args.at.now c.args.key.now c.requires.there.0
+    c.in-Some.lifted c.in-Some.ensures.lifts c.requires.there.1

@@ -11,20 +11,24 @@ use Rattle.cmd_values.proofs.strings.changing.setrange.Goals as goal
 pub change_there-requires-clause-there : goal.change_there-requires-clause-there
 change_there-requires-clause-there g c = (
   _,
-  put_there (seen c.args.at.now c.args.keyspace.now.bases (g.B.BlockStore.blocks c.args.keyspace.now.store)) (seen c.args.at.now c.put_string.new.keyspace.bases (g.B.BlockStore.blocks c.put_string.new.keyspace.store))
+  put_there (seen c.args.at.now c.args.keyspace.now.bases (g.B.BlockStore.blocks c.args.keyspace.now.store))
+      (seen c.args.at.now c.put_string.new.keyspace.bases (g.B.BlockStore.blocks c.put_string.new.keyspace.store))
       c.args.key.now _ c.in_ok-put_string-in-Missing.ensures.world,
 )
 
 pub returns-in_ok-change_there-in-Missing-clause-gives : goal.returns-in_ok-change_there-in-Missing-clause-gives
 returns-in_ok-change_there-in-Missing-clause-gives g c =
-    range_none c.args.at.now.moment (seen c.args.at.now c.args.keyspace.now.bases (g.B.BlockStore.blocks c.args.keyspace.now.store)) (seen c.args.at.now c.put_string.new.keyspace.bases (g.B.BlockStore.blocks c.put_string.new.keyspace.store)) _ c.args.key.now c.args.piece.now c.args.place _ c.length_reply-in-Missing.result
+    range_none c.args.at.now.moment (seen c.args.at.now c.args.keyspace.now.bases (g.B.BlockStore.blocks c.args.keyspace.now.store))
+    (seen c.args.at.now c.put_string.new.keyspace.bases (g.B.BlockStore.blocks c.put_string.new.keyspace.store)) _ c.args.key.now c.args.piece.now c.args.place _
+    c.length_reply-in-Missing.result
     c.in-Missing.ensures c.in_ok-put_string-in-Missing.ensures.world (search rules) refl c.in_ok-change_there-in-Missing.ensures.becomes c.length_reply-in-Missing.ensures
 
 pub returns-in_ok-change_there-in-There-clause-gives : goal.returns-in_ok-change_there-in-There-clause-gives
 returns-in_ok-change_there-in-There-clause-gives g c =
     let there = c.in-There.ensures in
     let e = ap (λ n. max n (c.args.place + length c.args.piece.now)) there.2 in
-    range_some c.args.at.now.moment _ _ c.args.key.now c.args.piece.now there.0 c.args.place c.max.result c.length_reply-in-There.result there.1 (search rules) (c.max.ensures ∙ e) c.in_ok-change_there-in-There.ensures.becomes c.length_reply-in-There.ensures
+    range_some c.args.at.now.moment _ _ c.args.key.now c.args.piece.now there.0 c.args.place c.max.result c.length_reply-in-There.result there.1 (search rules) (c.max.ensures ∙ e)
+    c.in_ok-change_there-in-There.ensures.becomes c.length_reply-in-There.ensures
 
 pub returns-then-is_empty-clause-kept : goal.returns-then-is_empty-clause-kept
 returns-then-is_empty-clause-kept g c =
@@ -36,11 +40,15 @@ returns-then-is_empty-2-clause-kept g c =
 
 pub returns-in_err-change_there-in-Missing-clause-kept : goal.returns-in_err-change_there-in-Missing-clause-kept
 returns-in_err-change_there-in-Missing-clause-kept g c =
-    calm g.B.BlockStore.blocks g.B.BlockStore.step (one_key c.args.at.now.db c.args.key.now) c.args.keyspace.now c.change_there.new.keyspace _ (search rules) (held_then g.B.BlockStore.blocks g.B.BlockStore.step (one_key c.args.at.now.db c.args.key.now) c.args.keyspace.now c.put_string.new.keyspace c.change_there.new.keyspace c.put_string.ensures.held c.change_there.ensures.held)
+    calm g.B.BlockStore.blocks g.B.BlockStore.step (one_key c.args.at.now.db c.args.key.now) c.args.keyspace.now c.change_there.new.keyspace _ (search rules)
+    (held_then g.B.BlockStore.blocks g.B.BlockStore.step (one_key c.args.at.now.db c.args.key.now) c.args.keyspace.now c.put_string.new.keyspace c.change_there.new.keyspace
+    c.put_string.ensures.held c.change_there.ensures.held)
 
 pub returns-in_ok-change_there-in-Missing-clause-kept : goal.returns-in_ok-change_there-in-Missing-clause-kept
 returns-in_ok-change_there-in-Missing-clause-kept g c =
-    calm g.B.BlockStore.blocks g.B.BlockStore.step (one_key c.args.at.now.db c.args.key.now) c.args.keyspace.now c.change_there.new.keyspace _ (search rules) (held_then g.B.BlockStore.blocks g.B.BlockStore.step (one_key c.args.at.now.db c.args.key.now) c.args.keyspace.now c.put_string.new.keyspace c.change_there.new.keyspace c.put_string.ensures.held c.change_there.ensures.held)
+    calm g.B.BlockStore.blocks g.B.BlockStore.step (one_key c.args.at.now.db c.args.key.now) c.args.keyspace.now c.change_there.new.keyspace _ (search rules)
+    (held_then g.B.BlockStore.blocks g.B.BlockStore.step (one_key c.args.at.now.db c.args.key.now) c.args.keyspace.now c.put_string.new.keyspace c.change_there.new.keyspace
+    c.put_string.ensures.held c.change_there.ensures.held)
 
 pub returns-then-is_empty-clause-forms : goal.returns-then-is_empty-clause-forms
 returns-then-is_empty-clause-forms g c = unformed g.B.BlockStore.blocks Raw c.args.keyspace.now _
@@ -50,7 +58,8 @@ returns-then-is_empty-2-clause-forms g c = unformed g.B.BlockStore.blocks Raw c.
 
 pub returns-in_ok-change_there-in-Missing-clause-forms : goal.returns-in_ok-change_there-in-Missing-clause-forms
 returns-in_ok-change_there-in-Missing-clause-forms g c =
-    let held = held_then g.B.BlockStore.blocks g.B.BlockStore.step (one_key c.args.at.now.db c.args.key.now) c.args.keyspace.now c.put_string.new.keyspace c.change_there.new.keyspace c.put_string.ensures.held c.change_there.ensures.held in
+    let held = held_then g.B.BlockStore.blocks g.B.BlockStore.step (one_key c.args.at.now.db c.args.key.now) c.args.keyspace.now c.put_string.new.keyspace c.change_there.new.keyspace
+    c.put_string.ensures.held c.change_there.ensures.held in
     formed_ok g.B.BlockStore.blocks Raw c.args.keyspace.now c.change_there.new.keyspace _
     (formed_key Raw c.args.at.now.db c.args.key.now c.args.keyspace.now.bases c.change_there.new.keyspace.bases _ _ held.within held.sound.arranged c.in_ok-change_there-in-Missing.ensures.raw)
 

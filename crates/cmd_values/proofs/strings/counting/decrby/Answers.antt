@@ -12,13 +12,15 @@ use Rattle.cmd_values.proofs.strings.counting.decrby.Goals as goal
 
 pub returns-in-NoNumber-clause-gives : goal.returns-in-NoNumber-clause-gives
 returns-in-NoNumber-clause-gives g c =
-    not_number (seen c.args.at.now c.args.keyspace.now.bases (g.B.BlockStore.blocks c.args.keyspace.now.store)) c.args.key.now (λ n. n -ℤ c.args.by) c.refused-in-NoNumber.result c.in-NoNumber.ensures c.refused-in-NoNumber.ensures
+    not_number (seen c.args.at.now c.args.keyspace.now.bases (g.B.BlockStore.blocks c.args.keyspace.now.store)) c.args.key.now (λ n. n -ℤ c.args.by) c.refused-in-NoNumber.result
+    c.in-NoNumber.ensures c.refused-in-NoNumber.ensures
 
 pub returns-in-None-clause-gives : goal.returns-in-None-clause-gives
 returns-in-None-clause-gives g c =
     let typed = rw c.in-Number.is at c.number_at.type_inv in
     let large = rw (to_z-of_z w64 c.in-Number.n (record { sfits = typed.1.1.1.1.0.1 }), to_z-of_z w64 c.args.by c.ranges.by) at c.in-None.ensures in
-    overflowed (seen c.args.at.now c.args.keyspace.now.bases (g.B.BlockStore.blocks c.args.keyspace.now.store)) c.args.key.now c.in-Number.n (λ n. n -ℤ c.args.by) c.refused-in-None.result c.in-Number.ensures large c.refused-in-None.ensures
+    overflowed (seen c.args.at.now c.args.keyspace.now.bases (g.B.BlockStore.blocks c.args.keyspace.now.store)) c.args.key.now c.in-Number.n (λ n. n -ℤ c.args.by) c.refused-in-None.result
+    c.in-Number.ensures large c.refused-in-None.ensures
 
 pub returns-in-Some-clause-gives : goal.returns-in-Some-clause-gives
 returns-in-Some-clause-gives g c =
@@ -26,7 +28,10 @@ returns-in-Some-clause-gives g c =
     let next_typed = rw c.in-Some.is at c.checked_sub.type_inv in
     let fits : FitsSigned w64 c.in-Some.next = record { sfits = next_typed.1.1.1.1.0.1 } in
     let next = rw (to_z-of_z w64 c.in-Number.n (record { sfits = typed.1.1.1.1.0.1 }), to_z-of_z w64 c.args.by c.ranges.by) at c.in-Some.ensures in
-    counted (seen c.args.at.now c.args.keyspace.now.bases (g.B.BlockStore.blocks c.args.keyspace.now.store)) (seen c.args.at.now c.write_number.new.keyspace.bases (g.B.BlockStore.blocks c.write_number.new.keyspace.store)) c.args.key.now c.in-Number.n c.in-Some.next (λ n. n -ℤ c.args.by) c.write_number.result c.in-Number.ensures fits next.1 (rw (to_z-of_z w64 c.in-Some.next fits) at c.write_number.ensures.reply) (rw (to_z-of_z w64 c.in-Some.next fits) at c.write_number.ensures.world)
+    counted (seen c.args.at.now c.args.keyspace.now.bases (g.B.BlockStore.blocks c.args.keyspace.now.store))
+    (seen c.args.at.now c.write_number.new.keyspace.bases (g.B.BlockStore.blocks c.write_number.new.keyspace.store)) c.args.key.now c.in-Number.n c.in-Some.next (λ n. n -ℤ c.args.by)
+    c.write_number.result c.in-Number.ensures fits next.1 (rw (to_z-of_z w64 c.in-Some.next fits) at c.write_number.ensures.reply)
+    (rw (to_z-of_z w64 c.in-Some.next fits) at c.write_number.ensures.world)
 
 pub returns-in-NoNumber-clause-kept : goal.returns-in-NoNumber-clause-kept
 returns-in-NoNumber-clause-kept g c =

@@ -16,25 +16,46 @@ use Rattle.cmd_values.proofs.strings.counting.write_number.Goals as goal
 
 pub lower-requires-clause-intact : goal.lower-requires-clause-intact
 lower-requires-clause-intact g c =
-    text_intact c.args.at.now _ _ _ _ _ c.args.key.now c.lift_at-lifted.result c.into_text-text.result c.set_number.new.self c.into_text-text.ensures (ap g.B.BlockStore.blocks c.lift_at-lifted.ensures.store)
-    (c.lift_at-lifted.ensures.lifts c.args.key.now c.args.at.now.moment (rw c.in-Some.is at c.requires.sees.there)) (c.lift_at-lifted.ensures.sound c.args.key.now c.args.at.now.moment (rw c.in-Some.is at c.requires.sees.there) [] c.requires.ready.sound) c.set_number.ensures.changes
+    text_intact c.args.at.now _ _ _ _ _ c.args.key.now c.lift_at-lifted.result c.into_text-text.result c.set_number.new.self c.into_text-text.ensures
+    (ap g.B.BlockStore.blocks c.lift_at-lifted.ensures.store)
+    (c.lift_at-lifted.ensures.lifts c.args.key.now c.args.at.now.moment (rw c.in-Some.is at c.requires.sees.there))
+    (c.lift_at-lifted.ensures.sound c.args.key.now c.args.at.now.moment (rw c.in-Some.is at c.requires.sees.there) [] c.requires.ready.sound) c.set_number.ensures.changes
 
 pub returns-in-Some-clause-held : goal.returns-in-Some-clause-held
 returns-in-Some-clause-held g c = record {
   sound =
-      text_sound c.args.at.now _ _ _ _ _ c.args.key.now c.lift_at-lifted.result c.into_text-text.result c.set_number.new.self c.into_text-text.ensures (ap g.B.BlockStore.blocks c.lift_at-lifted.ensures.store)
-      (c.lift_at-lifted.ensures.lifts c.args.key.now c.args.at.now.moment (rw c.in-Some.is at c.requires.sees.there)) (c.lift_at-lifted.ensures.sound c.args.key.now c.args.at.now.moment (rw c.in-Some.is at c.requires.sees.there) [] c.requires.ready.sound) c.set_number.ensures.changes _ _ (ap g.B.BlockStore.blocks c.lower.ensures.store) c.lower.ensures.sound;
+      text_sound c.args.at.now _ _ _ _ _ c.args.key.now c.lift_at-lifted.result c.into_text-text.result c.set_number.new.self c.into_text-text.ensures
+      (ap g.B.BlockStore.blocks c.lift_at-lifted.ensures.store)
+      (c.lift_at-lifted.ensures.lifts c.args.key.now c.args.at.now.moment (rw c.in-Some.is at c.requires.sees.there))
+      (c.lift_at-lifted.ensures.sound c.args.key.now c.args.at.now.moment (rw c.in-Some.is at c.requires.sees.there) [] c.requires.ready.sound) c.set_number.ensures.changes _ _
+      (ap g.B.BlockStore.blocks c.lower.ensures.store) c.lower.ensures.sound;
   served = search rules;
   settings = search rules;
-  within = text_within c.args.at.now c.args.keyspace.now.bases c.lift_at-lifted.new.self.bases _ _ _ c.args.key.now c.lift_at-lifted.result c.into_text-text.result c.set_number.new.self c.into_text-text.ensures (ap g.B.BlockStore.blocks c.lift_at-lifted.ensures.store) (c.lift_at-lifted.ensures.lifts c.args.key.now c.args.at.now.moment (rw c.in-Some.is at c.requires.sees.there)) (c.lift_at-lifted.ensures.sound c.args.key.now c.args.at.now.moment (rw c.in-Some.is at c.requires.sees.there) [] c.requires.ready.sound) c.set_number.ensures.changes c.lower.new.self.bases _ (ap g.B.BlockStore.blocks c.lower.ensures.store) (c.lift_at-lifted.ensures.within c.args.key.now c.args.at.now.moment (rw c.in-Some.is at c.requires.sees.there)) c.lower.ensures.within;
+  within = text_within c.args.at.now c.args.keyspace.now.bases c.lift_at-lifted.new.self.bases _ _ _ c.args.key.now c.lift_at-lifted.result c.into_text-text.result c.set_number.new.self
+      c.into_text-text.ensures (ap g.B.BlockStore.blocks c.lift_at-lifted.ensures.store)
+      (c.lift_at-lifted.ensures.lifts c.args.key.now c.args.at.now.moment (rw c.in-Some.is at c.requires.sees.there))
+      (c.lift_at-lifted.ensures.sound c.args.key.now c.args.at.now.moment (rw c.in-Some.is at c.requires.sees.there) [] c.requires.ready.sound) c.set_number.ensures.changes
+      c.lower.new.self.bases _ (ap g.B.BlockStore.blocks c.lower.ensures.store)
+      (c.lift_at-lifted.ensures.within c.args.key.now c.args.at.now.moment (rw c.in-Some.is at c.requires.sees.there)) c.lower.ensures.within;
 }
 
 pub returns-in-Some-clause-world : goal.returns-in-Some-clause-world
 returns-in-Some-clause-world g c =
-    number_lowered (sight g.B.BlockStore.blocks c.args.keyspace.now c.args.at.now) (sight g.B.BlockStore.blocks c.lower.new.self c.args.at.now) c.args.key.now _ c.args.n c.number-in-Some.result (c.lift_at-lifted.ensures.lifts c.args.key.now c.args.at.now.moment (rw c.in-Some.is at c.requires.sees.there)).deadline
-    ((c.lift_at-lifted.ensures.lifts c.args.key.now c.args.at.now.moment (rw c.in-Some.is at c.requires.sees.there)).stands ∙ ap (λ v. Some (record { value = value_of (g.B.BlockStore.blocks c.args.keyspace.now.store) v; deadline = (c.lift_at-lifted.ensures.lifts c.args.key.now c.args.at.now.moment (rw c.in-Some.is at c.requires.sees.there)).deadline })) c.into_text-text.ensures)
-    (text_becomes c.args.at.now c.args.keyspace.now.bases c.lift_at-lifted.new.self.bases _ _ _ c.args.key.now c.lift_at-lifted.result c.into_text-text.result c.set_number.new.self c.into_text-text.ensures (ap g.B.BlockStore.blocks c.lift_at-lifted.ensures.store)
-    (c.lift_at-lifted.ensures.lifts c.args.key.now c.args.at.now.moment (rw c.in-Some.is at c.requires.sees.there)) (c.lift_at-lifted.ensures.sound c.args.key.now c.args.at.now.moment (rw c.in-Some.is at c.requires.sees.there) [] c.requires.ready.sound) c.set_number.ensures.changes c.lower.new.self.bases _ (ap g.B.BlockStore.blocks c.lower.ensures.store) c.lower.ensures.means
+    number_lowered (sight g.B.BlockStore.blocks c.args.keyspace.now c.args.at.now) (sight g.B.BlockStore.blocks c.lower.new.self c.args.at.now) c.args.key.now _ c.args.n
+    c.number-in-Some.result (c.lift_at-lifted.ensures.lifts c.args.key.now c.args.at.now.moment (rw c.in-Some.is at c.requires.sees.there)).deadline
+    ((c.lift_at-lifted.ensures.lifts c.args.key.now c.args.at.now.moment (rw c.in-Some.is at c.requires.sees.there)).stands
+    ∙ ap
+    (λ v. Some
+    (record {
+      value = value_of (g.B.BlockStore.blocks c.args.keyspace.now.store) v;
+      deadline =
+          (c.lift_at-lifted.ensures.lifts c.args.key.now c.args.at.now.moment (rw c.in-Some.is at c.requires.sees.there)).deadline;
+    })) c.into_text-text.ensures)
+    (text_becomes c.args.at.now c.args.keyspace.now.bases c.lift_at-lifted.new.self.bases _ _ _ c.args.key.now c.lift_at-lifted.result c.into_text-text.result c.set_number.new.self
+    c.into_text-text.ensures (ap g.B.BlockStore.blocks c.lift_at-lifted.ensures.store)
+    (c.lift_at-lifted.ensures.lifts c.args.key.now c.args.at.now.moment (rw c.in-Some.is at c.requires.sees.there))
+    (c.lift_at-lifted.ensures.sound c.args.key.now c.args.at.now.moment (rw c.in-Some.is at c.requires.sees.there) [] c.requires.ready.sound) c.set_number.ensures.changes
+    c.lower.new.self.bases _ (ap g.B.BlockStore.blocks c.lower.ensures.store) c.lower.ensures.means
     (λ bytes. canonical c.args.n) (rw (to_z-of_z w64 c.args.n c.ranges.n) at c.set_number.ensures.bytes))
 
 pub returns-in_ok-put_number-in-None-clause-world : goal.returns-in_ok-put_number-in-None-clause-world
@@ -46,9 +67,15 @@ returns-in_ok-put_number-in-None-clause-forms g c = formed_ok g.B.BlockStore.blo
 pub returns-in-Some-clause-forms : goal.returns-in-Some-clause-forms
 returns-in-Some-clause-forms g c =
     let held = returns-in-Some-clause-held g c in
-    let has = text_has c.args.at.now c.args.keyspace.now.bases c.lift_at-lifted.new.self.bases _ _ _ c.args.key.now c.lift_at-lifted.result c.into_text-text.result c.set_number.new.self c.into_text-text.ensures (ap g.B.BlockStore.blocks c.lift_at-lifted.ensures.store) (c.lift_at-lifted.ensures.lifts c.args.key.now c.args.at.now.moment (rw c.in-Some.is at c.requires.sees.there)) (c.lift_at-lifted.ensures.sound c.args.key.now c.args.at.now.moment (rw c.in-Some.is at c.requires.sees.there) [] c.requires.ready.sound) c.set_number.ensures.changes c.lower.new.self.bases _ (ap g.B.BlockStore.blocks c.lower.ensures.store) c.lower.ensures.has in
+    let has = text_has c.args.at.now c.args.keyspace.now.bases c.lift_at-lifted.new.self.bases _ _ _ c.args.key.now c.lift_at-lifted.result c.into_text-text.result c.set_number.new.self
+    c.into_text-text.ensures (ap g.B.BlockStore.blocks c.lift_at-lifted.ensures.store)
+    (c.lift_at-lifted.ensures.lifts c.args.key.now c.args.at.now.moment (rw c.in-Some.is at c.requires.sees.there))
+    (c.lift_at-lifted.ensures.sound c.args.key.now c.args.at.now.moment (rw c.in-Some.is at c.requires.sees.there) [] c.requires.ready.sound) c.set_number.ensures.changes
+    c.lower.new.self.bases _ (ap g.B.BlockStore.blocks c.lower.ensures.store) c.lower.ensures.has in
     formed_ok g.B.BlockStore.blocks Whole c.args.keyspace.now c.lower.new.self _
-    (formed_key Whole c.args.at.now.db c.args.key.now c.args.keyspace.now.bases c.lower.new.self.bases _ _ held.within held.sound.arranged (λ i e found bytes. subst IsWhole (sym (has i e found bytes)) (ap OfText c.set_number.ensures.whole)))
+    (formed_key Whole c.args.at.now.db c.args.key.now c.args.keyspace.now.bases c.lower.new.self.bases _ _ held.within held.sound.arranged
+    (λ i e found bytes. subst IsWhole (sym (has i e found bytes)) (ap OfText c.set_number.ensures.whole)))
 
 pub into_text-text-requires : goal.into_text-text-requires
-into_text-text-requires g c = lifted_string c.args.keyspace.now.bases c.lift_at-lifted.new.self.bases (g.B.BlockStore.blocks c.args.keyspace.now.store) c.args.at.now c.args.key.now c.lift_at-lifted.result (c.lift_at-lifted.ensures.lifts c.args.key.now c.args.at.now.moment (rw c.in-Some.is at c.requires.sees.there)) c.requires.string
+into_text-text-requires g c = lifted_string c.args.keyspace.now.bases c.lift_at-lifted.new.self.bases (g.B.BlockStore.blocks c.args.keyspace.now.store) c.args.at.now c.args.key.now
+    c.lift_at-lifted.result (c.lift_at-lifted.ensures.lifts c.args.key.now c.args.at.now.moment (rw c.in-Some.is at c.requires.sees.there)) c.requires.string

@@ -23,7 +23,8 @@ pub returns-in_ok-put_lasting-in-Some-clause-gives : goal.returns-in_ok-put_last
 returns-in_ok-put_lasting-in-Some-clause-gives g c =
     let typed = rw c.in-Some.is at c.due.type_inv in
     let fits : FitsSigned w64 c.in-Some.due = record { sfits = typed.1.1.1.1.0.1 } in
-    set_lasting (sight g.B.BlockStore.blocks c.args.keyspace.now c.args.at.now) (sight g.B.BlockStore.blocks c.put_lasting.new.keyspace c.args.at.now) c.args.at.now.moment c.args.key.now c.args.value.now c.args.unit c.args.n c.in-Some.due _ _ c.simple.result (rw (to_z-of_z w64 c.args.n c.ranges.n) at c.in-Some.ensures.some) fits
+    set_lasting (sight g.B.BlockStore.blocks c.args.keyspace.now c.args.at.now) (sight g.B.BlockStore.blocks c.put_lasting.new.keyspace c.args.at.now) c.args.at.now.moment c.args.key.now
+    c.args.value.now c.args.unit c.args.n c.in-Some.due _ _ c.simple.result (rw (to_z-of_z w64 c.args.n c.ranges.n) at c.in-Some.ensures.some) fits
     (rw (to_z-of_z w64 c.in-Some.due fits) at c.from_zero.ensures.value) c.in_ok-put_lasting-in-Some.ensures.world (ap Simple c.ok.ensures) c.simple.ensures
 
 pub returns-in-None-clause-forms : goal.returns-in-None-clause-forms

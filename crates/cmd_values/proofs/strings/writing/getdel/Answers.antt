@@ -5,7 +5,8 @@ use Rattle.keyspace.specs.Scopes.{no_key}
 use Rattle.cmd_values.proofs.strings.writing.getdel.Goals as goal
 
 pub returns-in-Some-clause-gives : goal.returns-in-Some-clause-gives
-returns-in-Some-clause-gives g c = removed c.args.at.now c.args.keyspace.now.bases c.drop_hashed.new.self.bases _ _ c.args.key.now c.in-Some.reply (rw c.in-Some.is at c.in_ok-sought_value.ensures) c.drop_hashed.ensures.means
+returns-in-Some-clause-gives g c = removed c.args.at.now c.args.keyspace.now.bases c.drop_hashed.new.self.bases _ _ c.args.key.now c.in-Some.reply
+    (rw c.in-Some.is at c.in_ok-sought_value.ensures) c.drop_hashed.ensures.means
 
 pub returns-in-Some-clause-kept : goal.returns-in-Some-clause-kept
 returns-in-Some-clause-kept g c = record {

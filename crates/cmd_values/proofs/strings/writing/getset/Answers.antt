@@ -6,7 +6,8 @@ use Rattle.cmd_values.proofs.strings.writing.getset.Goals as goal
 
 pub returns-in_ok-put_string-in-Some-clause-gives : goal.returns-in_ok-put_string-in-Some-clause-gives
 returns-in_ok-put_string-in-Some-clause-gives g c =
-    old_value_then (sight g.B.BlockStore.blocks c.args.keyspace.now c.args.at.now) (sight g.B.BlockStore.blocks c.put_string.new.keyspace c.args.at.now) c.args.key.now c.in-Some.reply _ (rw c.in-Some.is at c.in_ok-seen_value.ensures) c.in_ok-put_string-in-Some.ensures.world
+    old_value_then (sight g.B.BlockStore.blocks c.args.keyspace.now c.args.at.now) (sight g.B.BlockStore.blocks c.put_string.new.keyspace c.args.at.now) c.args.key.now c.in-Some.reply _
+    (rw c.in-Some.is at c.in_ok-seen_value.ensures) c.in_ok-put_string-in-Some.ensures.world
 
 pub returns-in_err-seen_value-clause-kept : goal.returns-in_err-seen_value-clause-kept
 returns-in_err-seen_value-clause-kept g c =

@@ -22,7 +22,8 @@ put_sought-requires-clause-seeks g c =
 
 pub returns-clause-world : goal.returns-clause-world
 returns-clause-world g c =
-    replaced c.args.at.now c.args.keyspace.now.bases _ _ c.in_ok-text.text c.requires.ready.sound c.in_ok-text.ensures.changes c.put_sought.new.self.bases _ c.args.key.now c.args.value.now c.args.deadline c.in_ok-text.ensures.bytes c.put_sought.result c.put_sought.ensures.means
+    replaced c.args.at.now c.args.keyspace.now.bases _ _ c.in_ok-text.text c.requires.ready.sound c.in_ok-text.ensures.changes c.put_sought.new.self.bases _ c.args.key.now c.args.value.now
+    c.args.deadline c.in_ok-text.ensures.bytes c.put_sought.result c.put_sought.ensures.means
 
 pub returns-clause-held : goal.returns-clause-held
 returns-clause-held g c = record {
@@ -37,9 +38,11 @@ returns-in_err-text-clause-held g c = record {
   sound = subst (Sound c.args.keyspace.now.bases) (sym c.in_err-text.ensures.err_blocks) c.requires.ready.sound;
   served = c.make.ensures.served;
   settings = same_settings c.args.keyspace.now.bases;
-  within = subst (Within (one_key c.args.at.now.db c.args.key.now) c.args.keyspace.now.bases c.args.keyspace.now.bases (g.B.BlockStore.blocks c.args.keyspace.now.store)) (sym c.in_err-text.ensures.err_blocks) (unmoved (one_key c.args.at.now.db c.args.key.now) c.args.keyspace.now.bases (g.B.BlockStore.blocks c.args.keyspace.now.store));
+  within = subst (Within (one_key c.args.at.now.db c.args.key.now) c.args.keyspace.now.bases c.args.keyspace.now.bases (g.B.BlockStore.blocks c.args.keyspace.now.store))
+      (sym c.in_err-text.ensures.err_blocks) (unmoved (one_key c.args.at.now.db c.args.key.now) c.args.keyspace.now.bases (g.B.BlockStore.blocks c.args.keyspace.now.store));
 }
 
 pub returns-clause-forms : goal.returns-clause-forms
 returns-clause-forms g c =
-    formed_put Whole c.args.at.now.db c.args.key.now (values.Text c.in_ok-text.text) c.args.keyspace.now.bases c.put_sought.new.self.bases (g.B.BlockStore.blocks c.args.keyspace.now.store) _ (ap OfText c.in_ok-text.ensures.whole) (returns-clause-held g c).within (returns-clause-held g c).sound.arranged c.put_sought.result c.put_sought.ensures.has
+    formed_put Whole c.args.at.now.db c.args.key.now (values.Text c.in_ok-text.text) c.args.keyspace.now.bases c.put_sought.new.self.bases (g.B.BlockStore.blocks c.args.keyspace.now.store)
+    _ (ap OfText c.in_ok-text.ensures.whole) (returns-clause-held g c).within (returns-clause-held g c).sound.arranged c.put_sought.result c.put_sought.ensures.has

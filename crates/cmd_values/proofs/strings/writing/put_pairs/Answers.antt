@@ -34,8 +34,10 @@ returns-in_err-put_string-clause-held g c =
       sound = held.sound;
       served = Served-then _ _ _ c.loop-pair.invariant.served held.served;
       settings = settings_then _ _ _ c.loop-pair.invariant.settings held.settings;
-      within = further (some_keys c.args.at.now.db (first_words c.args.pairs.now)) c.args.keyspace.now.bases c.loop-pair.keyspace.bases c.put_string.new.keyspace.bases (blocks c.args.keyspace.now.store) (blocks c.loop-pair.keyspace.store) (blocks c.put_string.new.keyspace.store) c.loop-pair.invariant.within
-          (within_pairs c.args.at.now.db pair.0 c.args.pairs.now (first_part pair others c.args.pairs.now part) c.loop-pair.keyspace.bases c.put_string.new.keyspace.bases (blocks c.loop-pair.keyspace.store) (blocks c.put_string.new.keyspace.store) (search rules));
+      within = further (some_keys c.args.at.now.db (first_words c.args.pairs.now)) c.args.keyspace.now.bases c.loop-pair.keyspace.bases c.put_string.new.keyspace.bases
+          (blocks c.args.keyspace.now.store) (blocks c.loop-pair.keyspace.store) (blocks c.put_string.new.keyspace.store) c.loop-pair.invariant.within
+          (within_pairs c.args.at.now.db pair.0 c.args.pairs.now (first_part pair others c.args.pairs.now part) c.loop-pair.keyspace.bases c.put_string.new.keyspace.bases
+          (blocks c.loop-pair.keyspace.store) (blocks c.put_string.new.keyspace.store) (search rules));
     }
 
 pub loop-pair-preserved : goal.loop-pair-preserved
@@ -53,6 +55,8 @@ loop-pair-preserved g c =
       part = rest_part pair others c.args.pairs.now part;
       forms = formed_then blocks c.args.keyspace.now c.loop-pair.keyspace c.put_string.new.keyspace c.loop-pair.invariant.forms c.in_ok-put_string.ensures.forms;
       settings = settings_then _ _ _ c.loop-pair.invariant.settings held.settings;
-      within = further (some_keys c.args.at.now.db (first_words c.args.pairs.now)) c.args.keyspace.now.bases c.loop-pair.keyspace.bases c.put_string.new.keyspace.bases (blocks c.args.keyspace.now.store) (blocks c.loop-pair.keyspace.store) (blocks c.put_string.new.keyspace.store) c.loop-pair.invariant.within
-          (within_pairs c.args.at.now.db pair.0 c.args.pairs.now (first_part pair others c.args.pairs.now part) c.loop-pair.keyspace.bases c.put_string.new.keyspace.bases (blocks c.loop-pair.keyspace.store) (blocks c.put_string.new.keyspace.store) (search rules));
+      within = further (some_keys c.args.at.now.db (first_words c.args.pairs.now)) c.args.keyspace.now.bases c.loop-pair.keyspace.bases c.put_string.new.keyspace.bases
+          (blocks c.args.keyspace.now.store) (blocks c.loop-pair.keyspace.store) (blocks c.put_string.new.keyspace.store) c.loop-pair.invariant.within
+          (within_pairs c.args.at.now.db pair.0 c.args.pairs.now (first_part pair others c.args.pairs.now part) c.loop-pair.keyspace.bases c.put_string.new.keyspace.bases
+          (blocks c.loop-pair.keyspace.store) (blocks c.put_string.new.keyspace.store) (search rules));
     }

@@ -15,14 +15,17 @@ pub returns-in_ok-put_if-in-Some-clause-gives : goal.returns-in_ok-put_if-in-Som
 returns-in_ok-put_if-in-Some-clause-gives g c =
     let old = (sight g.B.BlockStore.blocks c.args.keyspace.now c.args.at.now) in
     let entry : Entry = record { value = Str c.args.value.now; deadline = c.args.deadline } in
-    set_given old (sight g.B.BlockStore.blocks c.put_if.new.keyspace c.args.at.now) c.args.at.now.moment c.args.key.now entry c.args.options.condition c.args.options.get c.writes-written.result c.in-Some.reply c.writes-written.ensures (rw c.in-Some.is at c.in_ok-set_reply.ensures)
+    set_given old (sight g.B.BlockStore.blocks c.put_if.new.keyspace c.args.at.now) c.args.at.now.moment c.args.key.now entry c.args.options.condition c.args.options.get
+    c.writes-written.result c.in-Some.reply c.writes-written.ensures (rw c.in-Some.is at c.in_ok-set_reply.ensures)
     c.in_ok-put_if-in-Some.ensures.world
 
 pub returns-in-None-clause-gives : goal.returns-in-None-clause-gives
 returns-in-None-clause-gives g c =
     let old = (sight g.B.BlockStore.blocks c.args.keyspace.now c.args.at.now) in
     let entry : Entry = record { value = Str c.args.value.now; deadline = c.args.deadline } in
-    given c.refused.result (λ reply is. set_other old c.args.at.now.moment c.args.key.now entry c.args.options.condition c.args.options.get c.writes-written.result (rw c.in-None.is at c.in_ok-set_reply.ensures) ∙ ap (λ r. leaves r old) (sym is)) c.refused.ensures
+    given c.refused.result
+    (λ reply is. set_other old c.args.at.now.moment c.args.key.now entry c.args.options.condition c.args.options.get c.writes-written.result
+    (rw c.in-None.is at c.in_ok-set_reply.ensures) ∙ ap (λ r. leaves r old) (sym is)) c.refused.ensures
 
 pub returns-in_err-set_reply-clause-kept : goal.returns-in_err-set_reply-clause-kept
 returns-in_err-set_reply-clause-kept g c =

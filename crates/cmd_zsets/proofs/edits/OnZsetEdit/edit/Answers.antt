@@ -25,6 +25,7 @@ returns-clause-makes g c =
       was_form = ap encoding_of c.in-Zset.is;
       is = refl;
       is_form = refl;
-      made = subst (λ (h : Scored). g.E.ZsetEdit.makes c.args.self.now.edit c.edit_zset.new.self h.limits (scores m h) (form_of h) (scores after new) (form_of new)) same c.in_ok-edit_zset-in-Zset.ensures.makes;
+      made = subst (λ (h : Scored). g.E.ZsetEdit.makes c.args.self.now.edit c.edit_zset.new.self h.limits (scores m h) (form_of h) (scores after new) (form_of new)) same
+          c.in_ok-edit_zset-in-Zset.ensures.makes;
       counted = counted;
     }

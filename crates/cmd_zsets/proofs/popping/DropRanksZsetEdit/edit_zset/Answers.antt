@@ -22,4 +22,6 @@ returns-clause-makes g c =
     let b : FitsSigned w64 self.b = search rules in
     let range = rw (to_z-of_z w64 self.a a, to_z-of_z w64 self.b b) at c.by_rank-span.ensures.range list (sym size) in
     part_gone (scores m zset) (scores after c.take_span.new.zset) (form_of zset) (form_of c.take_span.new.zset) (ranked m zset) (ranked_is m zset c.requires.sound) c.take_span.ensures.form
-    (λ l. list_range l self.a self.b) span.from span.start span.count _ refl (span_length span.from list (list_range list self.a self.b) span.start span.count (omega (arith, c.by_rank-span.ensures.inside, size)) range) range c.take_span.result c.take_span.ensures.is
+    (λ l. list_range l self.a self.b) span.from span.start span.count _ refl
+    (span_length span.from list (list_range list self.a self.b) span.start span.count (omega (arith, c.by_rank-span.ensures.inside, size)) range) range c.take_span.result
+    c.take_span.ensures.is

@@ -17,4 +17,6 @@ returns-clause-makes g c =
     let list = model.ranked (scores m zset) in
     let range = c.by_score-span.ensures.range in
     part_gone (scores m zset) (scores after c.take_span.new.zset) (form_of zset) (form_of c.take_span.new.zset) (ranked m zset) (ranked_is m zset c.requires.sound) c.take_span.ensures.form
-    (within self.min self.max) span.from span.start span.count _ refl (span_length span.from list (within self.min self.max list) span.start span.count (omega (arith, c.by_score-span.ensures.inside, ranked_counted m zset c.requires.sound)) range) range c.take_span.result c.take_span.ensures.is
+    (within self.min self.max) span.from span.start span.count _ refl
+    (span_length span.from list (within self.min self.max list) span.start span.count (omega (arith, c.by_score-span.ensures.inside, ranked_counted m zset c.requires.sound)) range)
+    range c.take_span.result c.take_span.ensures.is

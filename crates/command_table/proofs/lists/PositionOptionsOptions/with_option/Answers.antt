@@ -13,5 +13,6 @@ returns-in_err-most c =
     let named : lower ≡ codes "maxlen" = search rules in
     let rest = drop (c.args.index + 1) c.args.request.now in
     let refused : Tells (read_option c.args.self (option_of position_options lower) rest) (Err c.in_err-most.field-0.0) =
-    one_word_refused c.args.self Amount (λ own o. record { rank = o.rank; count = o.count; most = own.0 }) position_options (codes "maxlen") lower rest c.in_err-most.field-0.0 (ap (option_of position_options) named) c.in_err-most.ensures in
+    one_word_refused c.args.self Amount (λ own o. record { rank = o.rank; count = o.count; most = own.0 }) position_options (codes "maxlen") lower rest c.in_err-most.field-0.0
+    (ap (option_of position_options) named) c.in_err-most.ensures in
     search rules

@@ -34,12 +34,18 @@ keys-preserved g c =
     let element : Element g.row.V.Denot = record { key = c.entry.result.0; hash = c.entry.ensures.hash; value = c.entry.result.1.now } in
     let stands : item (table_at bases c.args.self.now.database) c.keys.item ≡ Some element = rw c.table-table.ensures at c.entry.ensures.found in
     let sound = c.requires.intact.arranged.values c.args.self.now.database c.keys.item element stands in
-    let counted = exactly c.units-units.result _ (c.units-units.ensures bases.limits bases.seed (g.B.BlockStore.blocks c.args.keyspace.now.store) sound) (omega (arith, c.if-units-left.false, inv.few, c.ranges.room.fits)) in
+    let counted = exactly c.units-units.result _ (c.units-units.ensures bases.limits bases.seed (g.B.BlockStore.blocks c.args.keyspace.now.store) sound)
+    (omega (arith, c.if-units-left.false, inv.few, c.ranges.room.fits)) in
     let sum : (c.args.room - c.keys.left) + (c.units-units.result + 1) ≡ c.args.room - (c.keys.left - (c.units-units.result + 1)) = omega (arith, inv.few, c.if-units-left.false) in
     record {
-      swept = λ s. calm_swept g.V.Stored.refs_of g.V.Stored.marks g.V.Stored.tables g.V.Stored.encoding g.met.V.Stored.reads_own.refs g.met.V.Stored.marked (g.B.BlockStore.blocks c.args.keyspace.now.store) bases heap place c.keys.left c.units-units.result c.requires.start element stands c.if-not-is_calm.ensures counted c.if-units-left.false (inv.swept s);
+      swept = λ s. calm_swept g.V.Stored.refs_of g.V.Stored.marks g.V.Stored.tables g.V.Stored.encoding g.met.V.Stored.reads_own.refs g.met.V.Stored.marked
+          (g.B.BlockStore.blocks c.args.keyspace.now.store) bases heap place c.keys.left c.units-units.result c.requires.start element stands c.if-not-is_calm.ensures counted
+          c.if-units-left.false (inv.swept s);
       way = subst (λ n. Way (shapes (g.V.Stored.marks (g.B.BlockStore.blocks c.args.keyspace.now.store)) bases) c.args.self.now n next) sum
-          (further (c.args.room - c.keys.left) (c.units-units.result + 1) place next inv.way (calm_leg g.V.Stored.refs_of g.V.Stored.marks g.V.Stored.tables g.V.Stored.encoding g.met.V.Stored.reads_own.refs g.met.V.Stored.marked (g.B.BlockStore.blocks c.args.keyspace.now.store) bases heap place c.keys.left c.units-units.result c.requires.start element stands c.if-not-is_calm.ensures counted c.if-units-left.false));
+          (further (c.args.room - c.keys.left) (c.units-units.result + 1) place next inv.way
+          (calm_leg g.V.Stored.refs_of g.V.Stored.marks g.V.Stored.tables g.V.Stored.encoding g.met.V.Stored.reads_own.refs g.met.V.Stored.marked
+          (g.B.BlockStore.blocks c.args.keyspace.now.store) bases heap place c.keys.left c.units-units.result c.requires.start element stands c.if-not-is_calm.ensures counted
+          c.if-units-left.false));
       few = omega (arith, inv.few);
       none = λ same. absurd (omega (arith, same, inv.few, c.if-units-left.false));
     }

@@ -13,7 +13,8 @@ lower-requires-clause-intact c =
     let mid = c.lift.new.self.bases in
     let after = plain_blocks c.renumbered-value.new.store in
     let value = c.in-Some.field-0.value in
-    let changes = subst (λ (s : Plain). Changes (plain_blocks s) after (value_refs (plain_blocks s) value) (value_refs after c.renumbered-value.result)) c.lift.ensures.store c.renumbered-value.ensures.changes in
+    let changes = subst (λ (s : Plain). Changes (plain_blocks s) after (value_refs (plain_blocks s) value) (value_refs after c.renumbered-value.result)) c.lift.ensures.store
+    c.renumbered-value.ensures.changes in
     let sound = lifted_sound keyspace.bases mid m c.args.db 0 c.args.key.now c.in-Some.field-0 c.self.invariant.arranged c.lift.ensures.settings c.in-Some.ensures.lifts in
     Lower-intact keyspace.bases mid m after c.args.db 0 c.args.key.now c.in-Some.field-0 (record { db = c.in-Some.db; item = c.in-Some.item; value = c.renumbered-value.result }) []
     c.in-Some.ensures.lifts (c.in-Some.ensures.sound [] c.self.invariant) changes (sym c.in-Some.db-is) (sym c.in-Some.item-is)
@@ -26,7 +27,8 @@ invariant_of-self-2 c =
     let mid = c.lift.new.self.bases in
     let after = plain_blocks c.renumbered-value.new.store in
     let value = c.in-Some.field-0.value in
-    let changes = subst (λ (s : Plain). Changes (plain_blocks s) after (value_refs (plain_blocks s) value) (value_refs after c.renumbered-value.result)) c.lift.ensures.store c.renumbered-value.ensures.changes in
+    let changes = subst (λ (s : Plain). Changes (plain_blocks s) after (value_refs (plain_blocks s) value) (value_refs after c.renumbered-value.result)) c.lift.ensures.store
+    c.renumbered-value.ensures.changes in
     subst (λ (s : Plain). SoundBeside c.lower.new.self.bases (plain_blocks s) []) (sym c.lower.ensures.store)
     (Lower-sound keyspace.bases mid m after c.args.db 0 c.args.key.now c.in-Some.field-0 (record { db = c.in-Some.db; item = c.in-Some.item; value = c.renumbered-value.result }) []
     c.in-Some.ensures.lifts (c.in-Some.ensures.sound [] c.self.invariant) changes (sym c.in-Some.db-is) (sym c.in-Some.item-is) c.lower.new.self.bases c.lower.ensures.sound)

@@ -15,7 +15,9 @@ pub returns-in-Some-clause-set : goal.returns-in-Some-clause-set
 returns-in-Some-clause-set g c =
     let m = g.B.BlockStore.blocks c.args.store.now in
     subst (λ t. Sets m t c.swap_value-was.new.self c.args.key c.args.deadline) (ap (λ d. d.table) c.self.view_is)
-    (changes c.in-Some.at c.swap_value-was.result (subst (λ t. Stands m t c.in-Some.at (bytes_at m c.args.key)) (sym (ap (λ d. d.table) c.self.view_is)) (rw c.in-Some.is at c.requires.stands)) c.swap_value-was.ensures.swaps (c.swap_value-was.ensures.tables m))
+    (changes c.in-Some.at c.swap_value-was.result
+    (subst (λ t. Stands m t c.in-Some.at (bytes_at m c.args.key)) (sym (ap (λ d. d.table) c.self.view_is)) (rw c.in-Some.is at c.requires.stands)) c.swap_value-was.ensures.swaps
+    (c.swap_value-was.ensures.tables m))
 
 pub returns-in-Some-clause-keyed : goal.returns-in-Some-clause-keyed
 returns-in-Some-clause-keyed g c =
@@ -24,7 +26,8 @@ returns-in-Some-clause-keyed g c =
 
 pub returns-in-Some-clause-moments : goal.returns-in-Some-clause-moments
 returns-in-Some-clause-moments g c =
-    moments_set (g.B.BlockStore.blocks c.args.store.now) c.args.self.now.table c.swap_value-was.new.self c.args.key c.args.deadline c.requires.keyed (returns-in-Some-clause-keyed g c) c.requires.live (returns-in-Some-clause-set g c)
+    moments_set (g.B.BlockStore.blocks c.args.store.now) c.args.self.now.table c.swap_value-was.new.self c.args.key c.args.deadline c.requires.keyed (returns-in-Some-clause-keyed g c)
+    c.requires.live (returns-in-Some-clause-set g c)
 
 pub returns-in-Some-clause-grown : goal.returns-in-Some-clause-grown
 returns-in-Some-clause-grown g c =
@@ -35,7 +38,8 @@ returns-after-insert_hashed-clause-keyed g c =
     let m = g.B.BlockStore.blocks c.args.store.now in
     elim c.match-insert_hashed.branch [
       | in-Ok w ↦
-          keyed_joined m c.args.self.now.table c.insert_hashed.new.self c.args.key c.args.deadline c.args.hash w.in-Ok._at c.requires.keyed c.requires.live c.requires.hashed (rw c.in-None.is at c.requires.lacks)
+          keyed_joined m c.args.self.now.table c.insert_hashed.new.self c.args.key c.args.deadline c.args.hash w.in-Ok._at c.requires.keyed c.requires.live c.requires.hashed
+          (rw c.in-None.is at c.requires.lacks)
           (rw (ap (λ d. d.table) c.self.view_is) at w.in-Ok.ensures.added)
       | in-Err w ↦ subst (Keyed m) (sym (ap (λ d. d.table) c.self.view_is) ∙ sym w.in-Err.ensures.err) c.requires.keyed
     ]
@@ -46,7 +50,8 @@ returns-after-insert_hashed-clause-set g c =
     elim c.match-insert_hashed.branch [
       | in-Ok w ↦
           subst (λ r. OnOk r (Sets m c.args.self.now.table c.insert_hashed.new.self c.args.key c.args.deadline)) (sym w.result-is)
-          (joined m c.args.self.now.table c.insert_hashed.new.self c.args.key c.args.deadline c.args.hash w.in-Ok._at c.requires.keyed c.requires.live c.requires.hashed (rw c.in-None.is at c.requires.lacks)
+          (joined m c.args.self.now.table c.insert_hashed.new.self c.args.key c.args.deadline c.args.hash w.in-Ok._at c.requires.keyed c.requires.live c.requires.hashed
+          (rw c.in-None.is at c.requires.lacks)
           (rw (ap (λ d. d.table) c.self.view_is) at w.in-Ok.ensures.added))
       | in-Err w ↦ subst (λ r. OnOk r (Sets m c.args.self.now.table c.insert_hashed.new.self c.args.key c.args.deadline)) (sym w.result-is) tt
     ]

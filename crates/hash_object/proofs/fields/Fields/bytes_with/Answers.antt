@@ -16,7 +16,8 @@ pub pack_with-requires-in-Pack-clause-inside : goal.pack_with-requires-in-Pack-c
 pack_with-requires-in-Pack-clause-inside g c =
     let m = g.B.BlockStore.blocks c.args.store.now in
     let self = c.args.self.now in
-    subst (λ (list : List Pair). IfSome c.args.index (λ i. i < length list)) (list_read m self.limits self.body c.in-Pack.packed c.bytes.result.now c.in-Pack.is c.bytes.ensures) (index_within _ c.args.field.now c.args.index c.requires.index)
+    subst (λ (list : List Pair). IfSome c.args.index (λ i. i < length list)) (list_read m self.limits self.body c.in-Pack.packed c.bytes.result.now c.in-Pack.is c.bytes.ensures)
+    (index_within _ c.args.field.now c.args.index c.requires.index)
 
 pub pack_with-requires-in-Pack-clause-fits : goal.pack_with-requires-in-Pack-clause-fits
 pack_with-requires-in-Pack-clause-fits g c =

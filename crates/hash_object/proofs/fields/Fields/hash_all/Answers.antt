@@ -14,7 +14,8 @@ returns-in-Empty-clause-hashed g c =
     let m = g.B.BlockStore.blocks c.args.store.now in
     let seed = c.args.self.now.seed in
     let h = c.new.ensures in
-    subst (λ (b : Body). IsHashed m m (no_fields seed) c.new.result (fields_of m b)) (sym c.in-Empty.is) (new_hashed m c.new.result seed (new_is c.new.result seed h.empty h.older h.newer h.position h.seed h.top) (h.keyed m))
+    subst (λ (b : Body). IsHashed m m (no_fields seed) c.new.result (fields_of m b)) (sym c.in-Empty.is)
+    (new_hashed m c.new.result seed (new_is c.new.result seed h.empty h.older h.newer h.position h.seed h.top) (h.keyed m))
 
 pub returns-in-Empty-clause-served : goal.returns-in-Empty-clause-served
 returns-in-Empty-clause-served g c = no_step

@@ -7,18 +7,38 @@ overflow_sub-left g c =
     let m = g.B.BlockStore.blocks c.args.store.now in
     let self = c.args.self.now in
     let n = c.len.ensures m c.requires.sound in
-    omega (arith, n, listed_len m self.limits self.seed self.body c.requires.sound.body, place_inside m self.limits self.seed self.body c.args.cursor.index c.args.cursor.place c.requires.sound.body c.requires.cursor)
+    omega (
+      arith,
+      n,
+      listed_len m self.limits self.seed self.body c.requires.sound.body,
+      place_inside m self.limits self.seed self.body c.args.cursor.index c.args.cursor.place
+          c.requires.sound.body c.requires.cursor,
+    )
 
 pub returns-then-left-eq1 : goal.returns-then-left-eq1
 returns-then-left-eq1 g c =
     let m = g.B.BlockStore.blocks c.args.store.now in
     let self = c.args.self.now in
     let n = c.len.ensures m c.requires.sound in
-    omega (arith, n, c.if-left-eq1.true, listed_len m self.limits self.seed self.body c.requires.sound.body, place_inside m self.limits self.seed self.body c.args.cursor.index c.args.cursor.place c.requires.sound.body c.requires.cursor)
+    omega (
+      arith,
+      n,
+      c.if-left-eq1.true,
+      listed_len m self.limits self.seed self.body c.requires.sound.body,
+      place_inside m self.limits self.seed self.body c.args.cursor.index
+          c.args.cursor.place c.requires.sound.body c.requires.cursor,
+    )
 
 pub overflow_add-result : goal.overflow_add-result
 overflow_add-result g c =
     let m = g.B.BlockStore.blocks c.args.store.now in
     let self = c.args.self.now in
     let n = c.len.ensures m c.requires.sound in
-    omega (arith, n, c.len.type_inv, listed_len m self.limits self.seed self.body c.requires.sound.body, place_inside m self.limits self.seed self.body c.args.cursor.index c.args.cursor.place c.requires.sound.body c.requires.cursor)
+    omega (
+      arith,
+      n,
+      c.len.type_inv,
+      listed_len m self.limits self.seed self.body c.requires.sound.body,
+      place_inside m self.limits self.seed self.body c.args.cursor.index
+          c.args.cursor.place c.requires.sound.body c.requires.cursor,
+    )

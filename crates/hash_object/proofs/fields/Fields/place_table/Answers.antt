@@ -35,5 +35,6 @@ returns-in-Err-clause-err_blocks g c =
     let n = g.B.BlockStore.blocks c.end_table.new.store in
     let table = c.in_ok-table.table in
     let ended : Changes mid n (blocks_of table) [] =
-    subst (λ (b : Blocks). Changes b n (blocks_of table) []) c.in-Err.ensures.err_blocks (subst (λ t. Changes (g.B.BlockStore.blocks c.set_field.new.store) n (blocks_of t) []) c.in-Err.ensures.err_table c.end_table.ensures.changes) in
+    subst (λ (b : Blocks). Changes b n (blocks_of table) []) c.in-Err.ensures.err_blocks
+    (subst (λ t. Changes (g.B.BlockStore.blocks c.set_field.new.store) n (blocks_of t) []) c.in-Err.ensures.err_table c.end_table.ensures.changes) in
     all_same m n (Changes-then m mid n [] (blocks_of table) [] c.in_ok-table.ensures.hashed.changes ended)

@@ -15,5 +15,6 @@ returns-clause-set g c =
     let self = c.args.self.now in
     let r = c.requires in
     let bytes = c.in_ok-bytes.bytes.items in
-    pack_changed m n self c.in_ok-at.at c.args.count bytes (insert (fields m self) c.args.field.now c.args.value.now) r.sound r.packed (c.in_ok-at.ensures.bytes ∙ ap Some c.deref.ensures.value) c.in_ok-at.ensures.changes
+    pack_changed m n self c.in_ok-at.at c.args.count bytes (insert (fields m self) c.args.field.now c.args.value.now) r.sound r.packed
+    (c.in_ok-at.ensures.bytes ∙ ap Some c.deref.ensures.value) c.in_ok-at.ensures.changes
     (put_whole m self c.args.field.now c.args.value.now c.args.index c.args.count bytes r.sound r.packed r.index r.count r.few r.short c.in_ok-bytes.ensures.pack c.in_ok-bytes.ensures.list)

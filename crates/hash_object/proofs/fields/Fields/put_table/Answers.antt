@@ -20,7 +20,8 @@ returns-clause-set g c =
     let p = c.in_ok-body.ensures.placed in
     let released : Changes mid n (refs_of_body self.body) [] = subst (λ (b : Body). Changes mid n (refs_of_body b) []) c.replace.ensures.value c.release.ensures.changes in
     let grown = subst (λ t. Grown (hash_of self.seed) t (tables_of mid c.in_ok-body.body)) (sym (packed_tables m self.body (λ t is. c.requires.packed (ap form_of_body is)))) p.grown in
-    subst (λ (b : Body). IsChanged m n self (record self { body = b }) map) (sym c.replace.ensures.after) (body_changed m mid n self c.in_ok-body.body map c.requires.sound p.sound p.changes released p.fields_are grown)
+    subst (λ (b : Body). IsChanged m n self (record self { body = b }) map) (sym c.replace.ensures.after)
+    (body_changed m mid n self c.in_ok-body.body map c.requires.sound p.sound p.changes released p.fields_are grown)
 
 pub returns-clause-form : goal.returns-clause-form
 returns-clause-form g c = subst (λ (b : Body). form_of_body b ≡ Hashtable) (sym c.replace.ensures.after) c.in_ok-body.ensures.form

@@ -14,7 +14,8 @@ returns-in-None-clause-begins g c =
 
 pub returns-in-Some-clause-begins : goal.returns-in-Some-clause-begins
 returns-in-Some-clause-begins g c =
-    begins_set (g.B.BlockStore.blocks c.args.store.now) c.args.db c.args.name c.args.key.now c.requires.named c.args.self.now c.requires.timed c.requires.lacks c.set_deadline.new.self c.in-Some.deadline c.args.deadline c.in-Some.is c.requires.latest c.set_deadline.result
+    begins_set (g.B.BlockStore.blocks c.args.store.now) c.args.db c.args.name c.args.key.now c.requires.named c.args.self.now c.requires.timed c.requires.lacks c.set_deadline.new.self
+    c.in-Some.deadline c.args.deadline c.in-Some.is c.requires.latest c.set_deadline.result
     c.set_deadline.ensures.changes c.set_deadline.ensures.set c.set_deadline.ensures.moments c.set_deadline.ensures.keyed c.set_deadline.ensures.grown c.set_deadline.ensures.cursor
 
 pub set_deadline-requires-clause-lacks : goal.set_deadline-requires-clause-lacks

@@ -26,11 +26,13 @@ invariant_of-self g c none =
     let was : Bases g.row.V.Denot = record { bases = c.self.inside.bases.items; limits = c.self.inside.limits; seed = c.self.inside.seed; turn = c.self.inside.turn } in
     still_set was _ c.args.db c.index_mut.result.now _ refl (subst (λ (b : Bases _). c.args.db < length b.bases) (sym c.self.view_is) c.requires.db) c.index_mut.ensures.value
     refl
-    (going_shrunk c.index_mut.result.now.deadlines.table c.shrink-began.new.self.table c.shrink-began.result c.shrink-began.ensures.value c.shrink-began.ensures.tables calm.1) (c.self.invariant calm.0)
+    (going_shrunk c.index_mut.result.now.deadlines.table c.shrink-began.new.self.table c.shrink-began.result c.shrink-began.ensures.value c.shrink-began.ensures.tables calm.1)
+    (c.self.invariant calm.0)
 
 pub returns-clause-tables : goal.returns-clause-tables
 returns-clause-tables g c =
-    in_place c.self.inside.bases.items c.args.self.now c.args.db c.index_mut.result.now _ (λ old new. (blocks : Blocks) → OnOk c.shrink-began.result (key_tables blocks new.deadlines.table ≡ shrunk (key_tables blocks old.deadlines.table)))
+    in_place c.self.inside.bases.items c.args.self.now c.args.db c.index_mut.result.now _
+    (λ old new. (blocks : Blocks) → OnOk c.shrink-began.result (key_tables blocks new.deadlines.table ≡ shrunk (key_tables blocks old.deadlines.table)))
     (ap (λ (b : Bases _). b.bases) c.self.view_is) c.requires.db c.index_mut.ensures.value c.shrink-began.ensures.tables
 
 pub returns-clause-err : goal.returns-clause-err

@@ -29,7 +29,8 @@ invariant_of-self g c none =
 
 pub returns-clause-tables : goal.returns-clause-tables
 returns-clause-tables g c =
-    in_place c.self.inside.bases.items c.args.self.now c.args.db c.index_mut.result.now _ (λ old new. (blocks : Blocks) → OnOk c.shrink-began.result (key_tables blocks new.keys ≡ shrunk (key_tables blocks old.keys)))
+    in_place c.self.inside.bases.items c.args.self.now c.args.db c.index_mut.result.now _
+    (λ old new. (blocks : Blocks) → OnOk c.shrink-began.result (key_tables blocks new.keys ≡ shrunk (key_tables blocks old.keys)))
     (ap (λ (b : Bases _). b.bases) c.self.view_is) c.requires.db c.index_mut.ensures.value c.shrink-began.ensures.tables
 
 pub returns-clause-err : goal.returns-clause-err

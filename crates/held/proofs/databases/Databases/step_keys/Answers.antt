@@ -14,4 +14,5 @@ returns-clause-keyed g c =
 pub returns-clause-steps : goal.returns-clause-steps
 returns-clause-steps g c =
     in_place c.self.inside.bases.items c.args.self.now c.args.db c.index_mut.result.now _ (λ old new. (blocks : Blocks) → Keyed blocks old.keys → StepsTable blocks old.keys new.keys)
-    (ap (λ (b : Bases _). b.bases) c.self.view_is) c.requires c.index_mut.ensures.value (λ blocks k. record { tables = c.rehash_step.ensures.tables blocks k; items = c.rehash_step.ensures.items; top = c.rehash_step.ensures.top })
+    (ap (λ (b : Bases _). b.bases) c.self.view_is) c.requires c.index_mut.ensures.value
+    (λ blocks k. record { tables = c.rehash_step.ensures.tables blocks k; items = c.rehash_step.ensures.items; top = c.rehash_step.ensures.top })

@@ -11,7 +11,10 @@ pub release_all-requires-clause-owned : goal.release_all-requires-clause-owned
 release_all-requires-clause-owned g c =
     let m = g.B.BlockStore.blocks c.args.self.now.store in
     subst (λ t. Owned (refs (g.V.Stored.refs_of m) t) m) (sym c.take-table.ensures.taken)
-    (left_owned g.V.Stored.refs_of g.V.Stored.value_of g.met.V.Stored.reads_own c.args.self.now.bases c.take-table.new.self c.args.db m m c.take-table.ensures.changes c.requires.intact (refs (g.V.Stored.refs_of m) (table_at c.args.self.now.bases c.args.db)) (all_gone g.V.Stored.refs_of g.V.Stored.value_of g.met.V.Stored.reads_own c.args.self.now.bases c.take-table.new.self c.args.db _ c.take-table.ensures.changes c.take-table.ensures.none m)
+    (left_owned g.V.Stored.refs_of g.V.Stored.value_of g.met.V.Stored.reads_own c.args.self.now.bases c.take-table.new.self c.args.db m m c.take-table.ensures.changes c.requires.intact
+    (refs (g.V.Stored.refs_of m) (table_at c.args.self.now.bases c.args.db))
+    (all_gone g.V.Stored.refs_of g.V.Stored.value_of g.met.V.Stored.reads_own c.args.self.now.bases c.take-table.new.self c.args.db _ c.take-table.ensures.changes
+    c.take-table.ensures.none m)
     (all_order g.V.Stored.refs_of g.V.Stored.value_of g.met.V.Stored.reads_own c.args.self.now.bases c.take-table.new.self c.args.db _ c.take-table.ensures.changes c.take-table.ensures.none m refl))
 
 pub release_all-requires-clause-sound : goal.release_all-requires-clause-sound
@@ -23,19 +26,30 @@ pub returns-clause-means : goal.returns-clause-means
 returns-clause-means g c =
     let m = g.B.BlockStore.blocks c.args.self.now.store in
     let after = g.B.BlockStore.blocks c.release_all.new.store in
-    left_means g.V.Stored.refs_of g.V.Stored.value_of g.met.V.Stored.reads_own c.args.self.now.bases c.take-table.new.self c.args.db m after c.take-table.ensures.changes c.requires.intact (refs (g.V.Stored.refs_of m) (table_at c.args.self.now.bases c.args.db)) (all_gone g.V.Stored.refs_of g.V.Stored.value_of g.met.V.Stored.reads_own c.args.self.now.bases c.take-table.new.self c.args.db _ c.take-table.ensures.changes c.take-table.ensures.none m)
+    left_means g.V.Stored.refs_of g.V.Stored.value_of g.met.V.Stored.reads_own c.args.self.now.bases c.take-table.new.self c.args.db m after c.take-table.ensures.changes c.requires.intact
+    (refs (g.V.Stored.refs_of m) (table_at c.args.self.now.bases c.args.db))
+    (all_gone g.V.Stored.refs_of g.V.Stored.value_of g.met.V.Stored.reads_own c.args.self.now.bases c.take-table.new.self c.args.db _ c.take-table.ensures.changes
+    c.take-table.ensures.none m)
     (all_order g.V.Stored.refs_of g.V.Stored.value_of g.met.V.Stored.reads_own c.args.self.now.bases c.take-table.new.self c.args.db _ c.take-table.ensures.changes c.take-table.ensures.none m refl)
-    (subst (λ t. Changes m after (refs (g.V.Stored.refs_of m) t) []) c.take-table.ensures.taken c.release_all.ensures.changes) _ (all_means g.V.Stored.refs_of g.V.Stored.value_of g.met.V.Stored.reads_own c.args.self.now.bases c.take-table.new.self c.args.db _ c.take-table.ensures.changes c.take-table.ensures.none m)
+    (subst (λ t. Changes m after (refs (g.V.Stored.refs_of m) t) []) c.take-table.ensures.taken c.release_all.ensures.changes) _
+    (all_means g.V.Stored.refs_of g.V.Stored.value_of g.met.V.Stored.reads_own c.args.self.now.bases c.take-table.new.self c.args.db _ c.take-table.ensures.changes
+    c.take-table.ensures.none m)
 
 pub returns-clause-sound : goal.returns-clause-sound
 returns-clause-sound g c =
     let m = g.B.BlockStore.blocks c.args.self.now.store in
     let after = g.B.BlockStore.blocks c.release_all.new.store in
     sound_kept g.V.Stored.refs_of g.V.Stored.value_of g.met.V.Stored.reads_own c.args.self.now.bases c.take-table.new.self m after
-    (left_changes g.V.Stored.refs_of g.V.Stored.value_of g.met.V.Stored.reads_own c.args.self.now.bases c.take-table.new.self c.args.db m after c.take-table.ensures.changes c.requires.intact (refs (g.V.Stored.refs_of m) (table_at c.args.self.now.bases c.args.db)) (all_gone g.V.Stored.refs_of g.V.Stored.value_of g.met.V.Stored.reads_own c.args.self.now.bases c.take-table.new.self c.args.db _ c.take-table.ensures.changes c.take-table.ensures.none m)
+    (left_changes g.V.Stored.refs_of g.V.Stored.value_of g.met.V.Stored.reads_own c.args.self.now.bases c.take-table.new.self c.args.db m after c.take-table.ensures.changes
+    c.requires.intact (refs (g.V.Stored.refs_of m) (table_at c.args.self.now.bases c.args.db))
+    (all_gone g.V.Stored.refs_of g.V.Stored.value_of g.met.V.Stored.reads_own c.args.self.now.bases c.take-table.new.self c.args.db _ c.take-table.ensures.changes
+    c.take-table.ensures.none m)
     (all_order g.V.Stored.refs_of g.V.Stored.value_of g.met.V.Stored.reads_own c.args.self.now.bases c.take-table.new.self c.args.db _ c.take-table.ensures.changes c.take-table.ensures.none m refl)
     (subst (λ t. Changes m after (refs (g.V.Stored.refs_of m) t) []) c.take-table.ensures.taken c.release_all.ensures.changes))
-    (left_arranged g.V.Stored.refs_of g.V.Stored.value_of g.met.V.Stored.reads_own c.args.self.now.bases c.take-table.new.self c.args.db m after c.take-table.ensures.changes c.requires.intact (refs (g.V.Stored.refs_of m) (table_at c.args.self.now.bases c.args.db)) (all_gone g.V.Stored.refs_of g.V.Stored.value_of g.met.V.Stored.reads_own c.args.self.now.bases c.take-table.new.self c.args.db _ c.take-table.ensures.changes c.take-table.ensures.none m)
+    (left_arranged g.V.Stored.refs_of g.V.Stored.value_of g.met.V.Stored.reads_own c.args.self.now.bases c.take-table.new.self c.args.db m after c.take-table.ensures.changes
+    c.requires.intact (refs (g.V.Stored.refs_of m) (table_at c.args.self.now.bases c.args.db))
+    (all_gone g.V.Stored.refs_of g.V.Stored.value_of g.met.V.Stored.reads_own c.args.self.now.bases c.take-table.new.self c.args.db _ c.take-table.ensures.changes
+    c.take-table.ensures.none m)
     (all_order g.V.Stored.refs_of g.V.Stored.value_of g.met.V.Stored.reads_own c.args.self.now.bases c.take-table.new.self c.args.db _ c.take-table.ensures.changes c.take-table.ensures.none m refl)
     (subst (λ t. Changes m after (refs (g.V.Stored.refs_of m) t) []) c.take-table.ensures.taken c.release_all.ensures.changes))
 
@@ -43,7 +57,10 @@ pub returns-clause-changes : goal.returns-clause-changes
 returns-clause-changes g c =
     let m = g.B.BlockStore.blocks c.args.self.now.store in
     let after = g.B.BlockStore.blocks c.release_all.new.store in
-    left_changes g.V.Stored.refs_of g.V.Stored.value_of g.met.V.Stored.reads_own c.args.self.now.bases c.take-table.new.self c.args.db m after c.take-table.ensures.changes c.requires.intact (refs (g.V.Stored.refs_of m) (table_at c.args.self.now.bases c.args.db)) (all_gone g.V.Stored.refs_of g.V.Stored.value_of g.met.V.Stored.reads_own c.args.self.now.bases c.take-table.new.self c.args.db _ c.take-table.ensures.changes c.take-table.ensures.none m)
+    left_changes g.V.Stored.refs_of g.V.Stored.value_of g.met.V.Stored.reads_own c.args.self.now.bases c.take-table.new.self c.args.db m after c.take-table.ensures.changes
+    c.requires.intact (refs (g.V.Stored.refs_of m) (table_at c.args.self.now.bases c.args.db))
+    (all_gone g.V.Stored.refs_of g.V.Stored.value_of g.met.V.Stored.reads_own c.args.self.now.bases c.take-table.new.self c.args.db _ c.take-table.ensures.changes
+    c.take-table.ensures.none m)
     (all_order g.V.Stored.refs_of g.V.Stored.value_of g.met.V.Stored.reads_own c.args.self.now.bases c.take-table.new.self c.args.db _ c.take-table.ensures.changes c.take-table.ensures.none m refl)
     (subst (λ t. Changes m after (refs (g.V.Stored.refs_of m) t) []) c.take-table.ensures.taken c.release_all.ensures.changes)
 
@@ -51,5 +68,6 @@ pub returns-clause-within : goal.returns-clause-within
 returns-clause-within g c =
     let m = g.B.BlockStore.blocks c.args.self.now.store in
     let after = g.B.BlockStore.blocks c.release_all.new.store in
-    all_within g.V.Stored.refs_of g.V.Stored.value_of g.met.V.Stored.reads_own c.args.self.now.bases c.take-table.new.self c.args.db _ c.take-table.ensures.changes c.take-table.ensures.none m after c.requires.intact refl
+    all_within g.V.Stored.refs_of g.V.Stored.value_of g.met.V.Stored.reads_own c.args.self.now.bases c.take-table.new.self c.args.db _ c.take-table.ensures.changes
+    c.take-table.ensures.none m after c.requires.intact refl
     (subst (λ t. Changes m after (refs (g.V.Stored.refs_of m) t) []) c.take-table.ensures.taken c.release_all.ensures.changes)

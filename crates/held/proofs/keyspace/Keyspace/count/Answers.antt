@@ -10,4 +10,5 @@ pub returns : goal.returns
 returns g c =
     let m = g.B.BlockStore.blocks c.args.self.now.store in
     let keys = table_at c.args.self.now.bases c.args.db in
-    c.len.ensures ∙ sym (len-map_of m (g.V.Stored.value_of m) keys (c.requires.intact.arranged.keyed c.args.db)) ∙ sym (len_with (moments m (deadlines_at c.args.self.now.bases c.args.db)) (map_of m (g.V.Stored.value_of m) keys))
+    c.len.ensures ∙ sym (len-map_of m (g.V.Stored.value_of m) keys (c.requires.intact.arranged.keyed c.args.db))
+    ∙ sym (len_with (moments m (deadlines_at c.args.self.now.bases c.args.db)) (map_of m (g.V.Stored.value_of m) keys))

@@ -23,14 +23,18 @@ loop-at-preserved g c =
       | else-drop_passed w ↦ (let none = ap {B = ℕ} (λ b. cond b 1 0) w.if-drop_passed.false in omega (arith, w.count-is, none))
     ] in
     record {
-      purged = purge_next g.V.Stored.refs_of g.V.Stored.value_of g.met.V.Stored.reads_own c.args.self.now.bases c.loop-at.self.bases c.drop_passed.new.self.bases (g.B.BlockStore.blocks c.args.self.now.store) (g.B.BlockStore.blocks c.loop-at.self.store) (g.B.BlockStore.blocks c.drop_passed.new.self.store) c.args.db c.args.moment c.loop-at.at c.loop-at.count c.drop_passed.result c.if-drop_passed.count counted
+      purged = purge_next g.V.Stored.refs_of g.V.Stored.value_of g.met.V.Stored.reads_own c.args.self.now.bases c.loop-at.self.bases c.drop_passed.new.self.bases
+          (g.B.BlockStore.blocks c.args.self.now.store) (g.B.BlockStore.blocks c.loop-at.self.store) (g.B.BlockStore.blocks c.drop_passed.new.self.store) c.args.db c.args.moment
+          c.loop-at.at c.loop-at.count c.drop_passed.result c.if-drop_passed.count counted
           c.loop-at.invariant.purged c.drop_passed.ensures.thins c.drop_passed.ensures.in_time c.drop_passed.ensures.arranged c.drop_passed.ensures.changes;
       served = Served-then _ _ _ c.loop-at.invariant.served c.drop_passed.ensures.served;
-      within = within_then g.V.Stored.refs_of (no_key c.args.db) c.args.self.now.bases c.loop-at.self.bases c.drop_passed.new.self.bases (g.B.BlockStore.blocks c.args.self.now.store) (g.B.BlockStore.blocks c.loop-at.self.store) (g.B.BlockStore.blocks c.drop_passed.new.self.store) c.loop-at.invariant.within c.drop_passed.ensures.within;
+      within = within_then g.V.Stored.refs_of (no_key c.args.db) c.args.self.now.bases c.loop-at.self.bases c.drop_passed.new.self.bases (g.B.BlockStore.blocks c.args.self.now.store)
+          (g.B.BlockStore.blocks c.loop-at.self.store) (g.B.BlockStore.blocks c.drop_passed.new.self.store) c.loop-at.invariant.within c.drop_passed.ensures.within;
       settings = settings_then g.V.Stored.refs_of g.V.Stored.value_of g.met.V.Stored.reads_own _ _ _ c.loop-at.invariant.settings c.drop_passed.ensures.settings;
     }
 
 pub returns-clause-means : goal.returns-clause-means
 returns-clause-means g c =
-    purge_ends g.V.Stored.refs_of g.V.Stored.value_of g.met.V.Stored.reads_own c.args.self.now.bases c.loop-at.self.bases (g.B.BlockStore.blocks c.args.self.now.store) (g.B.BlockStore.blocks c.loop-at.self.store) c.args.db c.args.moment c.loop-at.at c.loop-at.count c.loop-at.invariant.purged
+    purge_ends g.V.Stored.refs_of g.V.Stored.value_of g.met.V.Stored.reads_own c.args.self.now.bases c.loop-at.self.bases (g.B.BlockStore.blocks c.args.self.now.store)
+    (g.B.BlockStore.blocks c.loop-at.self.store) c.args.db c.args.moment c.loop-at.at c.loop-at.count c.loop-at.invariant.purged
     (λ i some. (let below = c.deadlines_top-at-end.ensures i some in omega (arith, below, c.loop-at-test.false)))

@@ -21,8 +21,11 @@ returns-in-Text g c =
     let heap = g.B.BlockStore.heap c.args.store.now in
     let later = g.B.BlockStore.heap c.relocate_part.new.store in
     let e = c.relocate_part.ensures in
-    subst (λ v. PassesPart value_refs value_of IsSound value_marks value_tables encoding_of m after heap later v (kinds.Text c.relocate_part.new.self) c.args.from c.args.room c.relocate_part.result) (sym c.in-Text.is)
-    (text_passes m after heap later c.in-Text.text c.relocate_part.new.self c.args.from c.args.room c.relocate_part.result e.bytes e.raw e.changes e.calmer e.blocks e.passed e.stays e.next e.used c.requires.room)
+    subst
+    (λ v. PassesPart value_refs value_of IsSound value_marks value_tables encoding_of m after heap later v (kinds.Text c.relocate_part.new.self) c.args.from c.args.room
+    c.relocate_part.result) (sym c.in-Text.is)
+    (text_passes m after heap later c.in-Text.text c.relocate_part.new.self c.args.from c.args.room c.relocate_part.result e.bytes e.raw e.changes e.calmer e.blocks e.passed e.stays e.next
+    e.used c.requires.room)
 
 pub returns-in-List : goal.returns-in-List
 returns-in-List g c =
@@ -33,8 +36,12 @@ returns-in-List g c =
     let new = c.relocate_part-in-List.new.self in
     let e = c.relocate_part-in-List.ensures in
     let is = c.deref_mut.ensures.value in
-    subst (λ v. PassesPart value_refs value_of IsSound value_marks value_tables encoding_of m after heap later v (kinds.List (with_value c.in-List.list new)) c.args.from c.args.room c.relocate_part-in-List.result) (sym c.in-List.is)
-    (list_passes m after heap later c.in-List.list new c.args.from c.args.room c.relocate_part-in-List.result e.quick (subst (λ x. elements after new ≡ elements m x) is e.list) (subst (λ x. new.form ≡ x.form) is e.form) (subst (λ x. Changes m after (refs x) (refs new)) is e.changes) e.calmer (subst (λ x. IsPassed later (refs x) (refs new) c.args.from c.args.room c.relocate_part-in-List.result) is e.passed))
+    subst
+    (λ v. PassesPart value_refs value_of IsSound value_marks value_tables encoding_of m after heap later v (kinds.List (with_value c.in-List.list new)) c.args.from c.args.room
+    c.relocate_part-in-List.result) (sym c.in-List.is)
+    (list_passes m after heap later c.in-List.list new c.args.from c.args.room c.relocate_part-in-List.result e.quick (subst (λ x. elements after new ≡ elements m x) is e.list)
+    (subst (λ x. new.form ≡ x.form) is e.form) (subst (λ x. Changes m after (refs x) (refs new)) is e.changes) e.calmer
+    (subst (λ x. IsPassed later (refs x) (refs new) c.args.from c.args.room c.relocate_part-in-List.result) is e.passed))
 
 pub returns-in-Set : goal.returns-in-Set
 returns-in-Set g c =
@@ -45,8 +52,11 @@ returns-in-Set g c =
     let new = c.relocate_part-in-Set.new.self in
     let e = c.relocate_part-in-Set.ensures in
     let is = c.deref_mut-in-Set.ensures.value in
-    subst (λ v. PassesPart value_refs value_of IsSound value_marks value_tables encoding_of m after heap later v (kinds.Set (with_value c.in-Set.members new)) c.args.from c.args.room c.relocate_part-in-Set.result) (sym c.in-Set.is)
-    (set_passes m after heap later c.in-Set.members new c.args.from c.args.room c.relocate_part-in-Set.result (subst (λ x. set_marks.IsRelocated m after x new) is e.relocated) (subst (λ x. set_marks.PassesPart later x new c.args.from c.args.room c.relocate_part-in-Set.result) is e.passed) e.calmer)
+    subst
+    (λ v. PassesPart value_refs value_of IsSound value_marks value_tables encoding_of m after heap later v (kinds.Set (with_value c.in-Set.members new)) c.args.from c.args.room
+    c.relocate_part-in-Set.result) (sym c.in-Set.is)
+    (set_passes m after heap later c.in-Set.members new c.args.from c.args.room c.relocate_part-in-Set.result (subst (λ x. set_marks.IsRelocated m after x new) is e.relocated)
+    (subst (λ x. set_marks.PassesPart later x new c.args.from c.args.room c.relocate_part-in-Set.result) is e.passed) e.calmer)
 
 pub returns-in-Hash : goal.returns-in-Hash
 returns-in-Hash g c =
@@ -57,8 +67,11 @@ returns-in-Hash g c =
     let new = c.relocate_part-in-Hash.new.self in
     let e = c.relocate_part-in-Hash.ensures in
     let is = c.deref_mut-in-Hash.ensures.value in
-    subst (λ v. PassesPart value_refs value_of IsSound value_marks value_tables encoding_of m after heap later v (kinds.Hash (with_value c.in-Hash.fields new)) c.args.from c.args.room c.relocate_part-in-Hash.result) (sym c.in-Hash.is)
-    (hash_passes m after heap later c.in-Hash.fields new c.args.from c.args.room c.relocate_part-in-Hash.result (subst (λ x. hash_marks.IsRelocated m after x new) is e.relocated) (subst (λ x. hash_marks.PassesPart later x new c.args.from c.args.room c.relocate_part-in-Hash.result) is e.passed) e.calmer)
+    subst
+    (λ v. PassesPart value_refs value_of IsSound value_marks value_tables encoding_of m after heap later v (kinds.Hash (with_value c.in-Hash.fields new)) c.args.from c.args.room
+    c.relocate_part-in-Hash.result) (sym c.in-Hash.is)
+    (hash_passes m after heap later c.in-Hash.fields new c.args.from c.args.room c.relocate_part-in-Hash.result (subst (λ x. hash_marks.IsRelocated m after x new) is e.relocated)
+    (subst (λ x. hash_marks.PassesPart later x new c.args.from c.args.room c.relocate_part-in-Hash.result) is e.passed) e.calmer)
 
 pub returns-in-Zset : goal.returns-in-Zset
 returns-in-Zset g c =
@@ -69,8 +82,11 @@ returns-in-Zset g c =
     let new = c.relocate_part-in-Zset.new.self in
     let e = c.relocate_part-in-Zset.ensures in
     let is = c.deref_mut-in-Zset.ensures.value in
-    subst (λ v. PassesPart value_refs value_of IsSound value_marks value_tables encoding_of m after heap later v (kinds.Zset (with_value c.in-Zset.scored new)) c.args.from c.args.room c.relocate_part-in-Zset.result) (sym c.in-Zset.is)
-    (zset_passes m after heap later c.in-Zset.scored new c.args.from c.args.room c.relocate_part-in-Zset.result (subst (λ x. zset_marks.IsRelocated m after x new) is e.relocated) (subst (λ x. zset_marks.PassesPart later x new c.args.from c.args.room c.relocate_part-in-Zset.result) is e.passed) e.calmer)
+    subst
+    (λ v. PassesPart value_refs value_of IsSound value_marks value_tables encoding_of m after heap later v (kinds.Zset (with_value c.in-Zset.scored new)) c.args.from c.args.room
+    c.relocate_part-in-Zset.result) (sym c.in-Zset.is)
+    (zset_passes m after heap later c.in-Zset.scored new c.args.from c.args.room c.relocate_part-in-Zset.result (subst (λ x. zset_marks.IsRelocated m after x new) is e.relocated)
+    (subst (λ x. zset_marks.PassesPart later x new c.args.from c.args.room c.relocate_part-in-Zset.result) is e.passed) e.calmer)
 
 pub returns-in-Stream : goal.returns-in-Stream
 returns-in-Stream g c =
@@ -82,5 +98,9 @@ returns-in-Stream g c =
     let answer = c.relocate_part-in-Stream.result in
     let e = c.relocate_part-in-Stream.ensures in
     let is = c.deref_mut-in-Stream.ensures.value in
-    subst (λ v. PassesPart value_refs value_of IsSound value_marks value_tables encoding_of m after heap later v (kinds.Stream (with_value c.in-Stream.log new)) c.args.from c.args.room answer) (sym c.in-Stream.is)
-    (stream_passes m after heap later c.in-Stream.log new c.args.from c.args.room answer (subst (λ x. stream_marks.IsRelocated m after x new) is e.relocated) (subst (λ x. ArePassed later (is_passed c.args.from answer.next) (stream.marks m x) (stream.refs m x) (stream.refs after new)) is e.passed) (subst (λ x. stream_marks.IsBounded (stream.marks m x) c.args.from c.args.room answer) is e.bounded) e.calmer)
+    subst
+    (λ v. PassesPart value_refs value_of IsSound value_marks value_tables encoding_of m after heap later v (kinds.Stream (with_value c.in-Stream.log new)) c.args.from c.args.room
+    answer) (sym c.in-Stream.is)
+    (stream_passes m after heap later c.in-Stream.log new c.args.from c.args.room answer (subst (λ x. stream_marks.IsRelocated m after x new) is e.relocated)
+    (subst (λ x. ArePassed later (is_passed c.args.from answer.next) (stream.marks m x) (stream.refs m x) (stream.refs after new)) is e.passed)
+    (subst (λ x. stream_marks.IsBounded (stream.marks m x) c.args.from c.args.room answer) is e.bounded) e.calmer)

@@ -19,5 +19,6 @@ returns-in_ok-push-2 g c =
     inl (
       name,
       record { stands = ap field_of (c.at.ensures ∙ named); like = subst (λ k. IsLike c.args.pattern.now k) c.as_slice.ensures (c.is_like.ensures.0 c.if-is_like.true) },
-      both_added c.args.words.now.items c.push.new.self.items c.push-then-is_like.new.self.items name c.in_ok-bytes_of.field-0 (unwrap_or (get (fields m own) name) []) c.in_ok-push.ensures.items c.in_ok-push-2.ensures.items (c.in_ok-bytes_of.ensures ∙ sym (ap (λ o. unwrap_or o []) got)),
+      both_added c.args.words.now.items c.push.new.self.items c.push-then-is_like.new.self.items name c.in_ok-bytes_of.field-0 (unwrap_or (get (fields m own) name) [])
+          c.in_ok-push.ensures.items c.in_ok-push-2.ensures.items (c.in_ok-bytes_of.ensures ∙ sym (ap (λ o. unwrap_or o []) got)),
     )

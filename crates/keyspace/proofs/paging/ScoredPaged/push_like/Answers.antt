@@ -21,5 +21,7 @@ returns-in_ok-push-2 g c =
     inl (
       name,
       record { stands = ap member_of (c.at-score.ensures ∙ named); like = subst (λ k. IsLike c.args.pattern.now k) c.as_slice.ensures (c.is_like.ensures.0 c.if-is_like.true) },
-      both_added c.args.words.now.items c.push.new.self.items c.push-then-is_like.new.self.items name c.in_ok-number_text.field-0 (canonical (unwrap_or (get (scores m own) name) (pos 0))) c.in_ok-push.ensures.items c.in_ok-push-2.ensures.items (c.in_ok-number_text.ensures ∙ ap canonical (to_z-of_z w64 score fits) ∙ sym (ap (λ o. canonical (unwrap_or o (pos 0))) got)),
+      both_added c.args.words.now.items c.push.new.self.items c.push-then-is_like.new.self.items name c.in_ok-number_text.field-0 (canonical (unwrap_or (get (scores m own) name) (pos 0)))
+          c.in_ok-push.ensures.items c.in_ok-push-2.ensures.items
+          (c.in_ok-number_text.ensures ∙ ap canonical (to_z-of_z w64 score fits) ∙ sym (ap (λ o. canonical (unwrap_or o (pos 0))) got)),
     )

@@ -39,7 +39,8 @@ slice_bounds-entry_len_before-end c =
     sym (length-take-le c.args.end c.args.self.now.bytes.now (omega (arith, far, c.requires.3)))
 
 pub overflow_sub-result : goal.overflow_sub-result
-overflow_sub-result c = let t = goes_back c.args.self.now.bytes.now c.args.end c.entry_len_before.result c.args.self.now.packed c.entry_len_before.ensures c.requires.0 c.requires.1 c.requires.2 c.requires.3 in omega (arith, t.0)
+overflow_sub-result c = let t = goes_back c.args.self.now.bytes.now c.args.end c.entry_len_before.result c.args.self.now.packed c.entry_len_before.ensures c.requires.0 c.requires.1
+    c.requires.2 c.requires.3 in omega (arith, t.0)
 
 pub returns : goal.returns
 returns c = λ i some h e. let t = goes_back c.args.self.now.bytes.now c.args.end c.entry_len_before.result c.args.self.now.packed c.entry_len_before.ensures i some h e in omega (arith, t.0)

@@ -10,10 +10,12 @@ told : (bytes s text : List ℕ) (i at : ℕ) → IsAt bytes i at → text ≡ t
 told bytes s text i at here is value = is ∙ ap text_of value ∙ sym (get_or-map text_of (spellings_of bytes) i [] [] (omega (arith, here.0, length-texts bytes)))
 
 pub returns-then-to-self-clause-text : goal.returns-then-to-self-clause-text
-returns-then-to-self-clause-text c = λ i here. told c.args.self.now.bytes.now c.spelling_at-spelling.result.now _ i c.args.at here c.element_of-element.ensures.text (c.spelling_at-spelling.ensures.value i here)
+returns-then-to-self-clause-text c = λ i here. told c.args.self.now.bytes.now c.spelling_at-spelling.result.now _ i c.args.at here c.element_of-element.ensures.text
+    (c.spelling_at-spelling.ensures.value i here)
 
 pub returns-else-to-self-clause-text : goal.returns-else-to-self-clause-text
-returns-else-to-self-clause-text c = λ i here. told c.args.self.now.bytes.now c.spelling_at-spelling.result.now _ i c.args.at here c.element_of-element.ensures.text (c.spelling_at-spelling.ensures.value i here)
+returns-else-to-self-clause-text c = λ i here. told c.args.self.now.bytes.now c.spelling_at-spelling.result.now _ i c.args.at here c.element_of-element.ensures.text
+    (c.spelling_at-spelling.ensures.value i here)
 
 pub returns-then-to-self-clause-place : goal.returns-then-to-self-clause-place
 returns-then-to-self-clause-place c = λ i t0.

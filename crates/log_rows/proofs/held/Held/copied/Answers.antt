@@ -17,7 +17,8 @@ module _ (m mid : Blocks) (old copy : Log) (is : IsStream m old) (placed : Chang
   both_owned : Owned (refs mid copy ++ refs m old) mid
   both_owned =
       Changes-owned m mid (refs m old) (refs mid copy ++ refs m old)
-      (Changes-beside m mid [] (refs mid copy) (refs m old) (refs mid copy ++ refs m old) placed (stream_laws_hold.owned m old is) (λ r. times r (refs m old)) (λ r. omega arith) (λ r. times-append r (refs mid copy) (refs m old)))
+      (Changes-beside m mid [] (refs mid copy) (refs m old) (refs mid copy ++ refs m old) placed (stream_laws_hold.owned m old is) (λ r. times r (refs m old)) (λ r. omega arith)
+      (λ r. times-append r (refs mid copy) (refs m old)))
 
   -- the copy stays while the stream is given back
   copy_stays : (n : Blocks) → IsStream mid copy → Changes mid n (refs mid old) [] → IsStream n copy

@@ -16,7 +16,8 @@ pub returns-in_err-rebuilt-clause-served : goal.returns-in_err-rebuilt-clause-se
 returns-in_err-rebuilt-clause-served g c = no_step
 
 pub add_all-requires-clause-small : goal.add_all-requires-clause-small
-add_all-requires-clause-small g c = omega (arith, ap (λ v. v.len) c.self.view_is, c.requires.quick.counted, ap (λ (v : Chain). length (elements (g.B.BlockStore.blocks c.args.store.now) v)) c.self.view_is)
+add_all-requires-clause-small g c = omega
+    (arith, ap (λ v. v.len) c.self.view_is, c.requires.quick.counted, ap (λ (v : Chain). length (elements (g.B.BlockStore.blocks c.args.store.now) v)) c.self.view_is)
 
 pub returns-in-Ok-clause-changed : goal.returns-in-Ok-clause-changed
 returns-in-Ok-clause-changed g c =
@@ -29,7 +30,8 @@ returns-in-Ok-clause-changed g c =
     let long : c.len-count.result ≡ length r.replaced.items = search rules in
     let all : take c.len-count.result r.replaced.items ≡ r.replaced.items = take_all c.len-count.result r.replaced.items (omega (arith, long)) in
     let ended = subst (λ (xs : List Node). Changes mid n (refs_of xs) []) all c.end_nodes.ensures.changes in
-    rebuilt_is m mid n q _ (cleared c.args.reach 0 (elements m q)) r c.requires.quick is ended refl (omega (arith, ap (λ v. v.len) c.self.view_is, c.requires.quick.counted, c.requires.many)) (ap (λ v. v.form) c.self.view_is)
+    rebuilt_is m mid n q _ (cleared c.args.reach 0 (elements m q)) r c.requires.quick is ended refl
+    (omega (arith, ap (λ v. v.len) c.self.view_is, c.requires.quick.counted, c.requires.many)) (ap (λ v. v.form) c.self.view_is)
 
 pub returns-in-Ok-clause-served : goal.returns-in-Ok-clause-served
 returns-in-Ok-clause-served g c = Served-then _ _ _ c.in-Ok.ensures.served c.end_nodes.ensures.served

@@ -19,4 +19,5 @@ returns g c =
     let node = c.index-node.result.now in
     let is = node_is q.nodes k node cursor.place.inside (c.index-node.ensures ∙ ap (λ v. get_or v.nodes k node) c.self.view_is) in
     let off = offset_at m q.nodes k cursor.among c.args.cursor.at node c.bytes.result.now is c.bytes.ensures cursor.offset in
-    c.element_in.ensures cursor.among off ∙ ap (λ xs. get_or xs cursor.among []) (sym (list_at m q.nodes k node c.bytes.result.now is c.bytes.ensures)) ∙ sym (get_is m q c.args.cursor.index k cursor.among s cursor.place)
+    c.element_in.ensures cursor.among off ∙ ap (λ xs. get_or xs cursor.among []) (sym (list_at m q.nodes k node c.bytes.result.now is c.bytes.ensures))
+    ∙ sym (get_is m q c.args.cursor.index k cursor.among s cursor.place)

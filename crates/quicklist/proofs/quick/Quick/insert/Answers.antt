@@ -79,9 +79,18 @@ rewrite-requires-clause-count g c =
     let node = c.index-node.result.now in
     let gap = c.gap-k.ensures in
     let is = node_is q.nodes k node gap.inside (c.index-node.ensures ∙ ap (λ v. get_or v.nodes k node) c.self.view_is) in
-    let list = (at_some (λ (v : Vec ℕ). IsPacked v.items × (texts v.items ≡ insert (held node.container c.bytes.result.now) j x)) c.in_ok-pack.field-0 c.in-Some-2.pack c.in-Some-2.is c.in_ok-pack.ensures.some).1 in
+    let list =
+    (at_some (λ (v : Vec ℕ). IsPacked v.items × (texts v.items ≡ insert (held node.container c.bytes.result.now) j x)) c.in_ok-pack.field-0 c.in-Some-2.pack c.in-Some-2.is
+    c.in_ok-pack.ensures.some).1 in
     let count = count_at m q.nodes k node c.bytes.result.now c.requires.quick.chain.each gap.inside is c.bytes.ensures in
-    omega (arith, count, ap (λ xs. length (texts xs)) c.deref.ensures.value, ap length list, length-insert (held node.container c.bytes.result.now) j x (omega (arith, gap.among, count, ap (λ n. n.count) is)))
+    omega (
+      arith,
+      count,
+      ap (λ xs. length (texts xs)) c.deref.ensures.value,
+      ap length list,
+      length-insert (held node.container c.bytes.result.now) j x
+          (omega (arith, gap.among, count, ap (λ n. n.count) is)),
+    )
 
 pub rewrite-requires-clause-len : goal.rewrite-requires-clause-len
 rewrite-requires-clause-len g c =
@@ -93,7 +102,9 @@ rewrite-requires-clause-len g c =
     let node = c.index-node.result.now in
     let gap = c.gap-k.ensures in
     let is = node_is q.nodes k node gap.inside (c.index-node.ensures ∙ ap (λ v. get_or v.nodes k node) c.self.view_is) in
-    let list = (at_some (λ (v : Vec ℕ). IsPacked v.items × (texts v.items ≡ insert (held node.container c.bytes.result.now) j x)) c.in_ok-pack.field-0 c.in-Some-2.pack c.in-Some-2.is c.in_ok-pack.ensures.some).1 in
+    let list =
+    (at_some (λ (v : Vec ℕ). IsPacked v.items × (texts v.items ≡ insert (held node.container c.bytes.result.now) j x)) c.in_ok-pack.field-0 c.in-Some-2.pack c.in-Some-2.is
+    c.in_ok-pack.ensures.some).1 in
     let more : c.in-Some.len ≡ q.len + 1 = omega (arith, c.in-Some.ensures.1, ap (λ v. v.len) c.self.view_is) in
     let whole = joined_list m q c.args.index k j x node c.bytes.result.now (texts c.deref.result.now) c.requires.quick gap is c.bytes.ensures (ap texts c.deref.ensures.value ∙ list) in
     omega (arith, more, c.requires.quick.counted, ap length whole, length-insert (elements m q) c.args.index x c.requires.index)
@@ -108,7 +119,9 @@ returns-in-Some-2-clause-written g c =
     let node = c.index-node.result.now in
     let gap = c.gap-k.ensures in
     let is = node_is q.nodes k node gap.inside (c.index-node.ensures ∙ ap (λ v. get_or v.nodes k node) c.self.view_is) in
-    let list = (at_some (λ (v : Vec ℕ). IsPacked v.items × (texts v.items ≡ insert (held node.container c.bytes.result.now) j x)) c.in_ok-pack.field-0 c.in-Some-2.pack c.in-Some-2.is c.in_ok-pack.ensures.some).1 in
+    let list =
+    (at_some (λ (v : Vec ℕ). IsPacked v.items × (texts v.items ≡ insert (held node.container c.bytes.result.now) j x)) c.in_ok-pack.field-0 c.in-Some-2.pack c.in-Some-2.is
+    c.in_ok-pack.ensures.some).1 in
     let whole = joined_list m q c.args.index k j x node c.bytes.result.now (texts c.deref.result.now) c.requires.quick gap is c.bytes.ensures (ap texts c.deref.ensures.value ∙ list) in
     subst (λ xs. OnOk c.rewrite.result (IsWritten m (g.B.BlockStore.blocks c.rewrite.new.store) q c.rewrite.new.self xs)) whole c.rewrite.ensures.written
 
@@ -122,7 +135,8 @@ overflow_add-node g c =
     let node = c.index-node.result.now in
     let gap = c.gap-k.ensures in
     let is = node_is q.nodes k node gap.inside (c.index-node.ensures ∙ ap (λ v. get_or v.nodes k node) c.self.view_is) in
-    let pack = at_some (λ (v : Vec ℕ). IsPacked v.items × (texts v.items ≡ insert (held node.container c.bytes.result.now) j x)) c.in_ok-pack.field-0 c.in-Some-2.pack c.in-Some-2.is c.in_ok-pack.ensures.some in
+    let pack = at_some (λ (v : Vec ℕ). IsPacked v.items × (texts v.items ≡ insert (held node.container c.bytes.result.now) j x)) c.in_ok-pack.field-0 c.in-Some-2.pack c.in-Some-2.is
+    c.in_ok-pack.ensures.some in
     let count = count_at m q.nodes k node c.bytes.result.now c.requires.quick.chain.each gap.inside is c.bytes.ensures in
     let few = count_small c.in-Some-2.pack.items pack.0 in
     let long = length-insert (held node.container c.bytes.result.now) j x (omega (arith, gap.among, count, ap (λ n. n.count) is)) in
@@ -140,7 +154,8 @@ place_alone-requires-clause-overfull g c =
     let is = node_is q.nodes k node gap.inside (c.index-node.ensures ∙ ap (λ v. get_or v.nodes k node) c.self.view_is) in
     let more : c.in-Some.len ≡ q.len + 1 = omega (arith, c.in-Some.ensures.1, ap (λ v. v.len) c.self.view_is) in
     let long = at_none c.in_ok-pack.field-0 c.in-None.is c.in_ok-pack.ensures.none in
-    let long_node : 8192 < pack_len (insert (node_list m (node_at q.nodes k)) j x) = subst (λ (xs : List (List ℕ)). 8192 < pack_len (insert xs j x)) (sym (list_at m q.nodes k node c.bytes.result.now is c.bytes.ensures)) long in
+    let long_node : 8192 < pack_len (insert (node_list m (node_at q.nodes k)) j x) =
+    subst (λ (xs : List (List ℕ)). 8192 < pack_len (insert xs j x)) (sym (list_at m q.nodes k node c.bytes.result.now is c.bytes.ensures)) long in
     overfull_insert m q c.args.index k j c.in-Some.len x _ c.requires.quick gap long_node c.requires.index more (at_front m q c.args.index k j x c.requires.quick gap c.if-j-eq0.true)
 
 pub place_alone-requires-in-None-2-clause-overfull : goal.place_alone-requires-in-None-2-clause-overfull
@@ -155,8 +170,10 @@ place_alone-requires-in-None-2-clause-overfull g c =
     let is = node_is q.nodes k node gap.inside (c.index-node.ensures ∙ ap (λ v. get_or v.nodes k node) c.self.view_is) in
     let more : c.in-Some.len ≡ q.len + 1 = omega (arith, c.in-Some.ensures.1, ap (λ v. v.len) c.self.view_is) in
     let long = at_none c.in_ok-pack.field-0 c.in-None.is c.in_ok-pack.ensures.none in
-    let long_node : 8192 < pack_len (insert (node_list m (node_at q.nodes k)) j x) = subst (λ (xs : List (List ℕ)). 8192 < pack_len (insert xs j x)) (sym (list_at m q.nodes k node c.bytes.result.now is c.bytes.ensures)) long in
-    overfull_insert m q c.args.index k j c.in-Some.len x _ c.requires.quick gap long_node c.requires.index more (at_back m q c.args.index k j x c.requires.quick gap (c.if-j-node.true ∙ ap (λ n. n.count) is))
+    let long_node : 8192 < pack_len (insert (node_list m (node_at q.nodes k)) j x) =
+    subst (λ (xs : List (List ℕ)). 8192 < pack_len (insert xs j x)) (sym (list_at m q.nodes k node c.bytes.result.now is c.bytes.ensures)) long in
+    overfull_insert m q c.args.index k j c.in-Some.len x _ c.requires.quick gap long_node c.requires.index more
+    (at_back m q c.args.index k j x c.requires.quick gap (c.if-j-node.true ∙ ap (λ n. n.count) is))
 
 pub split-requires-clause-overfull : goal.split-requires-clause-overfull
 split-requires-clause-overfull g c =
@@ -170,7 +187,8 @@ split-requires-clause-overfull g c =
     let is = node_is q.nodes k node gap.inside (c.index-node.ensures ∙ ap (λ v. get_or v.nodes k node) c.self.view_is) in
     let more : c.in-Some.len ≡ q.len + 1 = omega (arith, c.in-Some.ensures.1, ap (λ v. v.len) c.self.view_is) in
     let long = at_none c.in_ok-pack.field-0 c.in-None.is c.in_ok-pack.ensures.none in
-    let long_node : 8192 < pack_len (insert (node_list m (node_at q.nodes k)) j x) = subst (λ (xs : List (List ℕ)). 8192 < pack_len (insert xs j x)) (sym (list_at m q.nodes k node c.bytes.result.now is c.bytes.ensures)) long in
+    let long_node : 8192 < pack_len (insert (node_list m (node_at q.nodes k)) j x) =
+    subst (λ (xs : List (List ℕ)). 8192 < pack_len (insert xs j x)) (sym (list_at m q.nodes k node c.bytes.result.now is c.bytes.ensures)) long in
     overfull_insert m q c.args.index k j c.in-Some.len x _ c.requires.quick gap long_node c.requires.index more (insert_node_is m q c.args.index k j x c.requires.quick gap)
 
 pub returns-in-None-clause-written : goal.returns-in-None-clause-written
@@ -183,7 +201,8 @@ returns-in-None-clause-written g c =
     let node = c.index-node.result.now in
     let gap = c.gap-k.ensures in
     let is = node_is q.nodes k node gap.inside (c.index-node.ensures ∙ ap (λ v. get_or v.nodes k node) c.self.view_is) in
-    subst (λ xs. OnOk c.place_alone.result (IsWritten m (g.B.BlockStore.blocks c.place_alone.new.store) q c.place_alone.new.self xs)) (at_front m q c.args.index k j x c.requires.quick gap c.if-j-eq0.true) c.place_alone.ensures.written
+    subst (λ xs. OnOk c.place_alone.result (IsWritten m (g.B.BlockStore.blocks c.place_alone.new.store) q c.place_alone.new.self xs))
+    (at_front m q c.args.index k j x c.requires.quick gap c.if-j-eq0.true) c.place_alone.ensures.written
 
 pub returns-in-None-2-clause-written : goal.returns-in-None-2-clause-written
 returns-in-None-2-clause-written g c =
@@ -195,7 +214,8 @@ returns-in-None-2-clause-written g c =
     let node = c.index-node.result.now in
     let gap = c.gap-k.ensures in
     let is = node_is q.nodes k node gap.inside (c.index-node.ensures ∙ ap (λ v. get_or v.nodes k node) c.self.view_is) in
-    subst (λ xs. OnOk c.place_alone-in-None-2.result (IsWritten m (g.B.BlockStore.blocks c.place_alone-in-None-2.new.store) q c.place_alone-in-None-2.new.self xs)) (at_back m q c.args.index k j x c.requires.quick gap (c.if-j-node.true ∙ ap (λ n. n.count) is)) c.place_alone-in-None-2.ensures.written
+    subst (λ xs. OnOk c.place_alone-in-None-2.result (IsWritten m (g.B.BlockStore.blocks c.place_alone-in-None-2.new.store) q c.place_alone-in-None-2.new.self xs))
+    (at_back m q c.args.index k j x c.requires.quick gap (c.if-j-node.true ∙ ap (λ n. n.count) is)) c.place_alone-in-None-2.ensures.written
 
 pub returns-in-None-3-clause-written : goal.returns-in-None-3-clause-written
 returns-in-None-3-clause-written g c =

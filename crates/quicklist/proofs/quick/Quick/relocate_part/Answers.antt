@@ -20,7 +20,8 @@ returns-clause-passed g c =
       | then-end-count w ↦
           let far = w.if-end-count.true in
           subst (λ (a : Moved). IsPassed heap (refs_of old) (refs_of new) c.args.from c.args.room a) (sym w.result-is)
-          (passed_by heap m n old new c.args.from c.args.room end (end - c.args.from) (Some end) done.settled done.calm refl (omega arith) (omega arith) refl (omega arith, omega arith, omega (arith, count, far)))
+          (passed_by heap m n old new c.args.from c.args.room end (end - c.args.from) (Some end) done.settled done.calm refl (omega arith) (omega arith) refl
+          (omega arith, omega arith, omega (arith, count, far)))
       | else-end-count w ↦
           let all = w.if-end-count.false in
           subst (λ (a : Moved). IsPassed heap (refs_of old) (refs_of new) c.args.from c.args.room a) (sym w.result-is)

@@ -54,7 +54,8 @@ rewrite-requires-clause-count g c =
     let node = c.index-node.result.now in
     let place = subst (λ (v : Chain). IsPlace v.nodes c.args.index k j) c.self.view_is c.find-k.ensures in
     let is = node_is q.nodes k node place.inside (c.index-node.ensures ∙ ap (λ v. get_or v.nodes k node) c.self.view_is) in
-    let facts = removed_list m q c.args.index k j node c.bytes.result.now (texts c.deref.result.now) s place is c.bytes.ensures c.if-node-eq1.false (ap texts c.deref.ensures.value ∙ c.in_ok-pack.ensures.list) in
+    let facts = removed_list m q c.args.index k j node c.bytes.result.now (texts c.deref.result.now) s place is c.bytes.ensures c.if-node-eq1.false
+    (ap texts c.deref.ensures.value ∙ c.in_ok-pack.ensures.list) in
     omega (arith, facts.1)
 
 pub rewrite-requires-clause-len : goal.rewrite-requires-clause-len
@@ -67,7 +68,8 @@ rewrite-requires-clause-len g c =
     let node = c.index-node.result.now in
     let place = subst (λ (v : Chain). IsPlace v.nodes c.args.index k j) c.self.view_is c.find-k.ensures in
     let is = node_is q.nodes k node place.inside (c.index-node.ensures ∙ ap (λ v. get_or v.nodes k node) c.self.view_is) in
-    let facts = removed_list m q c.args.index k j node c.bytes.result.now (texts c.deref.result.now) s place is c.bytes.ensures c.if-node-eq1.false (ap texts c.deref.ensures.value ∙ c.in_ok-pack.ensures.list) in
+    let facts = removed_list m q c.args.index k j node c.bytes.result.now (texts c.deref.result.now) s place is c.bytes.ensures c.if-node-eq1.false
+    (ap texts c.deref.ensures.value ∙ c.in_ok-pack.ensures.list) in
     omega (arith, ap (λ v. v.len) c.self.view_is, s.counted, ap length facts.0, length-remove (elements m q) c.args.index c.requires.index)
 
 pub returns-clause-changed : goal.returns-clause-changed
@@ -80,6 +82,8 @@ returns-clause-changed g c =
     let node = c.index-node.result.now in
     let place = subst (λ (v : Chain). IsPlace v.nodes c.args.index k j) c.self.view_is c.find-k.ensures in
     let is = node_is q.nodes k node place.inside (c.index-node.ensures ∙ ap (λ v. get_or v.nodes k node) c.self.view_is) in
-    let facts = removed_list m q c.args.index k j node c.bytes.result.now (texts c.deref.result.now) s place is c.bytes.ensures c.if-node-eq1.false (ap texts c.deref.ensures.value ∙ c.in_ok-pack.ensures.list) in
+    let facts = removed_list m q c.args.index k j node c.bytes.result.now (texts c.deref.result.now) s place is c.bytes.ensures c.if-node-eq1.false
+    (ap texts c.deref.ensures.value ∙ c.in_ok-pack.ensures.list) in
     on_ok c.rewrite.result
-    (λ w. subst (λ xs. IsChanged m (g.B.BlockStore.blocks c.rewrite.new.store) q c.rewrite.new.self xs) facts.0 (changed_from m (g.B.BlockStore.blocks c.rewrite.new.store) q c.rewrite.new.self _ w)) c.rewrite.ensures.written
+    (λ w. subst (λ xs. IsChanged m (g.B.BlockStore.blocks c.rewrite.new.store) q c.rewrite.new.self xs) facts.0
+    (changed_from m (g.B.BlockStore.blocks c.rewrite.new.store) q c.rewrite.new.self _ w)) c.rewrite.ensures.written

@@ -36,7 +36,8 @@ place_two-requires-clause-len g c =
     let tail = c.index-2.result.now in
     let is_head = node_is q.nodes first head inside (c.index.ensures ∙ ap (λ v. get_or v.nodes first head) c.self.view_is) in
     let is_tail = node_is q.nodes last tail c.requires.inside (c.index-2.ensures ∙ ap (λ v. get_or v.nodes last tail) c.self.view_is) in
-    let whole = across_is m q first last c.args.i c.args.j (last + 1 - first) head tail c.bytes.result.now c.bytes-2.result.now (left_list c.in_ok-before.before) (left_list c.in_ok-behind.behind) s.chain.each inside (omega (arith, c.requires.order))
+    let whole = across_is m q first last c.args.i c.args.j (last + 1 - first) head tail c.bytes.result.now c.bytes-2.result.now (left_list c.in_ok-before.before)
+    (left_list c.in_ok-behind.behind) s.chain.each inside (omega (arith, c.requires.order))
     is_head is_tail c.bytes.ensures c.bytes-2.ensures refl c.in_ok-before.ensures.list c.in_ok-behind.ensures.list in
     let list = ap (λ xs. xs ++ left_list c.in_ok-behind.behind) (ap left_list c.in-Some-Some.is-0) ∙ ap (λ xs. texts c.in-Some-Some.a.items ++ xs) (ap left_list c.in-Some-Some.is-1) in
     let pieces = ap (λ xs. xs ++ piece_list c.packed_piece-behind_piece.result) (c.packed_piece.ensures.list ∙ ap texts c.deref-in-Some-Some.ensures.value)
@@ -56,7 +57,8 @@ returns-in-Some-Some-clause-changed g c =
     let tail = c.index-2.result.now in
     let is_head = node_is q.nodes first head inside (c.index.ensures ∙ ap (λ v. get_or v.nodes first head) c.self.view_is) in
     let is_tail = node_is q.nodes last tail c.requires.inside (c.index-2.ensures ∙ ap (λ v. get_or v.nodes last tail) c.self.view_is) in
-    let whole = across_is m q first last c.args.i c.args.j (last + 1 - first) head tail c.bytes.result.now c.bytes-2.result.now (left_list c.in_ok-before.before) (left_list c.in_ok-behind.behind) s.chain.each inside (omega (arith, c.requires.order))
+    let whole = across_is m q first last c.args.i c.args.j (last + 1 - first) head tail c.bytes.result.now c.bytes-2.result.now (left_list c.in_ok-before.before)
+    (left_list c.in_ok-behind.behind) s.chain.each inside (omega (arith, c.requires.order))
     is_head is_tail c.bytes.ensures c.bytes-2.ensures refl c.in_ok-before.ensures.list c.in_ok-behind.ensures.list in
     let list = ap (λ xs. xs ++ left_list c.in_ok-behind.behind) (ap left_list c.in-Some-Some.is-0) ∙ ap (λ xs. texts c.in-Some-Some.a.items ++ xs) (ap left_list c.in-Some-Some.is-1) in
     let pieces = ap (λ xs. xs ++ piece_list c.packed_piece-behind_piece.result) (c.packed_piece.ensures.list ∙ ap texts c.deref-in-Some-Some.ensures.value)
@@ -76,7 +78,8 @@ place_rest-requires-in-None-Some-clause-len g c =
     let tail = c.index-2.result.now in
     let is_head = node_is q.nodes first head inside (c.index.ensures ∙ ap (λ v. get_or v.nodes first head) c.self.view_is) in
     let is_tail = node_is q.nodes last tail c.requires.inside (c.index-2.ensures ∙ ap (λ v. get_or v.nodes last tail) c.self.view_is) in
-    let whole = across_is m q first last c.args.i c.args.j (last + 1 - first) head tail c.bytes.result.now c.bytes-2.result.now (left_list c.in_ok-before.before) (left_list c.in_ok-behind.behind) s.chain.each inside (omega (arith, c.requires.order))
+    let whole = across_is m q first last c.args.i c.args.j (last + 1 - first) head tail c.bytes.result.now c.bytes-2.result.now (left_list c.in_ok-before.before)
+    (left_list c.in_ok-behind.behind) s.chain.each inside (omega (arith, c.requires.order))
     is_head is_tail c.bytes.ensures c.bytes-2.ensures refl c.in_ok-before.ensures.list c.in_ok-behind.ensures.list in
     let list = ap (λ xs. xs ++ left_list c.in_ok-behind.behind) (ap left_list c.in-None-Some.is-0) ∙ ap left_list c.in-None-Some.is-1 in
     let all = ap (λ xs. respelled m q first xs (first + (last + 1 - first))) (sym list) ∙ whole in
@@ -94,8 +97,10 @@ returns-in-None-Some-clause-changed g c =
     let tail = c.index-2.result.now in
     let is_head = node_is q.nodes first head inside (c.index.ensures ∙ ap (λ v. get_or v.nodes first head) c.self.view_is) in
     let is_tail = node_is q.nodes last tail c.requires.inside (c.index-2.ensures ∙ ap (λ v. get_or v.nodes last tail) c.self.view_is) in
-    let whole = across_is m q first last c.args.i c.args.j (last + 1 - first) head tail c.bytes.result.now c.bytes-2.result.now (left_list c.in_ok-before.before) (left_list c.in_ok-behind.behind) s.chain.each inside (omega (arith, c.requires.order))
+    let whole = across_is m q first last c.args.i c.args.j (last + 1 - first) head tail c.bytes.result.now c.bytes-2.result.now (left_list c.in_ok-before.before)
+    (left_list c.in_ok-behind.behind) s.chain.each inside (omega (arith, c.requires.order))
     is_head is_tail c.bytes.ensures c.bytes-2.ensures refl c.in_ok-before.ensures.list c.in_ok-behind.ensures.list in
     let list = ap (λ xs. xs ++ left_list c.in_ok-behind.behind) (ap left_list c.in-None-Some.is-0) ∙ ap left_list c.in-None-Some.is-1 in
     let all = ap (λ xs. respelled m q first xs (first + (last + 1 - first))) (sym list) ∙ whole in
-    subst (λ xs. OnOk c.place_rest-in-None-Some.result (IsChanged m (g.B.BlockStore.blocks c.place_rest-in-None-Some.new.store) q c.place_rest-in-None-Some.new.self xs)) all c.place_rest-in-None-Some.ensures.changed
+    subst (λ xs. OnOk c.place_rest-in-None-Some.result (IsChanged m (g.B.BlockStore.blocks c.place_rest-in-None-Some.new.store) q c.place_rest-in-None-Some.new.self xs)) all
+    c.place_rest-in-None-Some.ensures.changed

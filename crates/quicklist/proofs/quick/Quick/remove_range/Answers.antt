@@ -34,7 +34,8 @@ remove_across-requires-clause-len g c =
     let one = subst (λ (v : Chain). IsPlace v.nodes c.args.from c.find-first.result.0 c.find-first.result.1) c.self.view_is c.find-first.ensures in
     let two = subst (λ (v : Chain). IsPlace v.nodes (c.args.to - 1) c.find-last.result.0 c.find-last.result.1) c.self.view_is c.find-last.ensures in
     let more : c.args.to - 1 + 1 ≡ c.args.to = omega (arith, c.if-from-to.false, c.requires.order) in
-    let range = range_is m q c.args.from (c.args.to - 1) c.find-first.result.0 c.find-first.result.1 c.find-last.result.0 c.find-last.result.1 s one two ∙ ap (λ k. remove_range (elements m q) c.args.from k) more in
+    let range = range_is m q c.args.from (c.args.to - 1) c.find-first.result.0 c.find-first.result.1 c.find-last.result.0 c.find-last.result.1 s one two
+    ∙ ap (λ k. remove_range (elements m q) c.args.from k) more in
     omega (arith, ap (λ v. v.len) c.self.view_is, s.counted, ap length range, range_len (elements m q) c.args.from c.args.to c.requires.order c.requires.inside)
 
 pub returns-then-first-last-clause-changed : goal.returns-then-first-last-clause-changed
@@ -45,7 +46,8 @@ returns-then-first-last-clause-changed g c =
     let one = subst (λ (v : Chain). IsPlace v.nodes c.args.from c.find-first.result.0 c.find-first.result.1) c.self.view_is c.find-first.ensures in
     let two = subst (λ (v : Chain). IsPlace v.nodes (c.args.to - 1) c.find-last.result.0 c.find-last.result.1) c.self.view_is c.find-last.ensures in
     let more : c.args.to - 1 + 1 ≡ c.args.to = omega (arith, c.if-from-to.false, c.requires.order) in
-    let range = range_is m q c.args.from (c.args.to - 1) c.find-first.result.0 c.find-first.result.1 c.find-last.result.0 c.find-last.result.1 s one two ∙ ap (λ k. remove_range (elements m q) c.args.from k) more in
+    let range = range_is m q c.args.from (c.args.to - 1) c.find-first.result.0 c.find-first.result.1 c.find-last.result.0 c.find-last.result.1 s one two
+    ∙ ap (λ k. remove_range (elements m q) c.args.from k) more in
     subst (λ xs. OnOk c.remove_across.result (IsChanged m (g.B.BlockStore.blocks c.remove_across.new.store) q c.remove_across.new.self xs)) range c.remove_across.ensures.changed
 
 pub bytes-requires : goal.bytes-requires
@@ -120,7 +122,8 @@ rest_of-requires-clause-order g c =
     let one = subst (λ (v : Chain). IsPlace v.nodes c.args.from c.find-first.result.0 c.find-first.result.1) c.self.view_is c.find-first.ensures in
     let two = subst (λ (v : Chain). IsPlace v.nodes (c.args.to - 1) c.find-last.result.0 c.find-last.result.1) c.self.view_is c.find-last.ensures in
     let more : c.args.to - 1 + 1 ≡ c.args.to = omega (arith, c.if-from-to.false, c.requires.order) in
-    let range = range_is m q c.args.from (c.args.to - 1) c.find-first.result.0 c.find-first.result.1 c.find-last.result.0 c.find-last.result.1 s one two ∙ ap (λ k. remove_range (elements m q) c.args.from k) more in
+    let range = range_is m q c.args.from (c.args.to - 1) c.find-first.result.0 c.find-first.result.1 c.find-last.result.0 c.find-last.result.1 s one two
+    ∙ ap (λ k. remove_range (elements m q) c.args.from k) more in
     let k = c.find-first.result.0 in
     let node = c.index-node.result.now in
     let is = node_is q.nodes k node one.inside (c.index-node.ensures ∙ ap (λ v. get_or v.nodes k node) c.self.view_is) in
@@ -141,7 +144,8 @@ rest_of-requires-clause-inside g c =
     let one = subst (λ (v : Chain). IsPlace v.nodes c.args.from c.find-first.result.0 c.find-first.result.1) c.self.view_is c.find-first.ensures in
     let two = subst (λ (v : Chain). IsPlace v.nodes (c.args.to - 1) c.find-last.result.0 c.find-last.result.1) c.self.view_is c.find-last.ensures in
     let more : c.args.to - 1 + 1 ≡ c.args.to = omega (arith, c.if-from-to.false, c.requires.order) in
-    let range = range_is m q c.args.from (c.args.to - 1) c.find-first.result.0 c.find-first.result.1 c.find-last.result.0 c.find-last.result.1 s one two ∙ ap (λ k. remove_range (elements m q) c.args.from k) more in
+    let range = range_is m q c.args.from (c.args.to - 1) c.find-first.result.0 c.find-first.result.1 c.find-last.result.0 c.find-last.result.1 s one two
+    ∙ ap (λ k. remove_range (elements m q) c.args.from k) more in
     let k = c.find-first.result.0 in
     let node = c.index-node.result.now in
     let is = node_is q.nodes k node one.inside (c.index-node.ensures ∙ ap (λ v. get_or v.nodes k node) c.self.view_is) in
@@ -165,7 +169,8 @@ overflow_sub-j g c =
     let one = subst (λ (v : Chain). IsPlace v.nodes c.args.from c.find-first.result.0 c.find-first.result.1) c.self.view_is c.find-first.ensures in
     let two = subst (λ (v : Chain). IsPlace v.nodes (c.args.to - 1) c.find-last.result.0 c.find-last.result.1) c.self.view_is c.find-last.ensures in
     let more : c.args.to - 1 + 1 ≡ c.args.to = omega (arith, c.if-from-to.false, c.requires.order) in
-    let range = range_is m q c.args.from (c.args.to - 1) c.find-first.result.0 c.find-first.result.1 c.find-last.result.0 c.find-last.result.1 s one two ∙ ap (λ k. remove_range (elements m q) c.args.from k) more in
+    let range = range_is m q c.args.from (c.args.to - 1) c.find-first.result.0 c.find-first.result.1 c.find-last.result.0 c.find-last.result.1 s one two
+    ∙ ap (λ k. remove_range (elements m q) c.args.from k) more in
     let k = c.find-first.result.0 in
     let node = c.index-node.result.now in
     let is = node_is q.nodes k node one.inside (c.index-node.ensures ∙ ap (λ v. get_or v.nodes k node) c.self.view_is) in
@@ -186,7 +191,8 @@ overflow_sub-count g c =
     let one = subst (λ (v : Chain). IsPlace v.nodes c.args.from c.find-first.result.0 c.find-first.result.1) c.self.view_is c.find-first.ensures in
     let two = subst (λ (v : Chain). IsPlace v.nodes (c.args.to - 1) c.find-last.result.0 c.find-last.result.1) c.self.view_is c.find-last.ensures in
     let more : c.args.to - 1 + 1 ≡ c.args.to = omega (arith, c.if-from-to.false, c.requires.order) in
-    let range = range_is m q c.args.from (c.args.to - 1) c.find-first.result.0 c.find-first.result.1 c.find-last.result.0 c.find-last.result.1 s one two ∙ ap (λ k. remove_range (elements m q) c.args.from k) more in
+    let range = range_is m q c.args.from (c.args.to - 1) c.find-first.result.0 c.find-first.result.1 c.find-last.result.0 c.find-last.result.1 s one two
+    ∙ ap (λ k. remove_range (elements m q) c.args.from k) more in
     let k = c.find-first.result.0 in
     let node = c.index-node.result.now in
     let is = node_is q.nodes k node one.inside (c.index-node.ensures ∙ ap (λ v. get_or v.nodes k node) c.self.view_is) in
@@ -207,7 +213,8 @@ place_rest-requires-clause-len g c =
     let one = subst (λ (v : Chain). IsPlace v.nodes c.args.from c.find-first.result.0 c.find-first.result.1) c.self.view_is c.find-first.ensures in
     let two = subst (λ (v : Chain). IsPlace v.nodes (c.args.to - 1) c.find-last.result.0 c.find-last.result.1) c.self.view_is c.find-last.ensures in
     let more : c.args.to - 1 + 1 ≡ c.args.to = omega (arith, c.if-from-to.false, c.requires.order) in
-    let range = range_is m q c.args.from (c.args.to - 1) c.find-first.result.0 c.find-first.result.1 c.find-last.result.0 c.find-last.result.1 s one two ∙ ap (λ k. remove_range (elements m q) c.args.from k) more in
+    let range = range_is m q c.args.from (c.args.to - 1) c.find-first.result.0 c.find-first.result.1 c.find-last.result.0 c.find-last.result.1 s one two
+    ∙ ap (λ k. remove_range (elements m q) c.args.from k) more in
     let k = c.find-first.result.0 in
     let node = c.index-node.result.now in
     let is = node_is q.nodes k node one.inside (c.index-node.ensures ∙ ap (λ v. get_or v.nodes k node) c.self.view_is) in
@@ -233,7 +240,8 @@ returns-clause-changed g c =
     let one = subst (λ (v : Chain). IsPlace v.nodes c.args.from c.find-first.result.0 c.find-first.result.1) c.self.view_is c.find-first.ensures in
     let two = subst (λ (v : Chain). IsPlace v.nodes (c.args.to - 1) c.find-last.result.0 c.find-last.result.1) c.self.view_is c.find-last.ensures in
     let more : c.args.to - 1 + 1 ≡ c.args.to = omega (arith, c.if-from-to.false, c.requires.order) in
-    let range = range_is m q c.args.from (c.args.to - 1) c.find-first.result.0 c.find-first.result.1 c.find-last.result.0 c.find-last.result.1 s one two ∙ ap (λ k. remove_range (elements m q) c.args.from k) more in
+    let range = range_is m q c.args.from (c.args.to - 1) c.find-first.result.0 c.find-first.result.1 c.find-last.result.0 c.find-last.result.1 s one two
+    ∙ ap (λ k. remove_range (elements m q) c.args.from k) more in
     let k = c.find-first.result.0 in
     let node = c.index-node.result.now in
     let is = node_is q.nodes k node one.inside (c.index-node.ensures ∙ ap (λ v. get_or v.nodes k node) c.self.view_is) in

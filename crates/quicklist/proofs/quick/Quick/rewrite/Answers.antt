@@ -14,7 +14,8 @@ use Rattle.quicklist.proofs.quick.Quick.rewrite.Goals as goal
 pub has_room-requires : goal.has_room-requires
 has_room-requires g c =
     let node = c.index-node.result.now in
-    node_read (g.B.BlockStore.blocks c.args.store.now) c.args.self.now.nodes c.args.k node c.requires.inside (c.index-node.ensures ∙ ap (λ v. get_or v.nodes c.args.k node) c.self.view_is) c.requires.quick.chain
+    node_read (g.B.BlockStore.blocks c.args.store.now) c.args.self.now.nodes c.args.k node c.requires.inside (c.index-node.ensures ∙ ap (λ v. get_or v.nodes c.args.k node) c.self.view_is)
+    c.requires.quick.chain
 
 pub overwrite-requires-clause-room : goal.overwrite-requires-clause-room
 overwrite-requires-clause-room g c =

@@ -34,7 +34,9 @@ rewrite-requires-clause-len g c =
     let place = subst (λ (v : Chain). IsPlace v.nodes c.args.index k j) c.self.view_is c.find-k.ensures in
     let is = node_is q.nodes k node place.inside (c.index-node.ensures ∙ ap (λ v. get_or v.nodes k node) c.self.view_is) in
     let x = c.args.element.now in
-    let list = (at_some (λ (v : Vec ℕ). IsPacked v.items × (texts v.items ≡ set (held node.container c.bytes.result.now) j x)) c.in_ok-pack.field-0 c.in-Some.pack c.in-Some.is c.in_ok-pack.ensures.some).1 in
+    let list =
+    (at_some (λ (v : Vec ℕ). IsPacked v.items × (texts v.items ≡ set (held node.container c.bytes.result.now) j x)) c.in_ok-pack.field-0 c.in-Some.pack c.in-Some.is
+    c.in_ok-pack.ensures.some).1 in
     let whole = replaced_list m q c.args.index k j x node c.bytes.result.now (texts c.deref.result.now) s place is c.bytes.ensures (ap texts c.deref.ensures.value ∙ list) in
     omega (arith, ap (λ v. v.len) c.self.view_is, s.counted, ap length whole, length-set (elements m q) c.args.index x)
 
@@ -49,7 +51,9 @@ returns-in-Some-clause-written g c =
     let place = subst (λ (v : Chain). IsPlace v.nodes c.args.index k j) c.self.view_is c.find-k.ensures in
     let is = node_is q.nodes k node place.inside (c.index-node.ensures ∙ ap (λ v. get_or v.nodes k node) c.self.view_is) in
     let x = c.args.element.now in
-    let list = (at_some (λ (v : Vec ℕ). IsPacked v.items × (texts v.items ≡ set (held node.container c.bytes.result.now) j x)) c.in_ok-pack.field-0 c.in-Some.pack c.in-Some.is c.in_ok-pack.ensures.some).1 in
+    let list =
+    (at_some (λ (v : Vec ℕ). IsPacked v.items × (texts v.items ≡ set (held node.container c.bytes.result.now) j x)) c.in_ok-pack.field-0 c.in-Some.pack c.in-Some.is
+    c.in_ok-pack.ensures.some).1 in
     let whole = replaced_list m q c.args.index k j x node c.bytes.result.now (texts c.deref.result.now) s place is c.bytes.ensures (ap texts c.deref.ensures.value ∙ list) in
     subst (λ xs. OnOk c.rewrite.result (IsWritten m (g.B.BlockStore.blocks c.rewrite.new.store) q c.rewrite.new.self xs)) whole c.rewrite.ensures.written
 
@@ -65,7 +69,8 @@ place_alone-requires-clause-overfull g c =
     let is = node_is q.nodes k node place.inside (c.index-node.ensures ∙ ap (λ v. get_or v.nodes k node) c.self.view_is) in
     let x = c.args.element.now in
     let long = at_none c.in_ok-pack.field-0 c.in-None.is c.in_ok-pack.ensures.none in
-    let long_node : 8192 < pack_len (set (node_list m (node_at q.nodes k)) j x) = subst (λ (xs : List (List ℕ)). 8192 < pack_len (set xs j x)) (sym (list_at m q.nodes k node c.bytes.result.now is c.bytes.ensures)) long in
+    let long_node : 8192 < pack_len (set (node_list m (node_at q.nodes k)) j x) =
+    subst (λ (xs : List (List ℕ)). 8192 < pack_len (set xs j x)) (sym (list_at m q.nodes k node c.bytes.result.now is c.bytes.ensures)) long in
     let len = ap (λ v. v.len) c.self.view_is in
     overfull_set m q c.args.index k j c.self.inside.len x _ s place long_node len (set_alone m q c.args.index k j x s place (sym (ap (λ n. n.count) is) ∙ c.if-node-eq1.true))
 
@@ -81,9 +86,11 @@ split-requires-clause-overfull g c =
     let is = node_is q.nodes k node place.inside (c.index-node.ensures ∙ ap (λ v. get_or v.nodes k node) c.self.view_is) in
     let x = c.args.element.now in
     let long = at_none c.in_ok-pack.field-0 c.in-None.is c.in_ok-pack.ensures.none in
-    let long_node : 8192 < pack_len (set (node_list m (node_at q.nodes k)) j x) = subst (λ (xs : List (List ℕ)). 8192 < pack_len (set xs j x)) (sym (list_at m q.nodes k node c.bytes.result.now is c.bytes.ensures)) long in
+    let long_node : 8192 < pack_len (set (node_list m (node_at q.nodes k)) j x) =
+    subst (λ (xs : List (List ℕ)). 8192 < pack_len (set xs j x)) (sym (list_at m q.nodes k node c.bytes.result.now is c.bytes.ensures)) long in
     let len = ap (λ v. v.len) c.self.view_is in
-    overfull_set m q c.args.index k j c.self.inside.len x _ s place long_node len (ap (λ xs. respelled m q k xs (k + 1)) (around_set (node_list m (node_at q.nodes k)) j x (place_room m q c.args.index k j s place).0) ∙ set_node_is m q c.args.index k j x s place)
+    overfull_set m q c.args.index k j c.self.inside.len x _ s place long_node len
+    (ap (λ xs. respelled m q k xs (k + 1)) (around_set (node_list m (node_at q.nodes k)) j x (place_room m q c.args.index k j s place).0) ∙ set_node_is m q c.args.index k j x s place)
 
 pub returns-in-None-clause-written : goal.returns-in-None-clause-written
 returns-in-None-clause-written g c =
@@ -96,7 +103,8 @@ returns-in-None-clause-written g c =
     let place = subst (λ (v : Chain). IsPlace v.nodes c.args.index k j) c.self.view_is c.find-k.ensures in
     let is = node_is q.nodes k node place.inside (c.index-node.ensures ∙ ap (λ v. get_or v.nodes k node) c.self.view_is) in
     let x = c.args.element.now in
-    subst (λ xs. OnOk c.place_alone.result (IsWritten m (g.B.BlockStore.blocks c.place_alone.new.store) q c.place_alone.new.self xs)) (set_alone m q c.args.index k j x s place (sym (ap (λ n. n.count) is) ∙ c.if-node-eq1.true)) c.place_alone.ensures.written
+    subst (λ xs. OnOk c.place_alone.result (IsWritten m (g.B.BlockStore.blocks c.place_alone.new.store) q c.place_alone.new.self xs))
+    (set_alone m q c.args.index k j x s place (sym (ap (λ n. n.count) is) ∙ c.if-node-eq1.true)) c.place_alone.ensures.written
 
 pub returns-in-None-2-clause-written : goal.returns-in-None-2-clause-written
 returns-in-None-2-clause-written g c =
@@ -109,4 +117,6 @@ returns-in-None-2-clause-written g c =
     let place = subst (λ (v : Chain). IsPlace v.nodes c.args.index k j) c.self.view_is c.find-k.ensures in
     let is = node_is q.nodes k node place.inside (c.index-node.ensures ∙ ap (λ v. get_or v.nodes k node) c.self.view_is) in
     let x = c.args.element.now in
-    subst (λ xs. OnOk c.split.result (IsWritten m (g.B.BlockStore.blocks c.split.new.store) q c.split.new.self xs)) (ap (λ xs. respelled m q k xs (k + 1)) (around_set (node_list m (node_at q.nodes k)) j x (place_room m q c.args.index k j s place).0) ∙ set_node_is m q c.args.index k j x s place) c.split.ensures.written
+    subst (λ xs. OnOk c.split.result (IsWritten m (g.B.BlockStore.blocks c.split.new.store) q c.split.new.self xs))
+    (ap (λ xs. respelled m q k xs (k + 1)) (around_set (node_list m (node_at q.nodes k)) j x (place_room m q c.args.index k j s place).0) ∙ set_node_is m q c.args.index k j x s place)
+    c.split.ensures.written

@@ -26,7 +26,9 @@ returns-in_ok-exchange-in-Some-clause-taken g c =
     behind_all m q (texts c.args.bytes.now) k all ∙ ap (λ (xs : List (List ℕ)). respelled m q k xs (k + 0)) (sym (append-nil (texts c.args.bytes.now))) in
     let formed = subst (IsFormed form) (containers_behind cs (Packed ∷ []) k (all ∙ sym (length-map q.nodes container_of))) c.in-Some.ensures.formed in
     let risen = subst (λ (f : Form). IsRisen q.form list f) (sym c.in_ok-exchange-in-Some.ensures.form) c.in-Some.ensures.risen in
-    λ done. written_by m n q new list risen (changed_by m n q new list k (k + 0) c.args.len form _ is c.requires.len formed c.in_ok-exchange-in-Some.ensures.ok c.in_ok-exchange-in-Some.ensures.len c.in_ok-exchange-in-Some.ensures.form)
+    λ done. written_by m n q new list risen
+    (changed_by m n q new list k (k + 0) c.args.len form _ is c.requires.len formed c.in_ok-exchange-in-Some.ensures.ok c.in_ok-exchange-in-Some.ensures.len
+    c.in_ok-exchange-in-Some.ensures.form)
 
 pub returns-in-None-clause-served : goal.returns-in-None-clause-served
 returns-in-None-clause-served g c = no_step

@@ -25,19 +25,22 @@ bytes-bytes-requires g c =
 pub left_of-requires-clause-held : goal.left_of-requires-clause-held
 left_of-requires-clause-held g c =
     let n : c.len-k-end.result ≡ length c.args.nodes.now.items = search rules in
-    held_there (g.B.BlockStore.blocks c.args.store.now) (g.B.BlockStore.blocks c.loop-k.store) c.args.nodes.now.items c.loop-k.self.placed.items c.loop-k.k c.index-node.result.now c.bytes-bytes.result.now
+    held_there (g.B.BlockStore.blocks c.args.store.now) (g.B.BlockStore.blocks c.loop-k.store) c.args.nodes.now.items c.loop-k.self.placed.items c.loop-k.k c.index-node.result.now
+    c.bytes-bytes.result.now
     c.requires.chain (omega (arith, n)) c.index-node.ensures c.loop-k.invariant.rebuilt.changes c.bytes-bytes.ensures
 
 pub left_of-requires-clause-counted : goal.left_of-requires-clause-counted
 left_of-requires-clause-counted g c =
     let n : c.len-k-end.result ≡ length c.args.nodes.now.items = search rules in
-    count_there (g.B.BlockStore.blocks c.args.store.now) (g.B.BlockStore.blocks c.loop-k.store) c.args.nodes.now.items c.loop-k.self.placed.items c.loop-k.k c.index-node.result.now c.bytes-bytes.result.now
+    count_there (g.B.BlockStore.blocks c.args.store.now) (g.B.BlockStore.blocks c.loop-k.store) c.args.nodes.now.items c.loop-k.self.placed.items c.loop-k.k c.index-node.result.now
+    c.bytes-bytes.result.now
     c.requires.chain (omega (arith, n)) c.index-node.ensures c.loop-k.invariant.rebuilt.changes c.bytes-bytes.ensures
 
 pub left_of-requires-clause-small : goal.left_of-requires-clause-small
 left_of-requires-clause-small g c =
     let n : c.len-k-end.result ≡ length c.args.nodes.now.items = search rules in
-    let most = start_small (g.B.BlockStore.blocks c.args.store.now) (g.B.BlockStore.blocks c.loop-k.store) c.args.nodes.now.items c.loop-k.self.placed.items c.loop-k.k c.index-node.result.now c.bytes-bytes.result.now
+    let most = start_small (g.B.BlockStore.blocks c.args.store.now) (g.B.BlockStore.blocks c.loop-k.store) c.args.nodes.now.items c.loop-k.self.placed.items c.loop-k.k
+    c.index-node.result.now c.bytes-bytes.result.now
     c.requires.chain (omega (arith, n)) c.index-node.ensures c.loop-k.invariant.rebuilt.changes c.bytes-bytes.ensures c.loop-k.start c.loop-k.invariant.start in
     omega (arith, most, c.requires.small)
 
@@ -55,7 +58,8 @@ returns-in_err-add-clause-served g c = Served-then _ _ _ c.loop-k.invariant.serv
 pub overflow_add-start : goal.overflow_add-start
 overflow_add-start g c =
     let n : c.len-k-end.result ≡ length c.args.nodes.now.items = search rules in
-    let most = start_small (g.B.BlockStore.blocks c.args.store.now) (g.B.BlockStore.blocks c.loop-k.store) c.args.nodes.now.items c.loop-k.self.placed.items c.loop-k.k c.index-node.result.now c.bytes-bytes.result.now
+    let most = start_small (g.B.BlockStore.blocks c.args.store.now) (g.B.BlockStore.blocks c.loop-k.store) c.args.nodes.now.items c.loop-k.self.placed.items c.loop-k.k
+    c.index-node.result.now c.bytes-bytes.result.now
     c.requires.chain (omega (arith, n)) c.index-node.ensures c.loop-k.invariant.rebuilt.changes c.bytes-bytes.ensures c.loop-k.start c.loop-k.invariant.start in
     omega (arith, most, c.requires.small)
 
@@ -73,7 +77,8 @@ loop-k-preserved g c =
     let long : c.len-k-end.result ≡ length nodes = search rules in
     let inside : k < length nodes = omega (arith, long, c.loop-k-test.true) in
     record {
-      rebuilt = rebuilt_next m mid nodes placed k node bytes c.requires.chain inside c.index-node.ensures inv.rebuilt.changes c.bytes-bytes.ensures n c.args.reach c.loop-k.start c.in_ok-left.left c.loop-k.self c.add.new.self
+      rebuilt = rebuilt_next m mid nodes placed k node bytes c.requires.chain inside c.index-node.ensures inv.rebuilt.changes c.bytes-bytes.ensures n c.args.reach c.loop-k.start
+          c.in_ok-left.left c.loop-k.self c.add.new.self
           inv.start inv.rebuilt c.in_ok-left.ensures c.in_ok-add.ensures.added;
       room = room_more mid n node c.in_ok-left.left c.loop-k.self c.add.new.self k (length nodes) inv.room c.in_ok-add.ensures.added;
       start = start_next m mid nodes placed k node bytes c.requires.chain inside c.index-node.ensures inv.rebuilt.changes c.bytes-bytes.ensures c.loop-k.start inv.start;

@@ -11,5 +11,6 @@ pub returns-clause-sound : goal.returns-clause-sound
 returns-clause-sound g c =
     let b = g.B.BlockStore.blocks c.args.store.now in
     let after = g.B.BlockStore.blocks c.relocate_below-passed.new.store in
-    passed_sound b after (g.B.BlockStore.heap c.args.store.now) (g.B.BlockStore.heap c.relocate_below-passed.new.store) c.args.self.now _ c.in-Some.at c.relocate_below-passed.result.at c.args.key.now c.requires.sound c.in-Some.is
+    passed_sound b after (g.B.BlockStore.heap c.args.store.now) (g.B.BlockStore.heap c.relocate_below-passed.new.store) c.args.self.now _ c.in-Some.at c.relocate_below-passed.result.at
+    c.args.key.now c.requires.sound c.in-Some.is
     (rw c.told-key at c.relocate_below-passed.ensures.becomes) (rw c.told-key at c.relocate_below-passed.ensures.passed) refl refl refl

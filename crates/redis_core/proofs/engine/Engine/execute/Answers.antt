@@ -9,7 +9,8 @@ returns-then-self-clause-keeps g c =
     subst (Keeps g.B.BlockStore.blocks c.args.self.now) c.self.view_is (observed_keeps _ c.args.self.now _ _ (c.self.view_is ∙ c.observe.ensures) c.self.invariant.sound)
 
 pub returns-in-Ok-clause-executes : goal.returns-in-Ok-clause-executes
-returns-in-Ok-clause-executes g c = executes _ _ _ c.args.self.now _ c.args.moment c.args.request.now c.in-Ok.answered _ _ _ (c.self.view_is ∙ c.observe.ensures) c.if-self.false c.in-Ok.ensures.answers
+returns-in-Ok-clause-executes g c = executes _ _ _ c.args.self.now _ c.args.moment c.args.request.now c.in-Ok.answered _ _ _ (c.self.view_is ∙ c.observe.ensures) c.if-self.false
+    c.in-Ok.ensures.answers
 
 pub returns-then-self-clause-served : goal.returns-then-self-clause-served
 returns-then-self-clause-served g c asks = observed_served g.B.BlockStore.step c.args.self.now c.observe.new.self _ c.observe.ensures

@@ -18,7 +18,8 @@ returns-then-self-clause-served g c = observed_served g.B.BlockStore.step c.args
 pub returns-clause-loads : goal.returns-clause-loads
 returns-clause-loads g c alive =
     let new = c.load-loaded.new.keyspace in
-    loads_live c.self.inside.last (g.H.Host.seen c.args.host.now).files c.args.name.now c.args.limit (means 0 new.bases (g.B.BlockStore.blocks new.store)) c.load-loaded.result c.load-loaded.ensures.loads
+    loads_live c.self.inside.last (g.H.Host.seen c.args.host.now).files c.args.name.now c.args.limit (means 0 new.bases (g.B.BlockStore.blocks new.store)) c.load-loaded.result
+    c.load-loaded.ensures.loads
 
 pub returns-then-self-clause-within : goal.returns-then-self-clause-within
 returns-then-self-clause-within g c =
@@ -30,4 +31,5 @@ returns-then-self-clause-within g c =
 pub returns-clause-none : goal.returns-clause-none
 returns-clause-none g c alive =
     let new = c.load-loaded.new.keyspace in
-    loads_none (g.H.Host.seen c.args.host.now).files c.args.name.now c.args.limit c.self.inside.last (means 0 new.bases (g.B.BlockStore.blocks new.store)) c.load-loaded.result c.load-loaded.ensures.loads
+    loads_none (g.H.Host.seen c.args.host.now).files c.args.name.now c.args.limit c.self.inside.last (means 0 new.bases (g.B.BlockStore.blocks new.store)) c.load-loaded.result
+    c.load-loaded.ensures.loads

@@ -9,4 +9,6 @@ bytes-requires g c =
 
 pub returns-then-entry-hash : goal.returns-then-entry-hash
 returns-then-entry-hash g c =
-    key_answer (g.B.BlockStore.blocks c.args.store.now) c.args.self.now c.args.at c.args.hash c.args.key.now c.bytes.result.now _ c.same_bytes.result (ap (λ t. item t c.args.at) (sym c.self.view_is) ∙ sym c.in-Some.ensures) (ap (g.B.BlockStore.blocks c.args.store.now) (sym c.key.ensures) ∙ c.bytes.ensures) c.same_bytes.ensures.0 c.same_bytes.ensures.1
+    key_answer (g.B.BlockStore.blocks c.args.store.now) c.args.self.now c.args.at c.args.hash c.args.key.now c.bytes.result.now _ c.same_bytes.result
+    (ap (λ t. item t c.args.at) (sym c.self.view_is) ∙ sym c.in-Some.ensures) (ap (g.B.BlockStore.blocks c.args.store.now) (sym c.key.ensures) ∙ c.bytes.ensures) c.same_bytes.ensures.0
+    c.same_bytes.ensures.1

@@ -6,28 +6,38 @@ use Rattle.rehash_dict.proofs.MapOf.{map_of-kept, map_of-lacks, content-takes, c
 use Rattle.rehash_dict.proofs.dict.Dict.remove_hashed.Goals as goal
 
 pub returns-in-Some-clause-tables : goal.returns-in-Some-clause-tables
-returns-in-Some-clause-tables g c = removed_tables (g.B.BlockStore.blocks c.args.store.now) c.args.self.now c.take.new.self c.in-Some.spot.at c.args.key.now _ _ c.requires.keyed c.in-Some.ensures.found.stands c.take.ensures
+returns-in-Some-clause-tables g c = removed_tables (g.B.BlockStore.blocks c.args.store.now) c.args.self.now c.take.new.self c.in-Some.spot.at c.args.key.now _ _ c.requires.keyed
+    c.in-Some.ensures.found.stands c.take.ensures
 
 pub returns-in-Some-search-clause-tables : goal.returns-in-Some-search-clause-tables
-returns-in-Some-search-clause-tables g c = removed_tables (g.B.BlockStore.blocks c.args.store.now) c.args.self.now c.take-in-Some-search.new.self c.in-Some-search.spot.at c.args.key.now _ _ c.requires.keyed c.in-Some-search.ensures.found.stands c.take-in-Some-search.ensures
+returns-in-Some-search-clause-tables g c = removed_tables (g.B.BlockStore.blocks c.args.store.now) c.args.self.now c.take-in-Some-search.new.self c.in-Some-search.spot.at c.args.key.now _
+    _ c.requires.keyed c.in-Some-search.ensures.found.stands c.take-in-Some-search.ensures
 
 pub returns-in-None-clause-none : goal.returns-in-None-clause-none
-returns-in-None-clause-none g c = (refl, lacks_both (g.B.BlockStore.blocks c.args.store.now) c.args.self.now c.args.hash c.args.key.now c.requires.keyed c.requires.hashed c.in_default.ensures.none c.in-None.ensures.none)
+returns-in-None-clause-none g c = (
+  refl,
+  lacks_both (g.B.BlockStore.blocks c.args.store.now) c.args.self.now c.args.hash c.args.key.now c.requires.keyed c.requires.hashed c.in_default.ensures.none
+      c.in-None.ensures.none,
+)
 
 pub returns-in-Some-clause-map : goal.returns-in-Some-clause-map
-returns-in-Some-clause-map g c = content-takes (g.B.BlockStore.blocks c.args.store.now) c.args.self.now c.take.new.self c.in-Some.spot.at c.args.key.now _ _ c.requires.keyed c.in-Some.ensures.found.stands c.take.ensures
+returns-in-Some-clause-map g c = content-takes (g.B.BlockStore.blocks c.args.store.now) c.args.self.now c.take.new.self c.in-Some.spot.at c.args.key.now _ _ c.requires.keyed
+    c.in-Some.ensures.found.stands c.take.ensures
 
 pub returns-in-Some-clause-had : goal.returns-in-Some-clause-had
-returns-in-Some-clause-had g c = content-took (g.B.BlockStore.blocks c.args.store.now) c.args.self.now c.take.new.self c.in-Some.spot.at c.args.key.now _ _ c.requires.keyed c.in-Some.ensures.found.stands c.take.ensures
+returns-in-Some-clause-had g c = content-took (g.B.BlockStore.blocks c.args.store.now) c.args.self.now c.take.new.self c.in-Some.spot.at c.args.key.now _ _ c.requires.keyed
+    c.in-Some.ensures.found.stands c.take.ensures
 
 pub returns-in-Some-clause-grown : goal.returns-in-Some-clause-grown
 returns-in-Some-clause-grown g c = Grown-remove (hash_of c.args.self.now.seed) _ _ c.args.key.now (returns-in-Some-clause-tables g c)
 
 pub returns-in-Some-search-clause-map : goal.returns-in-Some-search-clause-map
-returns-in-Some-search-clause-map g c = content-takes (g.B.BlockStore.blocks c.args.store.now) c.args.self.now c.take-in-Some-search.new.self c.in-Some-search.spot.at c.args.key.now _ _ c.requires.keyed c.in-Some-search.ensures.found.stands c.take-in-Some-search.ensures
+returns-in-Some-search-clause-map g c = content-takes (g.B.BlockStore.blocks c.args.store.now) c.args.self.now c.take-in-Some-search.new.self c.in-Some-search.spot.at c.args.key.now _ _
+    c.requires.keyed c.in-Some-search.ensures.found.stands c.take-in-Some-search.ensures
 
 pub returns-in-Some-search-clause-had : goal.returns-in-Some-search-clause-had
-returns-in-Some-search-clause-had g c = content-took (g.B.BlockStore.blocks c.args.store.now) c.args.self.now c.take-in-Some-search.new.self c.in-Some-search.spot.at c.args.key.now _ _ c.requires.keyed c.in-Some-search.ensures.found.stands c.take-in-Some-search.ensures
+returns-in-Some-search-clause-had g c = content-took (g.B.BlockStore.blocks c.args.store.now) c.args.self.now c.take-in-Some-search.new.self c.in-Some-search.spot.at c.args.key.now _ _
+    c.requires.keyed c.in-Some-search.ensures.found.stands c.take-in-Some-search.ensures
 
 pub returns-in-Some-search-clause-grown : goal.returns-in-Some-search-clause-grown
 returns-in-Some-search-clause-grown g c = Grown-remove (hash_of c.args.self.now.seed) _ _ c.args.key.now (returns-in-Some-search-clause-tables g c)

@@ -33,18 +33,24 @@ loop-at-preserved g c = record {
 
 pub returns-then-has_key-clause-found : goal.returns-then-has_key-clause-found
 returns-then-has_key-clause-found g c =
-    let rows : side_rows c.args.side c.self.inside.chains ≡ table_rows c.args.side c.args.self.now = side_table c.args.side c.self.inside.chains c.self.inside.position c.self.inside.seed c.self.inside.top c.args.self.now c.self.view_is in
+    let rows : side_rows c.args.side c.self.inside.chains ≡ table_rows c.args.side c.args.self.now =
+    side_table c.args.side c.self.inside.chains c.self.inside.position c.self.inside.seed c.self.inside.top c.args.self.now c.self.view_is in
     let some : 0 < length (table_rows c.args.side c.args.self.now) = omega (arith, c.if-buckets-eq0.false, c.buckets-buckets.ensures, ap length rows) in
     let whole : bucket (table_rows c.args.side c.args.self.now) (c.args.hash % length (table_rows c.args.side c.args.self.now)) ≡ chain_left c.into_iter-at-iterator.result
-    = ap (λ rs. bucket rs (c.args.hash % length rs)) (sym rows) ∙ ap (bucket (side_rows c.args.side c.self.inside.chains)) (ap (λ n. c.args.hash % n) (sym c.buckets-buckets.ensures) ∙ sym c.bucket_of.ensures) ∙ sym c.chain-at-items.ensures ∙ ap chain_left (sym c.into_iter-at-iterator.ensures.into_iter_gives) in
+    = ap (λ rs. bucket rs (c.args.hash % length rs)) (sym rows) ∙ ap (bucket (side_rows c.args.side c.self.inside.chains))
+    (ap (λ n. c.args.hash % n) (sym c.buckets-buckets.ensures) ∙ sym c.bucket_of.ensures) ∙ sym c.chain-at-items.ensures
+    ∙ ap chain_left (sym c.into_iter-at-iterator.ensures.into_iter_gives) in
     spot_found (g.B.BlockStore.blocks c.args.store.now) c.args.self.now c.args.side c.args.hash c.in-Some.at c.args.key.now c.loop-at.before c.loop-at.yielded (chain_left c.next.new.self) some
     (whole ∙ sym c.loop-at.invariant.row ∙ ap (λ r. c.loop-at.yielded ++ r) c.in-Some.ensures.steps) c.loop-at.invariant.last c.if-has_key.ensures
 
 pub returns-clause-none : goal.returns-clause-none
 returns-clause-none g c at h =
-    let rows : side_rows c.args.side c.self.inside.chains ≡ table_rows c.args.side c.args.self.now = side_table c.args.side c.self.inside.chains c.self.inside.position c.self.inside.seed c.self.inside.top c.args.self.now c.self.view_is in
+    let rows : side_rows c.args.side c.self.inside.chains ≡ table_rows c.args.side c.args.self.now =
+    side_table c.args.side c.self.inside.chains c.self.inside.position c.self.inside.seed c.self.inside.top c.args.self.now c.self.view_is in
     let whole : bucket (table_rows c.args.side c.args.self.now) (c.args.hash % length (table_rows c.args.side c.args.self.now)) ≡ chain_left c.into_iter-at-iterator.result
-    = ap (λ rs. bucket rs (c.args.hash % length rs)) (sym rows) ∙ ap (bucket (side_rows c.args.side c.self.inside.chains)) (ap (λ n. c.args.hash % n) (sym c.buckets-buckets.ensures) ∙ sym c.bucket_of.ensures) ∙ sym c.chain-at-items.ensures ∙ ap chain_left (sym c.into_iter-at-iterator.ensures.into_iter_gives) in
+    = ap (λ rs. bucket rs (c.args.hash % length rs)) (sym rows) ∙ ap (bucket (side_rows c.args.side c.self.inside.chains))
+    (ap (λ n. c.args.hash % n) (sym c.buckets-buckets.ensures) ∙ sym c.bucket_of.ensures) ∙ sym c.chain-at-items.ensures
+    ∙ ap chain_left (sym c.into_iter-at-iterator.ensures.into_iter_gives) in
     let all : bucket (table_rows c.args.side c.args.self.now) (c.args.hash % length (table_rows c.args.side c.args.self.now)) ≡ c.loop-at.yielded
     = whole ∙ sym c.loop-at.invariant.row ∙ ap (λ r. c.loop-at.yielded ++ r) c.in-None.ensures.steps.0 ∙ append-nil c.loop-at.yielded in
     c.loop-at.invariant.none at (subst (λ r. 0 < times at r) all h)

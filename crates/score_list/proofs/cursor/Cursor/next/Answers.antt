@@ -9,11 +9,13 @@ link-link-requires c = has_link c.self.inside.towers.now c.self.invariant.0 c.se
 pub overflow_sub-result : goal.overflow_sub-result
 overflow_sub-result c =
     let more : c.self.inside.rank + 1 < length (order c.self.inside.towers.now) = omega (arith, c.if-rank-self.false, c.self.invariant.0.counted, c.self.invariant.1.0) in
-    let to : c.link-link.result.next ≡ suc (get_or (order c.self.inside.towers.now) (c.self.inside.rank + 1) 0) = ap (λ l. l.next) c.link-link.ensures ∙ leads_on c.self.inside.towers.now c.self.invariant.0 c.self.inside.rank c.self.inside.key c.self.invariant.1 more in
+    let to : c.link-link.result.next ≡ suc (get_or (order c.self.inside.towers.now) (c.self.inside.rank + 1) 0) = ap (λ l. l.next) c.link-link.ensures
+    ∙ leads_on c.self.inside.towers.now c.self.invariant.0 c.self.inside.rank c.self.inside.key c.self.invariant.1 more in
     omega (arith, to)
 
 pub invariant_of-result : goal.invariant_of-result
 invariant_of-result c =
     let more : c.self.inside.rank + 1 < length (order c.self.inside.towers.now) = omega (arith, c.if-rank-self.false, c.self.invariant.0.counted, c.self.invariant.1.0) in
-    let to : c.link-link.result.next ≡ suc (get_or (order c.self.inside.towers.now) (c.self.inside.rank + 1) 0) = ap (λ l. l.next) c.link-link.ensures ∙ leads_on c.self.inside.towers.now c.self.invariant.0 c.self.inside.rank c.self.inside.key c.self.invariant.1 more in
+    let to : c.link-link.result.next ≡ suc (get_or (order c.self.inside.towers.now) (c.self.inside.rank + 1) 0) = ap (λ l. l.next) c.link-link.ensures
+    ∙ leads_on c.self.inside.towers.now c.self.invariant.0 c.self.inside.rank c.self.inside.key c.self.invariant.1 more in
     (c.self.invariant.0, (more, omega (arith, to)), omega (arith, to))

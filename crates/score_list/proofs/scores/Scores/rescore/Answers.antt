@@ -26,7 +26,8 @@ invariant_of-self g c =
       c.rescore.ensures.linked,
       sorted_rising m (items c.rescore.new.self)
           (subst (IsSorted m) (sym is)
-          (sorted_moved m c.args.member.now c.args.old c.args.new xs c.in-Some.rank (subst (IsSorted m) (sym c.self.view_is) c.requires.sorted) located.has (subst (Misses m (c.args.new, c.args.member.now)) (sym c.self.view_is) c.requires.fresh))),
+          (sorted_moved m c.args.member.now c.args.old c.args.new xs c.in-Some.rank (subst (IsSorted m) (sym c.self.view_is) c.requires.sorted) located.has
+          (subst (Misses m (c.args.new, c.args.member.now)) (sym c.self.view_is) c.requires.fresh))),
     )
 
 pub returns-in-Some-clause-rescores : goal.returns-in-Some-clause-rescores
@@ -43,4 +44,5 @@ returns-in-Some-clause-sorted g c =
     let located = subst (λ (n : ℤ). Located m (n, c.args.member.now) c.self.inside.towers c.in-Some.rank c.in-Some.key) (to_z-of_z w64 c.args.old c.ranges.old) c.in-Some.ensures.found in
     let is = rw (to_z-of_z w64 c.args.new c.ranges.new) at c.rescore.ensures.items in
     subst (IsSorted m) (sym is)
-    (sorted_moved m c.args.member.now c.args.old c.args.new xs c.in-Some.rank (subst (IsSorted m) (sym c.self.view_is) c.requires.sorted) located.has (subst (Misses m (c.args.new, c.args.member.now)) (sym c.self.view_is) c.requires.fresh))
+    (sorted_moved m c.args.member.now c.args.old c.args.new xs c.in-Some.rank (subst (IsSorted m) (sym c.self.view_is) c.requires.sorted) located.has
+    (subst (Misses m (c.args.new, c.args.member.now)) (sym c.self.view_is) c.requires.fresh))

@@ -12,7 +12,8 @@ with_capacity : (t : Towers) (capacity : ℕ) → IsLinked t → IsLinked (recor
 with_capacity t capacity l = record { rows = l.rows; based = l.based; distinct = l.distinct; counted = l.counted; full_head = l.full_head; short = l.short }
 
 -- a slab with a new entry where there was none
-module _ (t : Towers) (linked : IsLinked t) (mid new : Slab Tower) (key : ℕ) (tower : Tower) (slots : mid.slots ≡ t.slab.slots) (vacant : get mid key ≡ None) (now : get new key ≡ Some tower) (others : (k : ℕ) → k ≢ key → get new k ≡ get mid k) where
+module _ (t : Towers) (linked : IsLinked t) (mid new : Slab Tower) (key : ℕ) (tower : Tower) (slots : mid.slots ≡ t.slab.slots) (vacant : get mid key ≡ None)
+    (now : get new key ≡ Some tower) (others : (k : ℕ) → k ≢ key → get new k ≡ get mid k) where
   abbrev after : Towers
   after = record t { slab = new }
 
@@ -43,21 +44,26 @@ module _ (t : Towers) (linked : IsLinked t) (mid new : Slab Tower) (key : ℕ) (
   }
 
 pub returns-in_err-reserve-clause-linked : goal.returns-in_err-reserve-clause-linked
-returns-in_err-reserve-clause-linked c = subst (λ s. IsLinked (record c.args.self.now { slab = s })) (sym c.reserve.ensures.rest_kept) (with_capacity c.args.self.now c.reserve.new.self.capacity c.requires.linked)
+returns-in_err-reserve-clause-linked c = subst (λ s. IsLinked (record c.args.self.now { slab = s })) (sym c.reserve.ensures.rest_kept)
+    (with_capacity c.args.self.now c.reserve.new.self.capacity c.requires.linked)
 
 pub returns-clause-adds : goal.returns-clause-adds
 returns-clause-adds c =
     let i = c.insert_reserved-key in
     let high : 0 < length c.in_ok-links.links.items = omega (arith, c.requires.height, c.in_ok-links.ensures.len) in
     subst (λ n. Adds c.args.self.now (record c.args.self.now { slab = i.new.self }) i.result (n, c.args.member)) (to_z-of_z w64 c.args.score c.ranges.score)
-    (adds_on c.args.self.now c.requires.linked c.reserve.new.self i.new.self i.result _ (ap (λ s. s.slots) c.reserve.ensures.rest_kept) i.ensures.was_vacant i.ensures.updates.changed i.ensures.updates.others (omega (arith, i.ensures.key_in_range, i.ensures.capacity, c.capacity-room.type_inv, c.capacity-room.ensures.value)) high)
+    (adds_on c.args.self.now c.requires.linked c.reserve.new.self i.new.self i.result _ (ap (λ s. s.slots) c.reserve.ensures.rest_kept) i.ensures.was_vacant i.ensures.updates.changed
+    i.ensures.updates.others (omega (arith, i.ensures.key_in_range, i.ensures.capacity, c.capacity-room.type_inv, c.capacity-room.ensures.value)) high)
 
 pub returns-clause-linked : goal.returns-clause-linked
 returns-clause-linked c =
     let i = c.insert_reserved-key in
-    linked_is _ (order c.args.self.now) (linked_on c.args.self.now c.requires.linked c.reserve.new.self i.new.self i.result _ (ap (λ s. s.slots) c.reserve.ensures.rest_kept) i.ensures.was_vacant i.ensures.updates.changed i.ensures.updates.others)
+    linked_is _ (order c.args.self.now)
+    (linked_on c.args.self.now c.requires.linked c.reserve.new.self i.new.self i.result _ (ap (λ s. s.slots) c.reserve.ensures.rest_kept) i.ensures.was_vacant i.ensures.updates.changed
+    i.ensures.updates.others)
 
 pub returns-clause-kept : goal.returns-clause-kept
 returns-clause-kept c =
     let i = c.insert_reserved-key in
-    kept_on c.args.self.now c.requires.linked c.reserve.new.self i.new.self i.result _ (ap (λ s. s.slots) c.reserve.ensures.rest_kept) i.ensures.was_vacant i.ensures.updates.changed i.ensures.updates.others
+    kept_on c.args.self.now c.requires.linked c.reserve.new.self i.new.self i.result _ (ap (λ s. s.slots) c.reserve.ensures.rest_kept) i.ensures.was_vacant i.ensures.updates.changed
+    i.ensures.updates.others

@@ -26,9 +26,14 @@ thread-requires-clause-fresh g c =
 
 pub returns-in-Ok-clause-linked : goal.returns-in-Ok-clause-linked
 returns-in-Ok-clause-linked g c =
-    linked_is _ (with_at (order c.args.self.now) c.find-rank.result.0 c.in-Ok.key) (joined_as c.args.self.now c.add.new.self c.thread.new.self c.in-Ok.key c.find-rank.result.0 (c.args.score, c.args.member) c.requires.linked (subst (λ n. Adds c.args.self.now c.add.new.self c.in-Ok.key (n, c.args.member)) (to_z-of_z w64 c.args.score c.ranges.score) c.in-Ok.ensures.adds) c.thread.ensures (omega (arith, c.if-self-ge-MOST.false)))
+    linked_is _ (with_at (order c.args.self.now) c.find-rank.result.0 c.in-Ok.key)
+    (joined_as c.args.self.now c.add.new.self c.thread.new.self c.in-Ok.key c.find-rank.result.0 (c.args.score, c.args.member) c.requires.linked
+    (subst (λ n. Adds c.args.self.now c.add.new.self c.in-Ok.key (n, c.args.member)) (to_z-of_z w64 c.args.score c.ranges.score) c.in-Ok.ensures.adds) c.thread.ensures
+    (omega (arith, c.if-self-ge-MOST.false)))
 
 pub returns-in-Ok-clause-ok : goal.returns-in-Ok-clause-ok
 returns-in-Ok-clause-ok g c =
-    joined_items c.args.self.now c.add.new.self c.thread.new.self c.in-Ok.key c.find-rank.result.0 (c.args.score, c.args.member) c.requires.linked (subst (λ n. Adds c.args.self.now c.add.new.self c.in-Ok.key (n, c.args.member)) (to_z-of_z w64 c.args.score c.ranges.score) c.in-Ok.ensures.adds) c.thread.ensures (omega (arith, c.if-self-ge-MOST.false))
+    joined_items c.args.self.now c.add.new.self c.thread.new.self c.in-Ok.key c.find-rank.result.0 (c.args.score, c.args.member) c.requires.linked
+    (subst (λ n. Adds c.args.self.now c.add.new.self c.in-Ok.key (n, c.args.member)) (to_z-of_z w64 c.args.score c.ranges.score) c.in-Ok.ensures.adds) c.thread.ensures
+    (omega (arith, c.if-self-ge-MOST.false))
     ∙ ap (λ n. with_at (items c.args.self.now) n (c.args.score, c.args.member)) (c.find-rank.ensures.rank ∙ ap (count_by (g.P.Probe.above c.args.probe.now)) c.add.ensures.kept)

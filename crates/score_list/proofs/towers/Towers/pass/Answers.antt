@@ -11,7 +11,13 @@ returns-then-link-eq0 g c =
     let i = c.loop-link.invariant in
     let to : c.link-link.result.next ≡ next_at c.args.self.now c.args.level c.loop-link.place.owner = ap (λ l. l.next) c.link-link.ensures in
     let over : c.link-link.result.span ≡ span_at c.args.self.now c.args.level c.loop-link.place.owner = ap (λ l. l.span) c.link-link.ensures in
-    arrived (tall c.args.self.now c.args.level) (next_at c.args.self.now c.args.level) (span_at c.args.self.now c.args.level) (order c.args.self.now) (count_by (g.P.Probe.above c.args.probe.now) (items c.args.self.now)) c.loop-link.place.owner c.loop-link.place.rank i.0 i.1 i.2 (c.requires.linked.rows c.args.level c.requires.level) (fails_at_last (g.P.Probe.above c.args.probe.now) (element_at c.args.self.now) (tall c.args.self.now c.args.level) (next_at c.args.self.now c.args.level) (span_at c.args.self.now c.args.level) (order c.args.self.now) (count_by (g.P.Probe.above c.args.probe.now) (items c.args.self.now)) c.loop-link.place.owner c.loop-link.place.rank i.0 (keys_front (g.P.Probe.above c.args.probe.now) (element_at c.args.self.now) (order c.args.self.now) c.requires.parted) i.1 i.2 (c.requires.linked.rows c.args.level c.requires.level) (λ k e. absurd (omega (arith, to, c.if-link-eq0.true, e))))
+    arrived (tall c.args.self.now c.args.level) (next_at c.args.self.now c.args.level) (span_at c.args.self.now c.args.level) (order c.args.self.now)
+    (count_by (g.P.Probe.above c.args.probe.now) (items c.args.self.now)) c.loop-link.place.owner c.loop-link.place.rank i.0 i.1 i.2
+    (c.requires.linked.rows c.args.level c.requires.level)
+    (fails_at_last (g.P.Probe.above c.args.probe.now) (element_at c.args.self.now) (tall c.args.self.now c.args.level) (next_at c.args.self.now c.args.level)
+    (span_at c.args.self.now c.args.level) (order c.args.self.now) (count_by (g.P.Probe.above c.args.probe.now) (items c.args.self.now)) c.loop-link.place.owner c.loop-link.place.rank
+    i.0 (keys_front (g.P.Probe.above c.args.probe.now) (element_at c.args.self.now) (order c.args.self.now) c.requires.parted) i.1 i.2
+    (c.requires.linked.rows c.args.level c.requires.level) (λ k e. absurd (omega (arith, to, c.if-link-eq0.true, e))))
 
 pub is_above-requires : goal.is_above-requires
 is_above-requires g c =
@@ -19,14 +25,25 @@ is_above-requires g c =
     let to : c.link-link.result.next ≡ next_at c.args.self.now c.args.level c.loop-link.place.owner = ap (λ l. l.next) c.link-link.ensures in
     let over : c.link-link.result.span ≡ span_at c.args.self.now c.args.level c.loop-link.place.owner = ap (λ l. l.span) c.link-link.ensures in
     let one : next_at c.args.self.now c.args.level c.loop-link.place.owner ≡ suc (c.link-link.result.next - 1) = omega (arith, to, c.if-link-eq0.false) in
-    subst (g.P.Probe.compares c.args.probe.now) (sym c.element-element.ensures) (each_next (g.P.Probe.compares c.args.probe.now) (element_at c.args.self.now) (tall c.args.self.now c.args.level) (next_at c.args.self.now c.args.level) (span_at c.args.self.now c.args.level) (order c.args.self.now) (count_by (g.P.Probe.above c.args.probe.now) (items c.args.self.now)) c.loop-link.place.owner i.0 c.requires.compares i.1 (c.requires.linked.rows c.args.level c.requires.level) (c.link-link.result.next - 1) one)
+    subst (g.P.Probe.compares c.args.probe.now) (sym c.element-element.ensures)
+    (each_next (g.P.Probe.compares c.args.probe.now) (element_at c.args.self.now) (tall c.args.self.now c.args.level) (next_at c.args.self.now c.args.level)
+    (span_at c.args.self.now c.args.level) (order c.args.self.now) (count_by (g.P.Probe.above c.args.probe.now) (items c.args.self.now)) c.loop-link.place.owner i.0 c.requires.compares
+    i.1 (c.requires.linked.rows c.args.level c.requires.level) (c.link-link.result.next - 1) one)
 
 pub returns-then-not-is_above : goal.returns-then-not-is_above
 returns-then-not-is_above g c =
     let i = c.loop-link.invariant in
     let to : c.link-link.result.next ≡ next_at c.args.self.now c.args.level c.loop-link.place.owner = ap (λ l. l.next) c.link-link.ensures in
     let over : c.link-link.result.span ≡ span_at c.args.self.now c.args.level c.loop-link.place.owner = ap (λ l. l.span) c.link-link.ensures in
-    arrived (tall c.args.self.now c.args.level) (next_at c.args.self.now c.args.level) (span_at c.args.self.now c.args.level) (order c.args.self.now) (count_by (g.P.Probe.above c.args.probe.now) (items c.args.self.now)) c.loop-link.place.owner c.loop-link.place.rank i.0 i.1 i.2 (c.requires.linked.rows c.args.level c.requires.level) (fails_at_last (g.P.Probe.above c.args.probe.now) (element_at c.args.self.now) (tall c.args.self.now c.args.level) (next_at c.args.self.now c.args.level) (span_at c.args.self.now c.args.level) (order c.args.self.now) (count_by (g.P.Probe.above c.args.probe.now) (items c.args.self.now)) c.loop-link.place.owner c.loop-link.place.rank i.0 (keys_front (g.P.Probe.above c.args.probe.now) (element_at c.args.self.now) (order c.args.self.now) c.requires.parted) i.1 i.2 (c.requires.linked.rows c.args.level c.requires.level) (λ k e. let same : c.link-link.result.next - 1 ≡ k = omega (arith, to, e) in ap (λ n. g.P.Probe.above c.args.probe.now (element_at c.args.self.now n)) (sym same) ∙ ap (g.P.Probe.above c.args.probe.now) (sym c.element-element.ensures) ∙ sym c.is_above.ensures ∙ c.if-not-is_above.true))
+    arrived (tall c.args.self.now c.args.level) (next_at c.args.self.now c.args.level) (span_at c.args.self.now c.args.level) (order c.args.self.now)
+    (count_by (g.P.Probe.above c.args.probe.now) (items c.args.self.now)) c.loop-link.place.owner c.loop-link.place.rank i.0 i.1 i.2
+    (c.requires.linked.rows c.args.level c.requires.level)
+    (fails_at_last (g.P.Probe.above c.args.probe.now) (element_at c.args.self.now) (tall c.args.self.now c.args.level) (next_at c.args.self.now c.args.level)
+    (span_at c.args.self.now c.args.level) (order c.args.self.now) (count_by (g.P.Probe.above c.args.probe.now) (items c.args.self.now)) c.loop-link.place.owner c.loop-link.place.rank
+    i.0 (keys_front (g.P.Probe.above c.args.probe.now) (element_at c.args.self.now) (order c.args.self.now) c.requires.parted) i.1 i.2
+    (c.requires.linked.rows c.args.level c.requires.level)
+    (λ k e. let same : c.link-link.result.next - 1 ≡ k = omega (arith, to, e) in ap (λ n. g.P.Probe.above c.args.probe.now (element_at c.args.self.now n)) (sym same)
+    ∙ ap (g.P.Probe.above c.args.probe.now) (sym c.element-element.ensures) ∙ sym c.is_above.ensures ∙ c.if-not-is_above.true))
 
 pub overflow_add-place : goal.overflow_add-place
 overflow_add-place g c =
@@ -34,9 +51,21 @@ overflow_add-place g c =
     let to : c.link-link.result.next ≡ next_at c.args.self.now c.args.level c.loop-link.place.owner = ap (λ l. l.next) c.link-link.ensures in
     let over : c.link-link.result.span ≡ span_at c.args.self.now c.args.level c.loop-link.place.owner = ap (λ l. l.span) c.link-link.ensures in
     let one : next_at c.args.self.now c.args.level c.loop-link.place.owner ≡ suc (c.link-link.result.next - 1) = omega (arith, to, c.if-link-eq0.false) in
-    let above : g.P.Probe.above c.args.probe.now (element_at c.args.self.now (c.link-link.result.next - 1)) ≡ true = ap (g.P.Probe.above c.args.probe.now) (sym c.element-element.ensures) ∙ sym c.is_above.ensures ∙ c.if-not-is_above.false in
-    let many : (count_by (g.P.Probe.above c.args.probe.now) (items c.args.self.now)) ≤ length (order c.args.self.now) = omega (arith, count_by-le-length (g.P.Probe.above c.args.probe.now) (items c.args.self.now), length_of_map (element_at c.args.self.now) (order c.args.self.now)) in
-    omega (arith, over, many, (passes_before (g.P.Probe.above c.args.probe.now) (element_at c.args.self.now) (tall c.args.self.now c.args.level) (next_at c.args.self.now c.args.level) (span_at c.args.self.now c.args.level) (order c.args.self.now) (count_by (g.P.Probe.above c.args.probe.now) (items c.args.self.now)) c.loop-link.place.owner c.loop-link.place.rank i.0 (keys_back (g.P.Probe.above c.args.probe.now) (element_at c.args.self.now) (order c.args.self.now) c.requires.parted) i.1 i.2 (c.requires.linked.rows c.args.level c.requires.level) (c.link-link.result.next - 1) one above), c.requires.linked.counted, c.requires.linked.short)
+    let above : g.P.Probe.above c.args.probe.now (element_at c.args.self.now (c.link-link.result.next - 1)) ≡ true = ap (g.P.Probe.above c.args.probe.now) (sym c.element-element.ensures)
+    ∙ sym c.is_above.ensures ∙ c.if-not-is_above.false in
+    let many : (count_by (g.P.Probe.above c.args.probe.now) (items c.args.self.now)) ≤ length (order c.args.self.now) =
+    omega (arith, count_by-le-length (g.P.Probe.above c.args.probe.now) (items c.args.self.now), length_of_map (element_at c.args.self.now) (order c.args.self.now)) in
+    omega (
+      arith,
+      over,
+      many,
+      (passes_before (g.P.Probe.above c.args.probe.now) (element_at c.args.self.now) (tall c.args.self.now c.args.level) (next_at c.args.self.now c.args.level)
+          (span_at c.args.self.now c.args.level) (order c.args.self.now) (count_by (g.P.Probe.above c.args.probe.now) (items c.args.self.now)) c.loop-link.place.owner c.loop-link.place.rank
+          i.0 (keys_back (g.P.Probe.above c.args.probe.now) (element_at c.args.self.now) (order c.args.self.now) c.requires.parted) i.1 i.2
+          (c.requires.linked.rows c.args.level c.requires.level) (c.link-link.result.next - 1) one above),
+      c.requires.linked.counted,
+      c.requires.linked.short,
+    )
 
 pub loop-link-smaller : goal.loop-link-smaller
 loop-link-smaller g c =
@@ -44,9 +73,22 @@ loop-link-smaller g c =
     let to : c.link-link.result.next ≡ next_at c.args.self.now c.args.level c.loop-link.place.owner = ap (λ l. l.next) c.link-link.ensures in
     let over : c.link-link.result.span ≡ span_at c.args.self.now c.args.level c.loop-link.place.owner = ap (λ l. l.span) c.link-link.ensures in
     let one : next_at c.args.self.now c.args.level c.loop-link.place.owner ≡ suc (c.link-link.result.next - 1) = omega (arith, to, c.if-link-eq0.false) in
-    let above : g.P.Probe.above c.args.probe.now (element_at c.args.self.now (c.link-link.result.next - 1)) ≡ true = ap (g.P.Probe.above c.args.probe.now) (sym c.element-element.ensures) ∙ sym c.is_above.ensures ∙ c.if-not-is_above.false in
-    let many : (count_by (g.P.Probe.above c.args.probe.now) (items c.args.self.now)) ≤ length (order c.args.self.now) = omega (arith, count_by-le-length (g.P.Probe.above c.args.probe.now) (items c.args.self.now), length_of_map (element_at c.args.self.now) (order c.args.self.now)) in
-    omega (arith, over, many, (passes_before (g.P.Probe.above c.args.probe.now) (element_at c.args.self.now) (tall c.args.self.now c.args.level) (next_at c.args.self.now c.args.level) (span_at c.args.self.now c.args.level) (order c.args.self.now) (count_by (g.P.Probe.above c.args.probe.now) (items c.args.self.now)) c.loop-link.place.owner c.loop-link.place.rank i.0 (keys_back (g.P.Probe.above c.args.probe.now) (element_at c.args.self.now) (order c.args.self.now) c.requires.parted) i.1 i.2 (c.requires.linked.rows c.args.level c.requires.level) (c.link-link.result.next - 1) one above), some_span (tall c.args.self.now c.args.level) (next_at c.args.self.now c.args.level) (span_at c.args.self.now c.args.level) (order c.args.self.now) (count_by (g.P.Probe.above c.args.probe.now) (items c.args.self.now)) c.loop-link.place.owner c.loop-link.place.rank i.0 i.1 (c.requires.linked.rows c.args.level c.requires.level))
+    let above : g.P.Probe.above c.args.probe.now (element_at c.args.self.now (c.link-link.result.next - 1)) ≡ true = ap (g.P.Probe.above c.args.probe.now) (sym c.element-element.ensures)
+    ∙ sym c.is_above.ensures ∙ c.if-not-is_above.false in
+    let many : (count_by (g.P.Probe.above c.args.probe.now) (items c.args.self.now)) ≤ length (order c.args.self.now) =
+    omega (arith, count_by-le-length (g.P.Probe.above c.args.probe.now) (items c.args.self.now), length_of_map (element_at c.args.self.now) (order c.args.self.now)) in
+    omega (
+      arith,
+      over,
+      many,
+      (passes_before (g.P.Probe.above c.args.probe.now) (element_at c.args.self.now) (tall c.args.self.now c.args.level) (next_at c.args.self.now c.args.level)
+          (span_at c.args.self.now c.args.level) (order c.args.self.now) (count_by (g.P.Probe.above c.args.probe.now) (items c.args.self.now)) c.loop-link.place.owner c.loop-link.place.rank
+          i.0 (keys_back (g.P.Probe.above c.args.probe.now) (element_at c.args.self.now) (order c.args.self.now) c.requires.parted) i.1 i.2
+          (c.requires.linked.rows c.args.level c.requires.level) (c.link-link.result.next - 1) one above),
+      some_span (tall c.args.self.now c.args.level)
+          (next_at c.args.self.now c.args.level) (span_at c.args.self.now c.args.level) (order c.args.self.now) (count_by (g.P.Probe.above c.args.probe.now) (items c.args.self.now))
+          c.loop-link.place.owner c.loop-link.place.rank i.0 i.1 (c.requires.linked.rows c.args.level c.requires.level),
+    )
 
 pub loop-link-preserved : goal.loop-link-preserved
 loop-link-preserved g c =
@@ -54,6 +96,16 @@ loop-link-preserved g c =
     let to : c.link-link.result.next ≡ next_at c.args.self.now c.args.level c.loop-link.place.owner = ap (λ l. l.next) c.link-link.ensures in
     let over : c.link-link.result.span ≡ span_at c.args.self.now c.args.level c.loop-link.place.owner = ap (λ l. l.span) c.link-link.ensures in
     let one : next_at c.args.self.now c.args.level c.loop-link.place.owner ≡ suc (c.link-link.result.next - 1) = omega (arith, to, c.if-link-eq0.false) in
-    let above : g.P.Probe.above c.args.probe.now (element_at c.args.self.now (c.link-link.result.next - 1)) ≡ true = ap (g.P.Probe.above c.args.probe.now) (sym c.element-element.ensures) ∙ sym c.is_above.ensures ∙ c.if-not-is_above.false in
-    let s = on (tall c.args.self.now c.args.level) (next_at c.args.self.now c.args.level) (span_at c.args.self.now c.args.level) (order c.args.self.now) (count_by (g.P.Probe.above c.args.probe.now) (items c.args.self.now)) c.loop-link.place.owner c.loop-link.place.rank i.0 i.1 i.2 (c.requires.linked.rows c.args.level c.requires.level) (passes_before (g.P.Probe.above c.args.probe.now) (element_at c.args.self.now) (tall c.args.self.now c.args.level) (next_at c.args.self.now c.args.level) (span_at c.args.self.now c.args.level) (order c.args.self.now) (count_by (g.P.Probe.above c.args.probe.now) (items c.args.self.now)) c.loop-link.place.owner c.loop-link.place.rank i.0 (keys_back (g.P.Probe.above c.args.probe.now) (element_at c.args.self.now) (order c.args.self.now) c.requires.parted) i.1 i.2 (c.requires.linked.rows c.args.level c.requires.level) (c.link-link.result.next - 1) one above) in
-    (s.0, subst (λ n. Stands (tall c.args.self.now c.args.level) (take (count_by (g.P.Probe.above c.args.probe.now) (items c.args.self.now)) (order c.args.self.now)) n s.0) (sym to) s.1, omega (arith, over, s.2))
+    let above : g.P.Probe.above c.args.probe.now (element_at c.args.self.now (c.link-link.result.next - 1)) ≡ true = ap (g.P.Probe.above c.args.probe.now) (sym c.element-element.ensures)
+    ∙ sym c.is_above.ensures ∙ c.if-not-is_above.false in
+    let s = on (tall c.args.self.now c.args.level) (next_at c.args.self.now c.args.level) (span_at c.args.self.now c.args.level) (order c.args.self.now)
+    (count_by (g.P.Probe.above c.args.probe.now) (items c.args.self.now)) c.loop-link.place.owner c.loop-link.place.rank i.0 i.1 i.2
+    (c.requires.linked.rows c.args.level c.requires.level)
+    (passes_before (g.P.Probe.above c.args.probe.now) (element_at c.args.self.now) (tall c.args.self.now c.args.level) (next_at c.args.self.now c.args.level)
+    (span_at c.args.self.now c.args.level) (order c.args.self.now) (count_by (g.P.Probe.above c.args.probe.now) (items c.args.self.now)) c.loop-link.place.owner c.loop-link.place.rank
+    i.0 (keys_back (g.P.Probe.above c.args.probe.now) (element_at c.args.self.now) (order c.args.self.now) c.requires.parted) i.1 i.2
+    (c.requires.linked.rows c.args.level c.requires.level) (c.link-link.result.next - 1) one above) in (
+      s.0,
+      subst (λ n. Stands (tall c.args.self.now c.args.level) (take (count_by (g.P.Probe.above c.args.probe.now) (items c.args.self.now)) (order c.args.self.now)) n s.0) (sym to) s.1,
+      omega (arith, over, s.2),
+    )

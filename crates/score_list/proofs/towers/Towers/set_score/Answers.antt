@@ -11,7 +11,8 @@ use Rattle.score_list.proofs.Renaming.{changed_linked, changed_items, element_fo
 use Rattle.score_list.proofs.towers.Towers.set_score.Goals as goal
 
 pub returns-clause-linked : goal.returns-clause-linked
-returns-clause-linked c = changed_linked c.args.self.now c.args.key c.in-Some.staying.now (record c.in-Some.staying.now { score = to_z w64 (of_z w64 c.args.score) }) (sym c.in-Some.ensures.value) refl c.requires.linked
+returns-clause-linked c = changed_linked c.args.self.now c.args.key c.in-Some.staying.now (record c.in-Some.staying.now { score = to_z w64 (of_z w64 c.args.score) })
+    (sym c.in-Some.ensures.value) refl c.requires.linked
 
 pub returns-clause-items : goal.returns-clause-items
 returns-clause-items c =
@@ -19,7 +20,8 @@ returns-clause-items c =
     let tower = c.in-Some.staying.now in
     changed_items t c.args.key tower (record tower { score = to_z w64 (of_z w64 c.args.score) }) (sym c.in-Some.ensures.value) refl c.requires.linked c.args.rank c.requires.at
     ∙ ap (λ (score : ℤ). slice_set (items t) c.args.rank (score, tower.member)) (to_z-of_z w64 c.args.score c.ranges.score)
-    ∙ ap (λ (member : BlockRef). slice_set (items t) c.args.rank (c.args.score, member)) (sym (ap (λ e. e.1) (element_found t c.args.key c.args.rank tower (sym c.in-Some.ensures.value) c.requires.at)))
+    ∙ ap (λ (member : BlockRef). slice_set (items t) c.args.rank (c.args.score, member))
+    (sym (ap (λ e. e.1) (element_found t c.args.key c.args.rank tower (sym c.in-Some.ensures.value) c.requires.at)))
 
 pub unreachable-requires : goal.unreachable-requires
 unreachable-requires c =

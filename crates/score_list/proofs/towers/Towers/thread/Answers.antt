@@ -8,23 +8,59 @@ pub loop-level-init : goal.loop-level-init
 loop-level-init c = begun c.args.self.now (order c.args.self.now) (with_at (order c.args.self.now) c.args.rank c.args.key) c.args.rank c.requires.linked
 
 pub hang-requires-clause-reaches : goal.hang-requires-clause-reaches
-hang-requires-clause-reaches c = last_reaches c.args.self.now (order c.args.self.now) (with_at (order c.args.self.now) c.args.rank c.args.key) c.args.rank c.loop-level.self (c.loop-level.level - 1) c.requires.linked (some_level c.args.self.now (order c.args.self.now) (with_at (order c.args.self.now) c.args.rank c.args.key) c.args.rank c.loop-level.self c.loop-level.level c.loop-level-test.true c.loop-level.invariant) (slice_index_or c.args.path.now (c.loop-level.level - 1) no_place).owner (slice_index_or c.args.path.now (c.loop-level.level - 1) no_place).rank (c.requires.path (c.loop-level.level - 1) (omega (arith, c.loop-level.invariant.bound, c.loop-level-test.true)))
+hang-requires-clause-reaches c = last_reaches c.args.self.now (order c.args.self.now) (with_at (order c.args.self.now) c.args.rank c.args.key) c.args.rank c.loop-level.self
+    (c.loop-level.level - 1) c.requires.linked
+    (some_level c.args.self.now (order c.args.self.now) (with_at (order c.args.self.now) c.args.rank c.args.key) c.args.rank c.loop-level.self c.loop-level.level c.loop-level-test.true
+    c.loop-level.invariant) (slice_index_or c.args.path.now (c.loop-level.level - 1) no_place).owner (slice_index_or c.args.path.now (c.loop-level.level - 1) no_place).rank
+    (c.requires.path (c.loop-level.level - 1) (omega (arith, c.loop-level.invariant.bound, c.loop-level-test.true)))
 
 pub hang-requires-clause-span : goal.hang-requires-clause-span
 hang-requires-clause-span c =
-    let past = goes_past c.args.self.now (order c.args.self.now) (with_at (order c.args.self.now) c.args.rank c.args.key) c.args.rank c.loop-level.self (c.loop-level.level - 1) c.requires.linked (some_level c.args.self.now (order c.args.self.now) (with_at (order c.args.self.now) c.args.rank c.args.key) c.args.rank c.loop-level.self c.loop-level.level c.loop-level-test.true c.loop-level.invariant) (slice_index_or c.args.path.now (c.loop-level.level - 1) no_place).owner (slice_index_or c.args.path.now (c.loop-level.level - 1) no_place).rank (c.requires.path (c.loop-level.level - 1) (omega (arith, c.loop-level.invariant.bound, c.loop-level-test.true))) in
+    let past = goes_past c.args.self.now (order c.args.self.now) (with_at (order c.args.self.now) c.args.rank c.args.key) c.args.rank c.loop-level.self (c.loop-level.level - 1)
+    c.requires.linked
+    (some_level c.args.self.now (order c.args.self.now) (with_at (order c.args.self.now) c.args.rank c.args.key) c.args.rank c.loop-level.self c.loop-level.level c.loop-level-test.true
+    c.loop-level.invariant) (slice_index_or c.args.path.now (c.loop-level.level - 1) no_place).owner (slice_index_or c.args.path.now (c.loop-level.level - 1) no_place).rank
+    (c.requires.path (c.loop-level.level - 1) (omega (arith, c.loop-level.invariant.bound, c.loop-level-test.true))) in
     omega (arith, past)
 
 pub hang-requires-clause-room : goal.hang-requires-clause-room
-hang-requires-clause-room c = omega (arith, c.requires.room, c.requires.linked.counted, span_fits c.args.self.now (order c.args.self.now) (with_at (order c.args.self.now) c.args.rank c.args.key) c.args.rank c.loop-level.self (c.loop-level.level - 1) c.requires.linked (some_level c.args.self.now (order c.args.self.now) (with_at (order c.args.self.now) c.args.rank c.args.key) c.args.rank c.loop-level.self c.loop-level.level c.loop-level-test.true c.loop-level.invariant) (slice_index_or c.args.path.now (c.loop-level.level - 1) no_place).owner (slice_index_or c.args.path.now (c.loop-level.level - 1) no_place).rank (c.requires.path (c.loop-level.level - 1) (omega (arith, c.loop-level.invariant.bound, c.loop-level-test.true))) c.requires.rank)
+hang-requires-clause-room c = omega (
+  arith,
+  c.requires.room,
+  c.requires.linked.counted,
+  span_fits c.args.self.now (order c.args.self.now) (with_at (order c.args.self.now) c.args.rank c.args.key) c.args.rank
+      c.loop-level.self (c.loop-level.level - 1) c.requires.linked
+      (some_level c.args.self.now (order c.args.self.now) (with_at (order c.args.self.now) c.args.rank c.args.key) c.args.rank c.loop-level.self c.loop-level.level c.loop-level-test.true
+      c.loop-level.invariant) (slice_index_or c.args.path.now (c.loop-level.level - 1) no_place).owner (slice_index_or c.args.path.now (c.loop-level.level - 1) no_place).rank
+      (c.requires.path (c.loop-level.level - 1) (omega (arith, c.loop-level.invariant.bound, c.loop-level-test.true))) c.requires.rank,
+)
 
 pub hang-requires-clause-apart : goal.hang-requires-clause-apart
-hang-requires-clause-apart c = λ same. reached_apart c.args.self.now (order c.args.self.now) (with_at (order c.args.self.now) c.args.rank c.args.key) c.args.rank c.loop-level.self (c.loop-level.level - 1) c.requires.linked (some_level c.args.self.now (order c.args.self.now) (with_at (order c.args.self.now) c.args.rank c.args.key) c.args.rank c.loop-level.self c.loop-level.level c.loop-level-test.true c.loop-level.invariant) (slice_index_or c.args.path.now (c.loop-level.level - 1) no_place).owner (slice_index_or c.args.path.now (c.loop-level.level - 1) no_place).rank (c.requires.path (c.loop-level.level - 1) (omega (arith, c.loop-level.invariant.bound, c.loop-level-test.true))) c.args.key c.requires.fresh (sym same)
+hang-requires-clause-apart c = λ same. reached_apart c.args.self.now (order c.args.self.now) (with_at (order c.args.self.now) c.args.rank c.args.key) c.args.rank c.loop-level.self
+    (c.loop-level.level - 1) c.requires.linked
+    (some_level c.args.self.now (order c.args.self.now) (with_at (order c.args.self.now) c.args.rank c.args.key) c.args.rank c.loop-level.self c.loop-level.level c.loop-level-test.true
+    c.loop-level.invariant) (slice_index_or c.args.path.now (c.loop-level.level - 1) no_place).owner (slice_index_or c.args.path.now (c.loop-level.level - 1) no_place).rank
+    (c.requires.path (c.loop-level.level - 1) (omega (arith, c.loop-level.invariant.bound, c.loop-level-test.true))) c.args.key c.requires.fresh (sym same)
 
 pub loop-level-preserved : goal.loop-level-preserved
 loop-level-preserved c =
-    edited c.args.self.now (order c.args.self.now) (with_at (order c.args.self.now) c.args.rank c.args.key) c.args.rank c.loop-level.self (c.loop-level.level - 1) c.requires.linked (some_level c.args.self.now (order c.args.self.now) (with_at (order c.args.self.now) c.args.rank c.args.key) c.args.rank c.loop-level.self c.loop-level.level c.loop-level-test.true c.loop-level.invariant) (slice_index_or c.args.path.now (c.loop-level.level - 1) no_place).owner (slice_index_or c.args.path.now (c.loop-level.level - 1) no_place).rank (c.requires.path (c.loop-level.level - 1) (omega (arith, c.loop-level.invariant.bound, c.loop-level-test.true))) c.hang.new.self c.hang.ensures.keeps c.hang.ensures.other_levels
-    (hung_row c.loop-level.self c.hang.new.self (order c.args.self.now) c.args.rank (c.loop-level.level - 1) c.args.key (slice_index_or c.args.path.now (c.loop-level.level - 1) no_place).owner (c.requires.path (c.loop-level.level - 1) (omega (arith, c.loop-level.invariant.bound, c.loop-level-test.true))).0 (subst (λ n. Hangs c.loop-level.self c.hang.new.self (c.loop-level.level - 1) c.args.key (slice_index_or c.args.path.now (c.loop-level.level - 1) no_place).owner n) (sym (left_is c.args.self.now (order c.args.self.now) (with_at (order c.args.self.now) c.args.rank c.args.key) c.args.rank c.loop-level.self (c.loop-level.level - 1) c.requires.linked (some_level c.args.self.now (order c.args.self.now) (with_at (order c.args.self.now) c.args.rank c.args.key) c.args.rank c.loop-level.self c.loop-level.level c.loop-level-test.true c.loop-level.invariant) (slice_index_or c.args.path.now (c.loop-level.level - 1) no_place).owner (slice_index_or c.args.path.now (c.loop-level.level - 1) no_place).rank (c.requires.path (c.loop-level.level - 1) (omega (arith, c.loop-level.invariant.bound, c.loop-level-test.true))))) c.hang.ensures) (arrives c.args.self.now (order c.args.self.now) (with_at (order c.args.self.now) c.args.rank c.args.key) c.args.rank c.loop-level.self (c.loop-level.level - 1) c.requires.linked (some_level c.args.self.now (order c.args.self.now) (with_at (order c.args.self.now) c.args.rank c.args.key) c.args.rank c.loop-level.self c.loop-level.level c.loop-level-test.true c.loop-level.invariant) (slice_index_or c.args.path.now (c.loop-level.level - 1) no_place).owner (slice_index_or c.args.path.now (c.loop-level.level - 1) no_place).rank (c.requires.path (c.loop-level.level - 1) (omega (arith, c.loop-level.invariant.bound, c.loop-level-test.true))))
+    edited c.args.self.now (order c.args.self.now) (with_at (order c.args.self.now) c.args.rank c.args.key) c.args.rank c.loop-level.self (c.loop-level.level - 1) c.requires.linked
+    (some_level c.args.self.now (order c.args.self.now) (with_at (order c.args.self.now) c.args.rank c.args.key) c.args.rank c.loop-level.self c.loop-level.level c.loop-level-test.true
+    c.loop-level.invariant) (slice_index_or c.args.path.now (c.loop-level.level - 1) no_place).owner (slice_index_or c.args.path.now (c.loop-level.level - 1) no_place).rank
+    (c.requires.path (c.loop-level.level - 1) (omega (arith, c.loop-level.invariant.bound, c.loop-level-test.true))) c.hang.new.self c.hang.ensures.keeps c.hang.ensures.other_levels
+    (hung_row c.loop-level.self c.hang.new.self (order c.args.self.now) c.args.rank (c.loop-level.level - 1) c.args.key
+    (slice_index_or c.args.path.now (c.loop-level.level - 1) no_place).owner
+    (c.requires.path (c.loop-level.level - 1) (omega (arith, c.loop-level.invariant.bound, c.loop-level-test.true))).0
+    (subst (λ n. Hangs c.loop-level.self c.hang.new.self (c.loop-level.level - 1) c.args.key (slice_index_or c.args.path.now (c.loop-level.level - 1) no_place).owner n)
+    (sym
+    (left_is c.args.self.now (order c.args.self.now) (with_at (order c.args.self.now) c.args.rank c.args.key) c.args.rank c.loop-level.self (c.loop-level.level - 1) c.requires.linked
+    (some_level c.args.self.now (order c.args.self.now) (with_at (order c.args.self.now) c.args.rank c.args.key) c.args.rank c.loop-level.self c.loop-level.level c.loop-level-test.true
+    c.loop-level.invariant) (slice_index_or c.args.path.now (c.loop-level.level - 1) no_place).owner (slice_index_or c.args.path.now (c.loop-level.level - 1) no_place).rank
+    (c.requires.path (c.loop-level.level - 1) (omega (arith, c.loop-level.invariant.bound, c.loop-level-test.true))))) c.hang.ensures)
+    (arrives c.args.self.now (order c.args.self.now) (with_at (order c.args.self.now) c.args.rank c.args.key) c.args.rank c.loop-level.self (c.loop-level.level - 1) c.requires.linked
+    (some_level c.args.self.now (order c.args.self.now) (with_at (order c.args.self.now) c.args.rank c.args.key) c.args.rank c.loop-level.self c.loop-level.level c.loop-level-test.true
+    c.loop-level.invariant) (slice_index_or c.args.path.now (c.loop-level.level - 1) no_place).owner (slice_index_or c.args.path.now (c.loop-level.level - 1) no_place).rank
+    (c.requires.path (c.loop-level.level - 1) (omega (arith, c.loop-level.invariant.bound, c.loop-level-test.true))))
     (c.loop-level.invariant.low (c.loop-level.level - 1) (omega (arith, c.loop-level-test.true))) c.requires.fresh c.requires.linked.distinct)
 
 pub overflow_sub-rank : goal.overflow_sub-rank

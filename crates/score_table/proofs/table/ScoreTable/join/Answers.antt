@@ -16,7 +16,8 @@ returns-in-Ok-clause-joined g c =
     let score_is : to_z w64 (of_z w64 c.args.score) ≡ c.args.score = to_z-of_z w64 c.args.score c.ranges.score in
     let added = rw score_is at c.in-Ok.ensures.added in
     let list_is = rw score_is at c.in_ok-insert.ensures.ok in
-    joined m c.args.self.now c.insert_hashed.new.self c.insert.new.self c.in-Ok.field-0 _ (record { key = c.args.member; hash = c.args.hash; value = c.args.score }) r.sound r.live added r.hashed r.absent c.insert.ensures.sorted list_is
+    joined m c.args.self.now c.insert_hashed.new.self c.insert.new.self c.in-Ok.field-0 _ (record { key = c.args.member; hash = c.args.hash; value = c.args.score }) r.sound r.live added
+    r.hashed r.absent c.insert.ensures.sorted list_is
     (c.insert_hashed.ensures.grown m r.sound.keyed r.live r.hashed r.absent)
 
 pub returns-in-Err-clause-err : goal.returns-in-Err-clause-err

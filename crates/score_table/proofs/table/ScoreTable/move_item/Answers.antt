@@ -22,6 +22,8 @@ returns-clause-settled g c =
     let found = rw (to_z-of_z w64 c.entry.result.1.now fits) at c.in-Some.ensures.found in
     let moved = c.settle-new.ensures in
     let list = c.swap_ref-in-Some.ensures in
-    item_settled m n s c.swap_ref.new.self c.swap_ref-in-Some.new.self c.args.item c.in-Some.rank c.entry.result.0 c.settle-new.result c.entry.result.1.now c.bytes.result.now c.requires.sound c.entry.ensures c.bytes.ensures found.1 moved.bytes moved.changes c.swap_ref.ensures list.renamed
+    item_settled m n s c.swap_ref.new.self c.swap_ref-in-Some.new.self c.args.item c.in-Some.rank c.entry.result.0 c.settle-new.result c.entry.result.1.now c.bytes.result.now
+    c.requires.sound c.entry.ensures c.bytes.ensures found.1 moved.bytes moved.changes c.swap_ref.ensures list.renamed
     (list.sorted m n c.requires.sound.sorted
-    (carries m n s c.swap_ref.new.self c.swap_ref-in-Some.new.self c.args.item c.in-Some.rank c.entry.result.0 c.settle-new.result c.entry.result.1.now c.bytes.result.now c.requires.sound c.entry.ensures c.bytes.ensures found.1 moved.bytes moved.changes c.swap_ref.ensures list.renamed))
+    (carries m n s c.swap_ref.new.self c.swap_ref-in-Some.new.self c.args.item c.in-Some.rank c.entry.result.0 c.settle-new.result c.entry.result.1.now c.bytes.result.now c.requires.sound
+    c.entry.ensures c.bytes.ensures found.1 moved.bytes moved.changes c.swap_ref.ensures list.renamed))

@@ -12,7 +12,8 @@ returns-in-Some-clause-removed g c =
     let e = c.in-Some.ensures in
     let fits : FitsSigned w64 c.in-Some.score = search rules in
     let removes = rw (to_z-of_z w64 c.in-Some.score fits) at c.remove-there.ensures.removes in
-    taken m (g.B.BlockStore.blocks c.give_back.new.self) c.args.self.now c.remove.new.self c.remove-there.new.self c.args.member.now c.in-Some.taken c.in-Some.score c.requires e.removed c.give_back.ensures.ended
+    taken m (g.B.BlockStore.blocks c.give_back.new.self) c.args.self.now c.remove.new.self c.remove-there.new.self c.args.member.now c.in-Some.taken c.in-Some.score c.requires e.removed
+    c.give_back.ensures.ended
     e.keyed c.remove-there.ensures.sorted c.remove-there.result removes e.map e.grown
 
 pub returns-in-Some-clause-served : goal.returns-in-Some-clause-served

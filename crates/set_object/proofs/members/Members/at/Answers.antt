@@ -11,7 +11,9 @@ element_at-requires-clause-place g c =
     let item = c.args.item in
     let spot : Spot m b item c.match-self.place = elim c.match-self.branch [
       | in-Pack w ↦ subst (Spot m b item) (sym w.place-is)
-          (pack_spot m b w.in-Pack.packed item w.offset_of-place.result w.in-Pack.is (subst (λ (bs : List ℕ). IsAt bs item w.offset_of-place.result) (sym (ap (λ (o : Option (List ℕ)). unwrap_or o []) w.bytes.ensures)) w.offset_of-place.ensures) c.requires.entry)
+          (pack_spot m b w.in-Pack.packed item w.offset_of-place.result w.in-Pack.is
+          (subst (λ (bs : List ℕ). IsAt bs item w.offset_of-place.result) (sym (ap (λ (o : Option (List ℕ)). unwrap_or o []) w.bytes.ensures)) w.offset_of-place.ensures)
+          c.requires.entry)
       | in_default w ↦ subst (Spot m b item) (sym w.place-is) (other_spot m b item w.in_default.not-Pack c.requires.entry)
     ] in
     (spot.0, spot.1)
@@ -23,7 +25,9 @@ returns g c =
     let item = c.args.item in
     let spot : Spot m b item c.match-self.place = elim c.match-self.branch [
       | in-Pack w ↦ subst (Spot m b item) (sym w.place-is)
-          (pack_spot m b w.in-Pack.packed item w.offset_of-place.result w.in-Pack.is (subst (λ (bs : List ℕ). IsAt bs item w.offset_of-place.result) (sym (ap (λ (o : Option (List ℕ)). unwrap_or o []) w.bytes.ensures)) w.offset_of-place.ensures) c.requires.entry)
+          (pack_spot m b w.in-Pack.packed item w.offset_of-place.result w.in-Pack.is
+          (subst (λ (bs : List ℕ). IsAt bs item w.offset_of-place.result) (sym (ap (λ (o : Option (List ℕ)). unwrap_or o []) w.bytes.ensures)) w.offset_of-place.ensures)
+          c.requires.entry)
       | in_default w ↦ subst (Spot m b item) (sym w.place-is) (other_spot m b item w.in_default.not-Pack c.requires.entry)
     ] in
     spot.2 ∙ ap Some (sym (c.element_at.ensures spot.0 spot.1))

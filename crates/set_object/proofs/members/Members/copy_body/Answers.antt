@@ -17,7 +17,8 @@ returns-in_ok-at-in-Numbers-clause-placed g c =
     let n = g.B.BlockStore.blocks c.copy_block.new.store in
     let self = c.args.self.now in
     let p = c.in-Numbers.packed in
-    numbers_copied m n self p c.in_ok-at-in-Numbers.at c.requires c.in_ok-at-in-Numbers.ensures.placed c.in_ok-at-in-Numbers.ensures.changes c.in-Numbers.is (packed_live m (refs_of self.body) p.at (ap refs_of c.in-Numbers.is) c.requires.owned)
+    numbers_copied m n self p c.in_ok-at-in-Numbers.at c.requires c.in_ok-at-in-Numbers.ensures.placed c.in_ok-at-in-Numbers.ensures.changes c.in-Numbers.is
+    (packed_live m (refs_of self.body) p.at (ap refs_of c.in-Numbers.is) c.requires.owned)
 
 pub returns-in_ok-at-in-Pack-clause-placed : goal.returns-in_ok-at-in-Pack-clause-placed
 returns-in_ok-at-in-Pack-clause-placed g c =
@@ -25,4 +26,5 @@ returns-in_ok-at-in-Pack-clause-placed g c =
     let n = g.B.BlockStore.blocks c.copy_block-in-Pack.new.store in
     let self = c.args.self.now in
     let p = c.in-Pack.packed in
-    pack_copied m n self p c.in_ok-at-in-Pack.at c.requires c.in_ok-at-in-Pack.ensures.placed c.in_ok-at-in-Pack.ensures.changes c.in-Pack.is (packed_live m (refs_of self.body) p.at (ap refs_of c.in-Pack.is) c.requires.owned)
+    pack_copied m n self p c.in_ok-at-in-Pack.at c.requires c.in_ok-at-in-Pack.ensures.placed c.in_ok-at-in-Pack.ensures.changes c.in-Pack.is
+    (packed_live m (refs_of self.body) p.at (ap refs_of c.in-Pack.is) c.requires.owned)

@@ -10,7 +10,8 @@ use Rattle.set_object.proofs.members.Members.form_with.Goals as goal
 pub returns-in-Empty : goal.returns-in-Empty
 returns-in-Empty g c =
     let self = c.args.self.now in
-    empty_risen (g.B.BlockStore.blocks c.args.store.now) self.limits self.seed self.body c.args.member.now c.requires.absent c.set_form.result c.is_number.result c.in-Empty.is c.is_number.ensures c.set_form.ensures
+    empty_risen (g.B.BlockStore.blocks c.args.store.now) self.limits self.seed self.body c.args.member.now c.requires.absent c.set_form.result c.is_number.result c.in-Empty.is
+    c.is_number.ensures c.set_form.ensures
 
 pub returns-in-Numbers : goal.returns-in-Numbers
 returns-in-Numbers g c =
@@ -24,4 +25,5 @@ returns-in-Numbers g c =
 pub returns-in-Pack : goal.returns-in-Pack
 returns-in-Pack g c =
     let self = c.args.self.now in
-    pack_risen (g.B.BlockStore.blocks c.args.store.now) self.limits self.seed self.body c.args.member.now c.requires.absent c.set_form-in-Pack.result c.in-Pack.packed c.in-Pack.is c.requires.sound.body c.set_form-in-Pack.ensures
+    pack_risen (g.B.BlockStore.blocks c.args.store.now) self.limits self.seed self.body c.args.member.now c.requires.absent c.set_form-in-Pack.result c.in-Pack.packed c.in-Pack.is
+    c.requires.sound.body c.set_form-in-Pack.ensures

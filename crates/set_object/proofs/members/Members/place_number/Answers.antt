@@ -29,6 +29,9 @@ returns-clause-placed g c =
     let k = c.len-len.ensures m c.requires.sound in
     let bytes = c.add.new.set.items in
     let f = to_z-of_z w64 c.args.n c.ranges.n in
-    let new = add_new m self c.args.n c.in_ok-bytes.bytes.items c.add.result c.in_ok-add.field-0 c.requires.sound (intset_packed self.limits (form_of self) _ c.requires.risen) c.requires.absent c.in_ok-bytes.ensures c.in_ok-add.was (rw f at c.add.ensures.there.0) in
-    number_placed m after self (canonical c.args.n) c.requires.sound (intset_packed self.limits (form_of self) _ c.requires.risen) c.requires.absent c.requires.risen c.in_ok-at.at (c.len-len.result + 1) c.args.n c.in_ok-bytes.bytes.items bytes
-    (c.in_ok-at.ensures.placed ∙ ap (λ bs. with_block m c.in_ok-at.at (Some bs)) c.deref.ensures.value) c.in_ok-at.ensures.changes (omega (arith, k)) c.in_ok-bytes.ensures refl c.ranges.n.sfits c.add.ensures.intset (rw f at c.add.ensures.added new)
+    let new = add_new m self c.args.n c.in_ok-bytes.bytes.items c.add.result c.in_ok-add.field-0 c.requires.sound (intset_packed self.limits (form_of self) _ c.requires.risen)
+    c.requires.absent c.in_ok-bytes.ensures c.in_ok-add.was (rw f at c.add.ensures.there.0) in
+    number_placed m after self (canonical c.args.n) c.requires.sound (intset_packed self.limits (form_of self) _ c.requires.risen) c.requires.absent c.requires.risen c.in_ok-at.at
+    (c.len-len.result + 1) c.args.n c.in_ok-bytes.bytes.items bytes
+    (c.in_ok-at.ensures.placed ∙ ap (λ bs. with_block m c.in_ok-at.at (Some bs)) c.deref.ensures.value) c.in_ok-at.ensures.changes (omega (arith, k)) c.in_ok-bytes.ensures refl
+    c.ranges.n.sfits c.add.ensures.intset (rw f at c.add.ensures.added new)

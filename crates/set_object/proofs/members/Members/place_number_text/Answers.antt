@@ -13,7 +13,9 @@ pub unreachable-requires : goal.unreachable-requires
 unreachable-requires g c =
     let m = g.B.BlockStore.blocks c.args.store.now in
     let self = c.args.self.now in
-    c.in-None.ensures.none (is_text_of c.args.member.now (is_number m m self c.args.member.now c.requires.sound (intset_packed self.limits (form_of self) _ c.requires.risen) c.requires.absent c.requires.risen))
+    c.in-None.ensures.none
+    (is_text_of c.args.member.now
+    (is_number m m self c.args.member.now c.requires.sound (intset_packed self.limits (form_of self) _ c.requires.risen) c.requires.absent c.requires.risen))
 
 pub place_number-requires-clause-absent : goal.place_number-requires-clause-absent
 place_number-requires-clause-absent g c =
@@ -34,4 +36,5 @@ returns-clause-placed g c =
     let n = g.B.BlockStore.blocks c.place_number.new.store in
     let self = c.args.self.now in
     let small : mag c.in-Some.n < 2 ^ 63 = (rw c.in-Some.is at c.read_i64.type_inv).1.1.1.1.0.1 in
-    subst (λ q. IfOk c.place_number.result (λ body. IsPlacedBody m n self body (insert (members m self) q tt))) (sym c.in-Some.ensures.number) (rw (to_z-of_z w64 c.in-Some.n (record { sfits = small })) at c.place_number.ensures.placed)
+    subst (λ q. IfOk c.place_number.result (λ body. IsPlacedBody m n self body (insert (members m self) q tt))) (sym c.in-Some.ensures.number)
+    (rw (to_z-of_z w64 c.in-Some.n (record { sfits = small })) at c.place_number.ensures.placed)

@@ -16,7 +16,8 @@ pub append-requires-clause-fits : goal.append-requires-clause-fits
 append-requires-clause-fits g c =
     let m = g.B.BlockStore.blocks c.args.store.now in
     let self = c.args.self.now in
-    pack_room m m self c.args.member.now c.requires.sound (listpack_packed self.limits (form_of self) _ c.requires.risen) c.requires.absent c.requires.risen c.in_ok-bytes.bytes.items c.in_ok-bytes.ensures
+    pack_room m m self c.args.member.now c.requires.sound (listpack_packed self.limits (form_of self) _ c.requires.risen) c.requires.absent c.requires.risen c.in_ok-bytes.bytes.items
+    c.in_ok-bytes.ensures
 
 pub overflow_add-len : goal.overflow_add-len
 overflow_add-len g c =
@@ -32,6 +33,8 @@ returns-clause-placed g c =
     let n = g.B.BlockStore.blocks c.put_block.new.store in
     let self = c.args.self.now in
     let k = c.len-len.ensures m c.requires.sound in
-    let pushed = pack_pushed (listed_of m self.body) c.in_ok-bytes.bytes.items c.append.new.pack.items c.args.member.now _ c.in_ok-bytes.ensures c.in_ok-append.ensures.entries c.in_ok-append.ensures.list in
-    pack_placed m n self c.args.member.now c.requires.sound (listpack_packed self.limits (form_of self) _ c.requires.risen) c.requires.absent c.requires.risen c.in_ok-at.at (c.len-len.result + 1) c.append.new.pack.items
+    let pushed = pack_pushed (listed_of m self.body) c.in_ok-bytes.bytes.items c.append.new.pack.items c.args.member.now _ c.in_ok-bytes.ensures c.in_ok-append.ensures.entries
+    c.in_ok-append.ensures.list in
+    pack_placed m n self c.args.member.now c.requires.sound (listpack_packed self.limits (form_of self) _ c.requires.risen) c.requires.absent c.requires.risen c.in_ok-at.at
+    (c.len-len.result + 1) c.append.new.pack.items
     (c.in_ok-at.ensures.placed ∙ ap (λ bytes. with_block m c.in_ok-at.at (Some bytes)) c.deref.ensures.value) c.in_ok-at.ensures.changes (omega (arith, k)) pushed

@@ -56,5 +56,6 @@ returns-clause-err_blocks g c =
     let n = g.B.BlockStore.blocks c.end_table.new.store in
     let table = c.in_ok-table.table in
     let ended : Changes mid n (key_refs table) [] =
-    subst (λ (b : Blocks). Changes b n (key_refs table) []) c.in-Err.ensures.err_blocks (subst (λ t. Changes (g.B.BlockStore.blocks c.hash_member.new.store) n (key_refs t) []) c.in-Err.ensures.err_table c.end_table.ensures.changes) in
+    subst (λ (b : Blocks). Changes b n (key_refs table) []) c.in-Err.ensures.err_blocks
+    (subst (λ t. Changes (g.B.BlockStore.blocks c.hash_member.new.store) n (key_refs t) []) c.in-Err.ensures.err_table c.end_table.ensures.changes) in
     all_same m n (Changes-then m mid n [] (key_refs table) [] c.in_ok-table.ensures.hashed.changes ended)

@@ -22,4 +22,5 @@ returns-in-Ok-clause-form g c =
     let old = members m c.args.self.now in
     let there : has old c.args.member.now ≡ true = sym c.in_ok-bytes.ensures.there ∙ ap is_some c.in-Some.is in
     c.in-Ok.ensures.form
-    ∙ form_stays (form_of c.args.self.now) (len (remove old c.args.member.now)) (let n = c.len.ensures m c.requires.sound in omega (arith, n, len_taken old c.args.member.now there, c.if-len-eq1.false))
+    ∙ form_stays (form_of c.args.self.now) (len (remove old c.args.member.now))
+    (let n = c.len.ensures m c.requires.sound in omega (arith, n, len_taken old c.args.member.now there, c.if-len-eq1.false))

@@ -8,7 +8,8 @@ use Rattle.set_object.proofs.members.Members.settle_part.Goals as goal
 
 pub returns-in-Table-clause-marks : goal.returns-in-Table-clause-marks
 returns-in-Table-clause-marks g c =
-    same_marks (g.B.BlockStore.heap c.settle_items.new.store) c.in-Table.table c.settle_items.new.table c.args.part.start c.args.part.end c.settle_items.ensures.settled.same_items ∙ ap marks_in (sym c.in-Table.is)
+    same_marks (g.B.BlockStore.heap c.settle_items.new.store) c.in-Table.table c.settle_items.new.table c.args.part.start c.args.part.end c.settle_items.ensures.settled.same_items
+    ∙ ap marks_in (sym c.in-Table.is)
 
 pub returns-in-Table-clause-passed : goal.returns-in-Table-clause-passed
 returns-in-Table-clause-passed g c =
@@ -19,4 +20,5 @@ returns-in-Table-clause-passed g c =
 
 pub returns-in-Table-clause-vacant : goal.returns-in-Table-clause-vacant
 returns-in-Table-clause-vacant g c =
-    ap (vacant_below c.settle_items.new.table) c.settle_items.ensures.settled.top ∙ vacant_same c.in-Table.table c.settle_items.new.table c.settle_items.ensures.settled.same_items c.in-Table.table.top ∙ ap vacant_in (sym c.in-Table.is)
+    ap (vacant_below c.settle_items.new.table) c.settle_items.ensures.settled.top
+    ∙ vacant_same c.in-Table.table c.settle_items.new.table c.settle_items.ensures.settled.same_items c.in-Table.table.top ∙ ap vacant_in (sym c.in-Table.is)

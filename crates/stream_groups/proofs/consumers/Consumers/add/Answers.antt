@@ -10,15 +10,21 @@ gap names here name at made is same h = subst (λ xs. IsGap xs (bytes_of made) a
 
 pub invariant_of-self-in-Err : goal.invariant_of-self-in-Err
 invariant_of-self-in-Err c = subst Rise (sym c.in_ok-insert-in-Err.ensures.items) (rise-gap c.self.inside.names.items c.in_ok-clone-in-Err.field-0 c.in-Err.at c.self.invariant
-    (gap c.self.inside.names.items c.deref.result.now c.args.name.now c.in-Err.at c.in_ok-clone-in-Err.field-0 c.deref.ensures.value (ap (λ v. v.items) (c.in_ok-clone-in-Err.ensures.cases ∙ c.in_ok-known-in-Err.ensures.ok) ∙ c.in_ok-from_slice-in-Err.ensures.items) c.in-Err.ensures.absent))
+    (gap c.self.inside.names.items c.deref.result.now c.args.name.now c.in-Err.at c.in_ok-clone-in-Err.field-0 c.deref.ensures.value
+    (ap (λ v. v.items) (c.in_ok-clone-in-Err.ensures.cases ∙ c.in_ok-known-in-Err.ensures.ok) ∙ c.in_ok-from_slice-in-Err.ensures.items) c.in-Err.ensures.absent))
 
 pub returns-in_ok-clone-in-Ok-clause-ok : goal.returns-in_ok-clone-in-Ok-clause-ok
-returns-in_ok-clone-in-Ok-clause-ok c = sym (put-known c.args.self.now c.args.name.now (get-known c.self.inside.names.items c.args.self.now c.args.name.now c.in-Ok.at c.self.invariant c.self.view_is (subst (λ xs. IsAt xs c.args.name.now c.in-Ok.at) c.deref.ensures.value c.in-Ok.ensures.found)))
+returns-in_ok-clone-in-Ok-clause-ok c = sym
+    (put-known c.args.self.now c.args.name.now
+    (get-known c.self.inside.names.items c.args.self.now c.args.name.now c.in-Ok.at c.self.invariant c.self.view_is
+    (subst (λ xs. IsAt xs c.args.name.now c.in-Ok.at) c.deref.ensures.value c.in-Ok.ensures.found)))
 
 pub returns-in_ok-insert-in-Err-clause-ok : goal.returns-in_ok-insert-in-Err-clause-ok
 returns-in_ok-insert-in-Err-clause-ok c =
-    let same : bytes_of c.in_ok-clone-in-Err.field-0 ≡ c.args.name.now = ap (λ v. v.items) (c.in_ok-clone-in-Err.ensures.cases ∙ c.in_ok-known-in-Err.ensures.ok) ∙ c.in_ok-from_slice-in-Err.ensures.items in
+    let same : bytes_of c.in_ok-clone-in-Err.field-0 ≡ c.args.name.now = ap (λ v. v.items) (c.in_ok-clone-in-Err.ensures.cases ∙ c.in_ok-known-in-Err.ensures.ok)
+    ∙ c.in_ok-from_slice-in-Err.ensures.items in
     ap names_of c.in_ok-insert-in-Err.ensures.items
-    ∙ names-gap c.self.inside.names.items c.in_ok-clone-in-Err.field-0 c.in-Err.at c.self.invariant (gap c.self.inside.names.items c.deref.result.now c.args.name.now c.in-Err.at c.in_ok-clone-in-Err.field-0 c.deref.ensures.value same c.in-Err.ensures.absent)
+    ∙ names-gap c.self.inside.names.items c.in_ok-clone-in-Err.field-0 c.in-Err.at c.self.invariant
+    (gap c.self.inside.names.items c.deref.result.now c.args.name.now c.in-Err.at c.in_ok-clone-in-Err.field-0 c.deref.ensures.value same c.in-Err.ensures.absent)
     ∙ ap (λ m. map.insert m (bytes_of c.in_ok-clone-in-Err.field-0) tt) c.self.view_is
     ∙ ap (λ n. map.insert c.args.self.now n tt) same

@@ -8,4 +8,5 @@ pub invariant_of-self-2 : goal.invariant_of-self-2
 invariant_of-self-2 c =
     let same : c.unwrap-name.result.now.value.items ≡ c.args.consumer.now = subst (λ o. IfSome o (λ known. known.now.value.items ≡ c.args.consumer.now)) c.unwrap-name.ensures c.get.ensures.same in
     let known : map.contains_key c.self.inside.consumers c.args.consumer.now ≡ true = ap (λ (g : Group). map.contains_key g.consumers c.args.consumer.now) c.self.view_is ∙ c.requires in
-    subst (AreOwned c.self.inside.consumers) (sym c.in_ok-put.ensures.ok) (owned-put c.self.inside.consumers c.self.inside.pending c.args.id _ c.self.invariant (ap (map.contains_key c.self.inside.consumers) same ∙ known))
+    subst (AreOwned c.self.inside.consumers) (sym c.in_ok-put.ensures.ok)
+    (owned-put c.self.inside.consumers c.self.inside.pending c.args.id _ c.self.invariant (ap (map.contains_key c.self.inside.consumers) same ∙ known))

@@ -9,15 +9,25 @@ use Rattle.stream_groups.proofs.groups.Groups.add_consumer.Goals.{in-None, in-So
 
 pub returns-clause-made : goal.returns-clause-made
 returns-clause-made c = elim c.match-get_mut.branch [
-  | in-None w ↦ rw w.result-is (ap (option_map (λ (group : Group). not (has_consumer c.args.consumer.now group))) (w.in-None.ensures.value ∙ group-found c.self.inside.groups.entries c.args.self.now c.args.name.now c.self.invariant c.self.view_is))
-  | in-Some+in-Ok w ↦ rw w.result-is (ap Some w.in-Ok.ensures.made ∙ ap (option_map (λ (group : Group). not (has_consumer c.args.consumer.now group))) (w.in-Some.ensures.value ∙ group-found c.self.inside.groups.entries c.args.self.now c.args.name.now c.self.invariant c.self.view_is))
+  | in-None w ↦ rw w.result-is
+      (ap (option_map (λ (group : Group). not (has_consumer c.args.consumer.now group)))
+      (w.in-None.ensures.value ∙ group-found c.self.inside.groups.entries c.args.self.now c.args.name.now c.self.invariant c.self.view_is))
+  | in-Some+in-Ok w ↦ rw w.result-is
+      (ap Some w.in-Ok.ensures.made ∙ ap (option_map (λ (group : Group). not (has_consumer c.args.consumer.now group)))
+      (w.in-Some.ensures.value ∙ group-found c.self.inside.groups.entries c.args.self.now c.args.name.now c.self.invariant c.self.view_is))
   | in-Some+in-Err w ↦ rw w.result-is tt
 ]
 
 pub returns-clause-ok : goal.returns-clause-ok
 returns-clause-ok c = elim c.match-get_mut.branch [
-  | in-None w ↦ rw w.result-is (ap (λ g. named (λ (x : Group). x) g.groups.entries) w.self-inside-is ∙ ap (λ m. named (λ (x : Group). x) m.entries) c.get_mut.follows.holds-at-none ∙ c.self.view_is ∙ at-none c.self.inside.groups.entries c.args.self.now c.args.name.now c.self.invariant c.self.view_is (with_consumer c.args.consumer.now) w.in-None.ensures.value)
-  | in-Some+in-Ok w ↦ rw w.result-is (ap (λ g. named (λ (x : Group). x) g.groups.entries) w.self-inside-is ∙ at-some c.self.inside.groups.entries c.args.self.now c.args.name.now c.self.invariant c.self.view_is (c.get_mut.follows.lender w.add_consumer.new.self).entries w.in-Some.group.now w.add_consumer.new.self w.in-Some.ensures.value (c.get_mut.follows.holds w.add_consumer.new.self).0 (c.get_mut.follows.holds w.add_consumer.new.self).4 (with_consumer c.args.consumer.now) w.in-Ok.ensures.ok)
+  | in-None w ↦ rw w.result-is
+      (ap (λ g. named (λ (x : Group). x) g.groups.entries) w.self-inside-is ∙ ap (λ m. named (λ (x : Group). x) m.entries) c.get_mut.follows.holds-at-none ∙ c.self.view_is
+      ∙ at-none c.self.inside.groups.entries c.args.self.now c.args.name.now c.self.invariant c.self.view_is (with_consumer c.args.consumer.now) w.in-None.ensures.value)
+  | in-Some+in-Ok w ↦ rw w.result-is
+      (ap (λ g. named (λ (x : Group). x) g.groups.entries) w.self-inside-is
+      ∙ at-some c.self.inside.groups.entries c.args.self.now c.args.name.now c.self.invariant c.self.view_is (c.get_mut.follows.lender w.add_consumer.new.self).entries w.in-Some.group.now
+      w.add_consumer.new.self w.in-Some.ensures.value (c.get_mut.follows.holds w.add_consumer.new.self).0 (c.get_mut.follows.holds w.add_consumer.new.self).4
+      (with_consumer c.args.consumer.now) w.in-Ok.ensures.ok)
   | in-Some+in-Err w ↦ rw w.result-is tt
 ]
 
@@ -25,5 +35,8 @@ pub returns-clause-err : goal.returns-clause-err
 returns-clause-err c = elim c.match-get_mut.branch [
   | in-None w ↦ rw w.result-is tt
   | in-Some+in-Ok w ↦ rw w.result-is tt
-  | in-Some+in-Err w ↦ rw w.result-is (ap (λ g. named (λ (x : Group). x) g.groups.entries) w.self-inside-is ∙ at-same c.self.inside.groups.entries c.args.self.now c.args.name.now c.self.invariant c.self.view_is (c.get_mut.follows.lender w.add_consumer.new.self).entries w.in-Some.group.now w.add_consumer.new.self w.in-Some.ensures.value (c.get_mut.follows.holds w.add_consumer.new.self).0 (c.get_mut.follows.holds w.add_consumer.new.self).4 w.in-Err.ensures.err)
+  | in-Some+in-Err w ↦ rw w.result-is
+      (ap (λ g. named (λ (x : Group). x) g.groups.entries) w.self-inside-is
+      ∙ at-same c.self.inside.groups.entries c.args.self.now c.args.name.now c.self.invariant c.self.view_is (c.get_mut.follows.lender w.add_consumer.new.self).entries w.in-Some.group.now
+      w.add_consumer.new.self w.in-Some.ensures.value (c.get_mut.follows.holds w.add_consumer.new.self).0 (c.get_mut.follows.holds w.add_consumer.new.self).4 w.in-Err.ensures.err)
 ]

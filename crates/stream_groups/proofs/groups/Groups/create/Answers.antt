@@ -5,13 +5,17 @@ use Rattle.stream_groups.proofs.Uses.{group-found, named-insert}
 use Rattle.stream_groups.proofs.groups.Groups.create.Goals as goal
 
 pub returns-then-contains_key-clause-made : goal.returns-then-contains_key-clause-made
-returns-then-contains_key-clause-made c = ap not (sym c.if-contains_key.true ∙ c.contains_key.ensures ∙ ap is_some (group-found c.self.inside.groups.entries c.args.self.now c.args.name.now c.self.invariant c.self.view_is))
+returns-then-contains_key-clause-made c = ap not
+    (sym c.if-contains_key.true ∙ c.contains_key.ensures ∙ ap is_some (group-found c.self.inside.groups.entries c.args.self.now c.args.name.now c.self.invariant c.self.view_is))
 
 pub returns-then-contains_key-clause-ok : goal.returns-then-contains_key-clause-ok
-returns-then-contains_key-clause-ok c = sym (cond-true _ _ _ (sym (ap is_some (group-found c.self.inside.groups.entries c.args.self.now c.args.name.now c.self.invariant c.self.view_is)) ∙ sym c.contains_key.ensures ∙ c.if-contains_key.true))
+returns-then-contains_key-clause-ok c = sym
+    (cond-true _ _ _
+    (sym (ap is_some (group-found c.self.inside.groups.entries c.args.self.now c.args.name.now c.self.invariant c.self.view_is)) ∙ sym c.contains_key.ensures ∙ c.if-contains_key.true))
 
 pub returns-clause-made : goal.returns-clause-made
-returns-clause-made c = ap not (sym c.if-contains_key.false ∙ c.contains_key.ensures ∙ ap is_some (group-found c.self.inside.groups.entries c.args.self.now c.args.name.now c.self.invariant c.self.view_is))
+returns-clause-made c = ap not
+    (sym c.if-contains_key.false ∙ c.contains_key.ensures ∙ ap is_some (group-found c.self.inside.groups.entries c.args.self.now c.args.name.now c.self.invariant c.self.view_is))
 
 pub returns-clause-ok : goal.returns-clause-ok
 returns-clause-ok c =
@@ -19,4 +23,7 @@ returns-clause-ok c =
     ∙ ap (λ m. insert m c.in_ok-key.key.items c.new.result) c.self.view_is
     ∙ ap (λ name. insert c.args.self.now name c.new.result) c.in_ok-key.ensures.items
     ∙ ap (insert c.args.self.now c.args.name.now) c.new.ensures
-    ∙ sym (cond-false _ _ _ (sym (ap is_some (group-found c.self.inside.groups.entries c.args.self.now c.args.name.now c.self.invariant c.self.view_is)) ∙ sym c.contains_key.ensures ∙ c.if-contains_key.false))
+    ∙ sym
+    (cond-false _ _ _
+    (sym (ap is_some (group-found c.self.inside.groups.entries c.args.self.now c.args.name.now c.self.invariant c.self.view_is)) ∙ sym c.contains_key.ensures
+    ∙ c.if-contains_key.false))

@@ -15,8 +15,15 @@ returns-clause-there c = elim c.match-get_mut.branch [
 
 pub returns-clause-ok : goal.returns-clause-ok
 returns-clause-ok c = elim c.match-get_mut.branch [
-  | in-None w ↦ rw w.result-is (ap (λ g. named (λ (x : Group). x) g.groups.entries) w.self-inside-is ∙ ap (λ m. named (λ (x : Group). x) m.entries) c.get_mut.follows.holds-at-none ∙ c.self.view_is ∙ at-none c.self.inside.groups.entries c.args.self.now c.args.name.now c.self.invariant c.self.view_is (delivered c.args.consumer.now c.args.ids.now c.args.moment) w.in-None.ensures.value)
-  | in-Some+in-Ok w ↦ rw w.result-is (ap (λ g. named (λ (x : Group). x) g.groups.entries) w.self-inside-is ∙ at-some c.self.inside.groups.entries c.args.self.now c.args.name.now c.self.invariant c.self.view_is (c.get_mut.follows.lender w.deliver.new.self).entries w.in-Some.group.now w.deliver.new.self w.in-Some.ensures.value (c.get_mut.follows.holds w.deliver.new.self).0 (c.get_mut.follows.holds w.deliver.new.self).4 (delivered c.args.consumer.now c.args.ids.now c.args.moment) w.in-Ok.ensures.ok)
+  | in-None w ↦ rw w.result-is
+      (ap (λ g. named (λ (x : Group). x) g.groups.entries) w.self-inside-is ∙ ap (λ m. named (λ (x : Group). x) m.entries) c.get_mut.follows.holds-at-none ∙ c.self.view_is
+      ∙ at-none c.self.inside.groups.entries c.args.self.now c.args.name.now c.self.invariant c.self.view_is (delivered c.args.consumer.now c.args.ids.now c.args.moment)
+      w.in-None.ensures.value)
+  | in-Some+in-Ok w ↦ rw w.result-is
+      (ap (λ g. named (λ (x : Group). x) g.groups.entries) w.self-inside-is
+      ∙ at-some c.self.inside.groups.entries c.args.self.now c.args.name.now c.self.invariant c.self.view_is (c.get_mut.follows.lender w.deliver.new.self).entries w.in-Some.group.now
+      w.deliver.new.self w.in-Some.ensures.value (c.get_mut.follows.holds w.deliver.new.self).0 (c.get_mut.follows.holds w.deliver.new.self).4
+      (delivered c.args.consumer.now c.args.ids.now c.args.moment) w.in-Ok.ensures.ok)
   | in-Some+in-Err w ↦ rw w.result-is tt
 ]
 
@@ -24,5 +31,8 @@ pub returns-clause-err : goal.returns-clause-err
 returns-clause-err c = elim c.match-get_mut.branch [
   | in-None w ↦ rw w.result-is tt
   | in-Some+in-Ok w ↦ rw w.result-is tt
-  | in-Some+in-Err w ↦ rw w.result-is (ap (λ g. named (λ (x : Group). x) g.groups.entries) w.self-inside-is ∙ at-same c.self.inside.groups.entries c.args.self.now c.args.name.now c.self.invariant c.self.view_is (c.get_mut.follows.lender w.deliver.new.self).entries w.in-Some.group.now w.deliver.new.self w.in-Some.ensures.value (c.get_mut.follows.holds w.deliver.new.self).0 (c.get_mut.follows.holds w.deliver.new.self).4 w.in-Err.ensures.err)
+  | in-Some+in-Err w ↦ rw w.result-is
+      (ap (λ g. named (λ (x : Group). x) g.groups.entries) w.self-inside-is
+      ∙ at-same c.self.inside.groups.entries c.args.self.now c.args.name.now c.self.invariant c.self.view_is (c.get_mut.follows.lender w.deliver.new.self).entries w.in-Some.group.now
+      w.deliver.new.self w.in-Some.ensures.value (c.get_mut.follows.holds w.deliver.new.self).0 (c.get_mut.follows.holds w.deliver.new.self).4 w.in-Err.ensures.err)
 ]

@@ -7,4 +7,5 @@ pub returns-clause-value : goal.returns-clause-value
 returns-clause-value c = c.is_some.ensures ∙ ap is_some (c.remove.ensures.value ∙ group-found c.self.inside.groups.entries c.args.self.now c.args.name.now c.self.invariant c.self.view_is)
 
 pub returns-clause-new : goal.returns-clause-new
-returns-clause-new c = named-remove (λ g. g) c.self.inside.groups.entries c.self.invariant c.remove.new.self.entries c.remove.ensures.ordered c.args.name.now c.remove.ensures.entries ∙ ap (λ m. remove m c.args.name.now) c.self.view_is
+returns-clause-new c = named-remove (λ g. g) c.self.inside.groups.entries c.self.invariant c.remove.new.self.entries c.remove.ensures.ordered c.args.name.now c.remove.ensures.entries
+    ∙ ap (λ m. remove m c.args.name.now) c.self.view_is

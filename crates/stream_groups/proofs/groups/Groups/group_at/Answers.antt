@@ -6,7 +6,12 @@ use Rattle.stream_groups.proofs.Places.{value-at, nth-none, nth-some}
 use Rattle.stream_groups.proofs.groups.Groups.group_at.Goals as goal
 
 pub returns-in-None : goal.returns-in-None
-returns-in-None c = sym (value-at c.self.inside.groups.entries c.args.self.now c.self.invariant c.self.view_is c.args.index ∙ ap (option_map (λ (e : Name × Group). e.1)) (nth-none c.self.inside.groups.entries c.iter.result c.nth.new.self c.args.index c.iter.ensures.rest c.in-None.ensures.ran))
+returns-in-None c = sym
+    (value-at c.self.inside.groups.entries c.args.self.now c.self.invariant c.self.view_is c.args.index
+    ∙ ap (option_map (λ (e : Name × Group). e.1)) (nth-none c.self.inside.groups.entries c.iter.result c.nth.new.self c.args.index c.iter.ensures.rest c.in-None.ensures.ran))
 
 pub returns-in-Some : goal.returns-in-Some
-returns-in-Some c = sym (value-at c.self.inside.groups.entries c.args.self.now c.self.invariant c.self.view_is c.args.index ∙ ap (option_map (λ (e : Name × Group). e.1)) (nth-some c.self.inside.groups.entries c.iter.result c.nth.new.self c.args.index (c.in-Some.field-0-0, c.in-Some.group) c.iter.ensures.rest c.in-Some.ensures.ran))
+returns-in-Some c = sym
+    (value-at c.self.inside.groups.entries c.args.self.now c.self.invariant c.self.view_is c.args.index
+    ∙ ap (option_map (λ (e : Name × Group). e.1))
+    (nth-some c.self.inside.groups.entries c.iter.result c.nth.new.self c.args.index (c.in-Some.field-0-0, c.in-Some.group) c.iter.ensures.rest c.in-Some.ensures.ran))

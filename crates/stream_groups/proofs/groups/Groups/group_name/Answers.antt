@@ -6,7 +6,12 @@ use Rattle.stream_groups.proofs.Places.{name-at, nth-none, nth-some}
 use Rattle.stream_groups.proofs.groups.Groups.group_name.Goals as goal
 
 pub returns-in-None : goal.returns-in-None
-returns-in-None c = sym (name-at c.self.inside.groups.entries c.args.self.now c.self.invariant c.self.view_is c.args.index ∙ ap (option_map (λ (e : Name × Group). e.0.items)) (nth-none c.self.inside.groups.entries c.iter.result c.nth.new.self c.args.index c.iter.ensures.rest c.in-None.ensures.ran))
+returns-in-None c = sym
+    (name-at c.self.inside.groups.entries c.args.self.now c.self.invariant c.self.view_is c.args.index
+    ∙ ap (option_map (λ (e : Name × Group). e.0.items)) (nth-none c.self.inside.groups.entries c.iter.result c.nth.new.self c.args.index c.iter.ensures.rest c.in-None.ensures.ran))
 
 pub returns-in-Some : goal.returns-in-Some
-returns-in-Some c = ap Some c.as_slice.ensures.value ∙ sym (name-at c.self.inside.groups.entries c.args.self.now c.self.invariant c.self.view_is c.args.index ∙ ap (option_map (λ (e : Name × Group). e.0.items)) (nth-some c.self.inside.groups.entries c.iter.result c.nth.new.self c.args.index (c.in-Some.name, c.in-Some.field-0-1) c.iter.ensures.rest c.in-Some.ensures.ran))
+returns-in-Some c = ap Some c.as_slice.ensures.value ∙ sym
+    (name-at c.self.inside.groups.entries c.args.self.now c.self.invariant c.self.view_is c.args.index
+    ∙ ap (option_map (λ (e : Name × Group). e.0.items))
+    (nth-some c.self.inside.groups.entries c.iter.result c.nth.new.self c.args.index (c.in-Some.name, c.in-Some.field-0-1) c.iter.ensures.rest c.in-Some.ensures.ran))

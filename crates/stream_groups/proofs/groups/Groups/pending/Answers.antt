@@ -7,4 +7,5 @@ pub returns-in-None : goal.returns-in-None
 returns-in-None c = subst (λ o. Tells o None) (c.in-None.ensures.value ∙ group-found c.self.inside.groups.entries c.args.self.now c.args.name.now c.self.invariant c.self.view_is) tt
 
 pub returns-in-Ok : goal.returns-in-Ok
-returns-in-Ok c = subst (λ o. Tells o (Some c.in-Ok.waiting)) (c.in-Some.ensures.value ∙ group-found c.self.inside.groups.entries c.args.self.now c.args.name.now c.self.invariant c.self.view_is) c.in-Ok.ensures
+returns-in-Ok c = subst (λ o. Tells o (Some c.in-Ok.waiting))
+    (c.in-Some.ensures.value ∙ group-found c.self.inside.groups.entries c.args.self.now c.args.name.now c.self.invariant c.self.view_is) c.in-Ok.ensures

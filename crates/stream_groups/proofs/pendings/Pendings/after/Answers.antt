@@ -10,7 +10,8 @@ returns-in-None-next c =
       | in-None w ↦ from-all c.match-above.start c.args.above c.self.inside.entries.entries w.start-is w.in-None.is
       | in-Some w ↦ from-after c.match-above.start c.args.above w.in-Some.id c.self.inside.entries.entries w.start-is w.in-Some.is
     ]) in
-    ap (λ xs. slice_get (list_map seen_as xs) 0) (sym c.in-None-next.ensures.steps.0 ∙ kept) ∙ ap (λ xs. slice_get xs 0) (sym (later-seen c.args.above c.self.inside.entries.entries c.args.self.now c.self.invariant c.self.view_is))
+    ap (λ xs. slice_get (list_map seen_as xs) 0) (sym c.in-None-next.ensures.steps.0 ∙ kept)
+    ∙ ap (λ xs. slice_get xs 0) (sym (later-seen c.args.above c.self.inside.entries.entries c.args.self.now c.self.invariant c.self.view_is))
 
 pub returns-in-Some-next : goal.returns-in-Some-next
 returns-in-Some-next c =
@@ -18,4 +19,5 @@ returns-in-Some-next c =
       | in-None w ↦ from-all c.match-above.start c.args.above c.self.inside.entries.entries w.start-is w.in-None.is
       | in-Some w ↦ from-after c.match-above.start c.args.above w.in-Some.id c.self.inside.entries.entries w.start-is w.in-Some.is
     ]) in
-    ap (λ xs. slice_get (list_map seen_as xs) 0) (sym c.in-Some-next.ensures.steps ∙ kept) ∙ ap (λ xs. slice_get xs 0) (sym (later-seen c.args.above c.self.inside.entries.entries c.args.self.now c.self.invariant c.self.view_is))
+    ap (λ xs. slice_get (list_map seen_as xs) 0) (sym c.in-Some-next.ensures.steps ∙ kept)
+    ∙ ap (λ xs. slice_get xs 0) (sym (later-seen c.args.above c.self.inside.entries.entries c.args.self.now c.self.invariant c.self.view_is))

@@ -20,7 +20,8 @@ pub returns-clause-new : goal.returns-clause-new
 returns-clause-new c = elim c.match-get_mut.branch [
   | in-None w ↦
       ap (λ p. pendings_of p.entries.entries) w.self-inside-is ∙ ap (λ m. pendings_of m.entries) c.get_mut.follows.holds-at-none ∙ c.self.view_is
-      ∙ ap (again_with c.args.self.now c.args.id c.args.moment) (ap (option_map pending_of) w.in-None.ensures.value ∙ pending-found c.self.inside.entries.entries c.args.self.now c.args.id c.self.invariant c.self.view_is)
+      ∙ ap (again_with c.args.self.now c.args.id c.args.moment)
+      (ap (option_map pending_of) w.in-None.ensures.value ∙ pending-found c.self.inside.entries.entries c.args.self.now c.args.id c.self.invariant c.self.view_is)
   | in-Some w ↦
       (let was = w.in-Some.handed.now in
       let next : Handed = record { consumer = was.consumer; moment = c.args.moment; count = w.saturating_add-handed.result } in
@@ -29,5 +30,6 @@ returns-clause-new c = elim c.match-get_mut.branch [
       ap (λ p. pendings_of p.entries.entries) w.self-inside-is
       ∙ pending-written c.self.inside.entries.entries (c.get_mut.follows.lender next).entries c.args.self.now c.args.id was next c.self.invariant c.self.view_is found written.0 written.4
       ∙ ap (λ n. map.insert c.args.self.now c.args.id (record { consumer = was.consumer.value.items; moment = c.args.moment; count = n })) w.saturating_add-handed.ensures
-      ∙ ap (again_with c.args.self.now c.args.id c.args.moment) (ap (option_map pending_of) found ∙ pending-found c.self.inside.entries.entries c.args.self.now c.args.id c.self.invariant c.self.view_is))
+      ∙ ap (again_with c.args.self.now c.args.id c.args.moment)
+      (ap (option_map pending_of) found ∙ pending-found c.self.inside.entries.entries c.args.self.now c.args.id c.self.invariant c.self.view_is))
 ]

@@ -14,7 +14,9 @@ nothing_there [] b f h = refl
 nothing_there (e ∷ es) b f h = absurd (true≢false (sym (h (omega arith)) ∙ f))
 
 pub returns-in-None : goal.returns-in-None
-returns-in-None c = sym (key-seen c.self.inside.entries.entries c.args.self.now c.self.invariant c.self.view_is 0 ∙ ap (option_map (λ (e : Id × Handed). e.0)) (nothing_there c.self.inside.entries.entries false refl c.in-None.ensures.variant.1))
+returns-in-None c = sym
+    (key-seen c.self.inside.entries.entries c.args.self.now c.self.invariant c.self.view_is 0
+    ∙ ap (option_map (λ (e : Id × Handed). e.0)) (nothing_there c.self.inside.entries.entries false refl c.in-None.ensures.variant.1))
 
 pub returns-in-Some : goal.returns-in-Some
 returns-in-Some c = sym (key-seen c.self.inside.entries.entries c.args.self.now c.self.invariant c.self.view_is 0 ∙ ap (option_map (λ (e : Id × Handed). e.0)) c.in-Some.ensures.first)

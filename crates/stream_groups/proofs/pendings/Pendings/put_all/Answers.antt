@@ -9,12 +9,15 @@ use Rattle.stream_groups.proofs.Undoing.{put-step, placed-step}
 use Rattle.stream_groups.proofs.pendings.Pendings.put_all.Goals as goal
 
 -- one more put, where the log is as long as what was put
-stepped : (p new : Pendings) (ids : List Id) (ws after : List (Option Handed)) (was : Option Handed) (n : ℕ) (d : Id) (e : Pending) → length ws ≡ n → n < length ids → option_map pending_of was ≡ map.get p (get_or ids n d)
+stepped : (p new : Pendings) (ids : List Id) (ws after : List (Option Handed)) (was : Option Handed) (n : ℕ) (d : Id) (e : Pending) → length ws ≡ n → n < length ids
+    → option_map pending_of was ≡ map.get p (get_or ids n d)
     → new ≡ map.insert p (get_or ids n d) e → after ≡ ws ++ was ∷ [] → undone new (take (n + 1) ids) (logged after) ≡ undone p (take n ids) (logged ws)
 stepped p new ids ws after was n d e size within is put items =
     ap (λ q. undone q (take (n + 1) ids) (logged after)) put
     ∙ ap (λ xs. undone (map.insert p (get_or ids n d) e) (take (n + 1) ids) (logged xs)) items
-    ∙ subst (λ k. k < length ids → option_map pending_of was ≡ map.get p (get_or ids k d) → undone (map.insert p (get_or ids k d) e) (take (k + 1) ids) (logged (ws ++ was ∷ [])) ≡ undone p (take k ids) (logged ws)) size (put-step p ids ws was d e) within is
+    ∙ subst
+    (λ k. k < length ids → option_map pending_of was ≡ map.get p (get_or ids k d)
+    → undone (map.insert p (get_or ids k d) e) (take (k + 1) ids) (logged (ws ++ was ∷ [])) ≡ undone p (take k ids) (logged ws)) size (put-step p ids ws was d e) within is
 
 pub loop-id-preserved : goal.loop-id-preserved
 loop-id-preserved c =
@@ -23,6 +26,8 @@ loop-id-preserved c =
     record {
       kept = ap length c.push_reserved.ensures.items ∙ length-append c.loop-id.log.items (c.in-Ok.was ∷ []) ∙ ap (λ k. k + 1) c.loop-id.invariant.kept;
       room = subst (λ k. length ids ≤ k) (sym c.push_reserved.ensures.capacity) c.loop-id.invariant.room;
-      undo = stepped c.loop-id.self c.put.new.self ids c.loop-id.log.items c.push_reserved.new.self.items c.in-Ok.was c.loop-id.id-index (0, 0) entry c.loop-id.invariant.kept c.loop-id-test.true c.in-Ok.ensures.was c.in-Ok.ensures.ok c.push_reserved.ensures.items ∙ c.loop-id.invariant.undo;
-      placed_so_far = ap (λ q. placed q (drop (c.loop-id.id-index + 1) ids) entry) c.in-Ok.ensures.ok ∙ placed-step c.loop-id.self ids c.loop-id.id-index (0, 0) entry c.loop-id-test.true ∙ c.loop-id.invariant.placed_so_far;
+      undo = stepped c.loop-id.self c.put.new.self ids c.loop-id.log.items c.push_reserved.new.self.items c.in-Ok.was c.loop-id.id-index (0, 0) entry c.loop-id.invariant.kept
+          c.loop-id-test.true c.in-Ok.ensures.was c.in-Ok.ensures.ok c.push_reserved.ensures.items ∙ c.loop-id.invariant.undo;
+      placed_so_far = ap (λ q. placed q (drop (c.loop-id.id-index + 1) ids) entry) c.in-Ok.ensures.ok ∙ placed-step c.loop-id.self ids c.loop-id.id-index (0, 0) entry c.loop-id-test.true
+          ∙ c.loop-id.invariant.placed_so_far;
     }

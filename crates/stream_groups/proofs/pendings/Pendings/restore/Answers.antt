@@ -11,7 +11,8 @@ use Rattle.stream_groups.proofs.Uses.{pending-written, pending-there, numbered-r
 use Rattle.stream_groups.proofs.pendings.Pendings.restore.Goals as goal
 
 -- an id that is pending gets its entry
-there : (pending : Pendings) (id : Id) (handed : Handed) (was : Option Handed) → was ≡ Some handed → map.contains_key pending id ≡ true → map.insert pending id (pending_of handed) ≡ restored pending id (option_map pending_of was)
+there : (pending : Pendings) (id : Id) (handed : Handed) (was : Option Handed) → was ≡ Some handed → map.contains_key pending id ≡ true
+    → map.insert pending id (pending_of handed) ≡ restored pending id (option_map pending_of was)
 there pending id handed was is known = sym (cond-true _ _ _ known) ∙ ap (λ w. restored pending id (option_map pending_of w)) (sym is)
 
 -- an id that isn't pending gets none
@@ -26,11 +27,14 @@ pub returns-in-Some-get_mut : goal.returns-in-Some-get_mut
 returns-in-Some-get_mut c =
     let found : Some c.in-Some-get_mut.slot.now ≡ lookup (eq_by_cmp id_cmp c.args.id) c.self.inside.entries.entries = c.in-Some-get_mut.ensures.value in
     let written = c.get_mut.follows.holds c.in-Some.handed in
-    pending-written c.self.inside.entries.entries (c.get_mut.follows.lender c.in-Some.handed).entries c.args.self.now c.args.id c.in-Some-get_mut.slot.now c.in-Some.handed c.self.invariant c.self.view_is found written.0 written.4
-    ∙ there c.args.self.now c.args.id c.in-Some.handed c.args.was c.in-Some.is (sym (pending-there c.self.inside.entries.entries c.args.self.now c.args.id c.self.invariant c.self.view_is) ∙ sym (ap is_some found))
+    pending-written c.self.inside.entries.entries (c.get_mut.follows.lender c.in-Some.handed).entries c.args.self.now c.args.id c.in-Some-get_mut.slot.now c.in-Some.handed c.self.invariant
+    c.self.view_is found written.0 written.4
+    ∙ there c.args.self.now c.args.id c.in-Some.handed c.args.was c.in-Some.is
+    (sym (pending-there c.self.inside.entries.entries c.args.self.now c.args.id c.self.invariant c.self.view_is) ∙ sym (ap is_some found))
 
 pub returns-in_default : goal.returns-in_default
 returns-in_default c =
     let found : None ≡ lookup (eq_by_cmp id_cmp c.args.id) c.self.inside.entries.entries = c.in_default.ensures.value in
     ap (λ m. pendings_of m.entries) c.get_mut.follows.holds-at-none ∙ c.self.view_is
-    ∙ missing c.args.self.now c.args.id c.in-Some.handed c.args.was c.in-Some.is (sym (pending-there c.self.inside.entries.entries c.args.self.now c.args.id c.self.invariant c.self.view_is) ∙ sym (ap is_some found))
+    ∙ missing c.args.self.now c.args.id c.in-Some.handed c.args.was c.in-Some.is
+    (sym (pending-there c.self.inside.entries.entries c.args.self.now c.args.id c.self.invariant c.self.view_is) ∙ sym (ap is_some found))

@@ -16,7 +16,8 @@ loop-handed-init c =
     let seen : map.entries c.args.self.now ≡ list_map seen_as es = ap map.entries (sym c.self.view_is) ∙ numbered-entries pending_of es c.self.invariant in
     record {
       small = subst (λ n. n < 2 ^ 63) (sym (ap length seen ∙ length-map es seen_as)) c.iter-rest.ensures.fits;
-      tallying = subst (λ xs. IsTallying c.new-counts.result xs (map.entries c.args.self.now)) (seen ∙ ap (list_map seen_as) (sym c.iter-rest.ensures.rest)) (tally-init c.new-counts.result (map.entries c.args.self.now) c.new-counts.ensures);
+      tallying = subst (λ xs. IsTallying c.new-counts.result xs (map.entries c.args.self.now)) (seen ∙ ap (list_map seen_as) (sym c.iter-rest.ensures.rest))
+          (tally-init c.new-counts.result (map.entries c.args.self.now) c.new-counts.ensures);
     }
 
 pub loop-handed-preserved : goal.loop-handed-preserved

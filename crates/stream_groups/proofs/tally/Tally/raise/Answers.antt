@@ -23,7 +23,8 @@ returns-clause-new c = elim c.match-get_mut.branch [
       (let found = w.in-Some.ensures.value ∙ count-found c.self.inside.counts.entries c.args.self.now c.args.name.now c.self.invariant c.self.view_is in
       let written = c.get_mut.follows.holds w.saturating_add.result in
       ap (λ t. named (λ (n : ℕ). n) t.counts.entries) w.self-inside-is
-      ∙ named-set (λ (n : ℕ). n) c.self.inside.counts.entries c.self.invariant (c.get_mut.follows.lender w.saturating_add.result).entries written.4 c.args.name.now w.saturating_add.result (sym (ap is_some w.in-Some.ensures.value)) written.0
+      ∙ named-set (λ (n : ℕ). n) c.self.inside.counts.entries c.self.invariant (c.get_mut.follows.lender w.saturating_add.result).entries written.4 c.args.name.now w.saturating_add.result
+      (sym (ap is_some w.in-Some.ensures.value)) written.0
       ∙ ap (λ m. map.insert m c.args.name.now w.saturating_add.result) c.self.view_is
       ∙ ap (map.insert c.args.self.now c.args.name.now) (w.saturating_add.ensures ∙ ap one_more found)
       ∙ sym (cond-true _ _ _ (sym (ap is_some found))))

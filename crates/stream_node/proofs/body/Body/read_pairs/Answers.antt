@@ -14,14 +14,19 @@ returns-then-len-eq0-clause-none c =
 
 pub returns-in_err-end-clause-none : goal.returns-in_err-end-clause-none
 returns-in_err-end-clause-none c =
-    when_none _ (lacks_pairs (master_of c.args.head.now) (rest_of c.args.list.now) (rest_of c.in_ok-len.fields) c.in_ok-len.len c.in_ok-len.ensures.small c.in_ok-len.ensures.some c.in_err-end.ensures.none)
+    when_none _
+    (lacks_pairs (master_of c.args.head.now) (rest_of c.args.list.now) (rest_of c.in_ok-len.fields) c.in_ok-len.len c.in_ok-len.ensures.small c.in_ok-len.ensures.some
+    c.in_err-end.ensures.none)
 
 pub returns-in_err-behind-clause-none : goal.returns-in_err-behind-clause-none
 returns-in_err-behind-clause-none c =
-    when_none _ (lacks_pairs_end (master_of c.args.head.now) (rest_of c.args.list.now) (rest_of c.in_ok-len.fields) (rest_of c.in_ok-end.end) c.in_ok-len.len c.in_ok-len.ensures.small c.in_ok-len.ensures.some
+    when_none _
+    (lacks_pairs_end (master_of c.args.head.now) (rest_of c.args.list.now) (rest_of c.in_ok-len.fields) (rest_of c.in_ok-end.end) c.in_ok-len.len c.in_ok-len.ensures.small
+    c.in_ok-len.ensures.some
     c.in_ok-end.ensures.some c.in_err-behind.ensures.none)
 
 pub returns-clause-some : goal.returns-clause-some
 returns-clause-some c =
-    is_pairs (master_of c.args.head.now) (rest_of c.args.list.now) (rest_of c.in_ok-len.fields) (rest_of c.in_ok-end.end) (rest_of c.in_ok-behind.behind) c.in_ok-len.len c.in_ok-len.ensures.small (omega arith)
+    is_pairs (master_of c.args.head.now) (rest_of c.args.list.now) (rest_of c.in_ok-len.fields) (rest_of c.in_ok-end.end) (rest_of c.in_ok-behind.behind) c.in_ok-len.len
+    c.in_ok-len.ensures.small (omega arith)
     c.in_ok-len.ensures.some c.in_ok-end.ensures.enough c.in_ok-end.ensures.some c.in_ok-behind.ensures.some

@@ -22,4 +22,5 @@ pub returns-clause-some : goal.returns-clause-some
 returns-clause-some c =
     let head = c.args.head.now in
     let many = length-take-le head.count (rest_of head.fields) head.enough in
-    is_values (master_of head) (rest_of c.args.list.now) (rest_of c.in_ok-end.end) (rest_of c.in_ok-behind.behind) head.count many c.in_ok-end.ensures.enough c.in_ok-end.ensures.some c.in_ok-behind.ensures.some
+    is_values (master_of head) (rest_of c.args.list.now) (rest_of c.in_ok-end.end) (rest_of c.in_ok-behind.behind) head.count many c.in_ok-end.ensures.enough c.in_ok-end.ensures.some
+    c.in_ok-behind.ensures.some

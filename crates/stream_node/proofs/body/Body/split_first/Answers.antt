@@ -22,4 +22,5 @@ unreachable-requires c =
 pub returns-clause-some : goal.returns-clause-some
 returns-clause-some c =
     let b = c.args.self.now in
-    split_pairs b.same b.len (rest_of b.fields) (rest_of b.values) (rest_of c.in-Some.fields) (rest_of c.in-Some.values) (element_text c.in-Some.field, element_text c.in-Some.value) (omega arith) c.in-Some.ensures.some
+    split_pairs b.same b.len (rest_of b.fields) (rest_of b.values) (rest_of c.in-Some.fields) (rest_of c.in-Some.values) (element_text c.in-Some.field, element_text c.in-Some.value)
+    (omega arith) c.in-Some.ensures.some

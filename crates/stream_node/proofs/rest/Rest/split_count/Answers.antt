@@ -9,4 +9,5 @@ returns-in_err-number-clause-none c = when_none c.from_residual.result (no_numbe
 
 pub returns-then-number-lt0-clause-none : goal.returns-then-number-lt0-clause-none
 returns-then-number-lt0-clause-none c =
-    no_count (rest_of c.args.self.now) (rest_of c.in_ok-number.behind) c.in_ok-number.number c.in_ok-number.ensures.fits (rw (to_z-of_z w64 c.in_ok-number.number c.in_ok-number.ensures.fits) at c.if-number-lt0.true) c.in_ok-number.ensures.some
+    no_count (rest_of c.args.self.now) (rest_of c.in_ok-number.behind) c.in_ok-number.number c.in_ok-number.ensures.fits
+    (rw (to_z-of_z w64 c.in_ok-number.number c.in_ok-number.ensures.fits) at c.if-number-lt0.true) c.in_ok-number.ensures.some

@@ -22,4 +22,5 @@ append-requires-clause-short g c = addable_short c.args.id c.args.pairs.now c.re
 pub returns-in-Ok-clause-added : goal.returns-in-Ok-clause-added
 returns-in-Ok-clause-added g c =
     let m = g.B.BlockStore.blocks c.args.store.now in
-    counted_added m _ c.args.self.now c.append.new.self _ c.args.id c.args.pairs.now c.in-Ok.ensures.appended (ap (λ s. s.added) c.in-Ok.ensures.appended.value_is) refl refl refl refl refl refl (ap (λ (n : ℕ). (n + 1) % 2 ^ 64) (ap (λ s. s.added) c.in-Ok.ensures.appended.value_is))
+    counted_added m _ c.args.self.now c.append.new.self _ c.args.id c.args.pairs.now c.in-Ok.ensures.appended (ap (λ s. s.added) c.in-Ok.ensures.appended.value_is) refl refl refl refl refl
+    refl (ap (λ (n : ℕ). (n + 1) % 2 ^ 64) (ap (λ s. s.added) c.in-Ok.ensures.appended.value_is))

@@ -48,9 +48,11 @@ nodes-preserved g c =
     let n : IsNear true (nodes m s) c.nodes.at p = subst (λ (ps : List Part). IsNear true ps c.nodes.at p) same_nodes c.in-Some.ensures.some in
     let bytes = c.deref.ensures.value ∙ c.in_ok-bytes.ensures.items in
     record {
-      made = made_more m mid s is old tree c.requires.none (parts_of mid tree) i.made c.nodes.at p n i.same after c.put_last.new.tree spot.key c.deref.result.now refl bytes refl c.in_ok-put_last.field-0 c.in_ok-put_last.ensures.placed;
+      made = made_more m mid s is old tree c.requires.none (parts_of mid tree) i.made c.nodes.at p n i.same after c.put_last.new.tree spot.key c.deref.result.now refl bytes refl
+          c.in_ok-put_last.field-0 c.in_ok-put_last.ensures.placed;
       same = subst (λ (ps : List Part). AreSame ps (parts_of after c.put_last.new.tree)) (sym (behind_next m s is c.nodes.at p n c.in-Some-next.next c.in-Some-next.ensures.some))
-          (same_more m mid s is old tree c.requires.none (parts_of mid tree) i.made c.nodes.at p n i.same after c.put_last.new.tree spot.key c.deref.result.now refl bytes refl c.in_ok-put_last.field-0 c.in_ok-put_last.ensures.placed);
+          (same_more m mid s is old tree c.requires.none (parts_of mid tree) i.made c.nodes.at p n i.same after c.put_last.new.tree spot.key c.deref.result.now refl bytes refl
+          c.in_ok-put_last.field-0 c.in_ok-put_last.ensures.placed);
       served = Served-then _ _ _ i.served c.put_last.ensures.served;
     }
 
@@ -80,7 +82,8 @@ returns-in-None-clause-made g c =
     let p : Part = part spot.key spot.at spot.bytes.now in
     let same_nodes = nodes_still m mid s is old tree c.requires.none (parts_of mid tree) i.made in
     let n : IsNear true (nodes m s) c.nodes.at p = subst (λ (ps : List Part). IsNear true ps c.nodes.at p) same_nodes c.in-Some.ensures.some in
-    made_more m mid s is old tree c.requires.none (parts_of mid tree) i.made c.nodes.at p n i.same after c.put_last.new.tree spot.key c.deref.result.now refl (c.deref.ensures.value ∙ c.in_ok-bytes.ensures.items) refl c.in_ok-put_last.field-0 c.in_ok-put_last.ensures.placed
+    made_more m mid s is old tree c.requires.none (parts_of mid tree) i.made c.nodes.at p n i.same after c.put_last.new.tree spot.key c.deref.result.now refl
+    (c.deref.ensures.value ∙ c.in_ok-bytes.ensures.items) refl c.in_ok-put_last.field-0 c.in_ok-put_last.ensures.placed
 
 pub returns-in-None-clause-copied : goal.returns-in-None-clause-copied
 returns-in-None-clause-copied g c =
@@ -97,7 +100,8 @@ returns-in-None-clause-copied g c =
     let same_nodes = nodes_still m mid s is old tree c.requires.none (parts_of mid tree) i.made in
     let n : IsNear true (nodes m s) c.nodes.at p = subst (λ (ps : List Part). IsNear true ps c.nodes.at p) same_nodes c.in-Some.ensures.some in
     subst (λ (ps : List Part). AreSame ps (parts_of after c.put_last.new.tree)) (sym (last_place m s is c.nodes.at p n c.in-None.ensures.none))
-    (same_more m mid s is old tree c.requires.none (parts_of mid tree) i.made c.nodes.at p n i.same after c.put_last.new.tree spot.key c.deref.result.now refl (c.deref.ensures.value ∙ c.in_ok-bytes.ensures.items) refl c.in_ok-put_last.field-0 c.in_ok-put_last.ensures.placed)
+    (same_more m mid s is old tree c.requires.none (parts_of mid tree) i.made c.nodes.at p n i.same after c.put_last.new.tree spot.key c.deref.result.now refl
+    (c.deref.ensures.value ∙ c.in_ok-bytes.ensures.items) refl c.in_ok-put_last.field-0 c.in_ok-put_last.ensures.placed)
 
 pub returns-in-None-clause-served : goal.returns-in-None-clause-served
 returns-in-None-clause-served g c = Served-then _ _ _ c.nodes.invariant.served c.put_last.ensures.served

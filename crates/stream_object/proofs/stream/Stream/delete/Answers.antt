@@ -34,14 +34,18 @@ returns-in_default-find-clause-found g c =
     let m = g.B.BlockStore.blocks c.args.store.now in
     let id : IsId c.args.id = record { ms = omega arith; seq = omega arith } in
     let spot = c.in-Some.spot in
-    sym (missing_here c.args.id id m (nodes m c.args.self.now) (part spot.key spot.at spot.bytes.now) c.requires.parts.each c.requires.parts.rising c.in-Some.ensures.some c.in_default-find.ensures.none)
+    sym
+    (missing_here c.args.id id m (nodes m c.args.self.now) (part spot.key spot.at spot.bytes.now) c.requires.parts.each c.requires.parts.rising c.in-Some.ensures.some
+    c.in_default-find.ensures.none)
 
 pub returns-in_default-find-clause-deleted : goal.returns-in_default-find-clause-deleted
 returns-in_default-find-clause-deleted g c =
     let m = g.B.BlockStore.blocks c.args.store.now in
     let id : IsId c.args.id = record { ms = omega arith; seq = omega arith } in
     let spot = c.in-Some.spot in
-    unchanged m c.args.self.now c.args.id c.requires (missing_here c.args.id id m (nodes m c.args.self.now) (part spot.key spot.at spot.bytes.now) c.requires.parts.each c.requires.parts.rising c.in-Some.ensures.some c.in_default-find.ensures.none)
+    unchanged m c.args.self.now c.args.id c.requires
+    (missing_here c.args.id id m (nodes m c.args.self.now) (part spot.key spot.at spot.bytes.now) c.requires.parts.each c.requires.parts.rising c.in-Some.ensures.some
+    c.in_default-find.ensures.none)
 
 pub returns-in_default-find-clause-served : goal.returns-in_default-find-clause-served
 returns-in_default-find-clause-served g c = Served-same _ _ refl
@@ -58,7 +62,9 @@ returns-clause-found g c =
     let id : IsId c.args.id = record { ms = omega arith; seq = omega arith } in
     let spot = c.in-Some.spot in
     let found = c.in-Some-find.ensures.some in
-    sym (found_here c.args.id id m (nodes m c.args.self.now) (part spot.key spot.at spot.bytes.now) c.requires.parts.each c.requires.parts.rising c.in-Some.ensures.some c.in-Some-find.index found.0 found.1 found.2)
+    sym
+    (found_here c.args.id id m (nodes m c.args.self.now) (part spot.key spot.at spot.bytes.now) c.requires.parts.each c.requires.parts.rising c.in-Some.ensures.some
+    c.in-Some-find.index found.0 found.1 found.2)
 
 pub returns-clause-deleted : goal.returns-clause-deleted
 returns-clause-deleted g c =
@@ -70,4 +76,5 @@ returns-clause-deleted g c =
     let found = c.in-Some-find.ensures.some in
     let t = c.in_ok-take_out.ensures.loses (record { before = n.before; after = n.after; bytes = spot.bytes.now; place = n.place }) found.0 found.1 in
     lost m after c.args.self.now _ c.args.id id c.requires (part spot.key spot.at spot.bytes.now) n c.in-Some-find.index found.0 found.1 found.2 t
-    (omega (arith, c.requires.counted, some_there m c.args.self.now c.args.id id c.requires (part spot.key spot.at spot.bytes.now) n c.in-Some-find.index found.0 found.1)) refl c.greater_of-self.ensures refl refl c.beside-self.ensures
+    (omega (arith, c.requires.counted, some_there m c.args.self.now c.args.id id c.requires (part spot.key spot.at spot.bytes.now) n c.in-Some-find.index found.0 found.1)) refl
+    c.greater_of-self.ensures refl refl c.beside-self.ensures

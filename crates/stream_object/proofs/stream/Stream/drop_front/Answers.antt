@@ -30,6 +30,7 @@ loop-left-preserved g c =
     record {
       few = omega (arith, i.few);
       len = omega (arith, i.len, h.len);
-      changed = dropped_then m mid after c.args.self.now c.loop-left.self c.drop_some.new.self (c.args.count - c.loop-left.left) n (c.args.count - (c.loop-left.left - n)) (omega (arith, i.few, h.within)) i.changed h.dropped;
+      changed = dropped_then m mid after c.args.self.now c.loop-left.self c.drop_some.new.self (c.args.count - c.loop-left.left) n (c.args.count - (c.loop-left.left - n))
+          (omega (arith, i.few, h.within)) i.changed h.dropped;
       served = Served-then _ _ _ i.served c.drop_some.ensures.served;
     }

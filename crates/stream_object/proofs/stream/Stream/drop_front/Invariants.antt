@@ -7,7 +7,8 @@ abbrev pub invariant-loop-left : goal.invariant-loop-left
 invariant-loop-left g l = record {
   few : l.left ≤ l.fn.count;
   len : l.left ≤ l.self.len;
-  changed : IsChanged (g.B.BlockStore.blocks l.initial.store) (g.B.BlockStore.blocks l.store) l.initial.self l.self (dropping (stream_of (g.B.BlockStore.blocks l.initial.store) l.initial.self) (l.fn.count - l.left));
+  changed : IsChanged (g.B.BlockStore.blocks l.initial.store) (g.B.BlockStore.blocks l.store) l.initial.self l.self
+      (dropping (stream_of (g.B.BlockStore.blocks l.initial.store) l.initial.self) (l.fn.count - l.left));
   served : Served g.B.BlockStore.step l.initial.store l.store;
 }
 

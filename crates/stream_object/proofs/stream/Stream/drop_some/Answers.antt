@@ -39,7 +39,8 @@ returns-then-count-most-clause-dropped g c =
     let n = c.in-Some.ensures.some in
     let spot = c.in-Some.spot in
     let s : Stands (nodes m c.args.self.now) spot.key spot.at = record { before = n.before; after = n.after; bytes = spot.bytes.now; place = n.place } in
-    node_dropped m c.args.self.now _ (part spot.key spot.at spot.bytes.now) refl refl c.requires.is_stream n after _ c.count_live-live.result.count c.count_live-live.ensures.count (c.drop_node.ensures.dropped s) c.beside-self.ensures (omega (arith, c.requires.within)) refl refl refl refl
+    node_dropped m c.args.self.now _ (part spot.key spot.at spot.bytes.now) refl refl c.requires.is_stream n after _ c.count_live-live.result.count c.count_live-live.ensures.count
+    (c.drop_node.ensures.dropped s) c.beside-self.ensures (omega (arith, c.requires.within)) refl refl refl refl
 
 pub returns-then-count-most-clause-some : goal.returns-then-count-most-clause-some
 returns-then-count-most-clause-some g c =
@@ -72,4 +73,5 @@ returns-clause-dropped g c =
     let spot = c.in-Some.spot in
     let s : Stands (nodes m c.args.self.now) spot.key spot.at = record { before = n.before; after = n.after; bytes = spot.bytes.now; place = n.place } in
     let f = c.count_live-live.ensures.first (omega arith) in
-    first_dropped m c.args.self.now _ (part spot.key spot.at spot.bytes.now) refl refl c.requires.is_stream n after _ c.count_live-live.result.first f.0 f.1 f.2 (c.in_ok-mark_out.ensures.loses s f.0 f.1) c.beside-self-2.ensures (omega (arith, c.requires.within, c.requires.some)) refl refl refl refl
+    first_dropped m c.args.self.now _ (part spot.key spot.at spot.bytes.now) refl refl c.requires.is_stream n after _ c.count_live-live.result.first f.0 f.1 f.2
+    (c.in_ok-mark_out.ensures.loses s f.0 f.1) c.beside-self-2.ensures (omega (arith, c.requires.within, c.requires.some)) refl refl refl refl

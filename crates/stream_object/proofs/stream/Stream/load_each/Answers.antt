@@ -52,7 +52,8 @@ load_entry-requires-clause-short g c =
     let pack = c.args.pack.now in
     let is = c.requires.is_node in
     let bytes = bytes_from pack (λ i. omega (arith, c.type_inv.pack i)) in
-    let few = behind_one (λ e. alone_len e.id e.pairs ≤ length pack) c.loop-entry.yielded c.in-Some.entry (left_of c.loop-entry.entry-iterator) (left_of c.next.new.self) (entries_of c.args.key (texts pack))
+    let few = behind_one (λ e. alone_len e.id e.pairs ≤ length pack) c.loop-entry.yielded c.in-Some.entry (left_of c.loop-entry.entry-iterator) (left_of c.next.new.self)
+    (entries_of c.args.key (texts pack))
     (c.loop-entry.invariant.joined ∙ all) c.in-Some.ensures.steps (alone_short c.args.key pack is.pack bytes is.node is.short) in
     omega (arith, few, is.short)
 
@@ -69,9 +70,11 @@ loop-entry-preserved g c =
     let sorted = node_sorted c.args.key list c.requires.is_node.node in
     record {
       joined = walked c.loop-entry.yielded c.in-Some.entry (left_of c.loop-entry.entry-iterator) (left_of c.next.new.self) (left_of c.into_iter-entry-iterator.result) i.joined c.in-Some.ensures.steps;
-      changed = subst (λ es. IsChanged m after c.args.self.now c.load_entry.new.self (loaded (stream_of m c.args.self.now) es)) (sym (map-append stored c.loop-entry.yielded (c.in-Some.entry ∷ []))) then;
+      changed = subst (λ es. IsChanged m after c.args.self.now c.load_entry.new.self (loaded (stream_of m c.args.self.now) es))
+          (sym (map-append stored c.loop-entry.yielded (c.in-Some.entry ∷ []))) then;
       above = above_more after c.load_entry.new.self e.id then.is_stream c.in_ok-load_entry.ensures.last (left_of c.next.new.self)
-          (behind_above c.loop-entry.yielded c.in-Some.entry (left_of c.loop-entry.entry-iterator) (left_of c.next.new.self) (entries_of c.args.key list) (i.joined ∙ all) c.in-Some.ensures.steps sorted);
+          (behind_above c.loop-entry.yielded c.in-Some.entry (left_of c.loop-entry.entry-iterator) (left_of c.next.new.self) (entries_of c.args.key list) (i.joined ∙ all)
+          c.in-Some.ensures.steps sorted);
       upto = λ id old live.
           let each = subst (AreLiveUpto id) (map-append stored c.loop-entry.yielded (c.in-Some.entry ∷ [])) live in
           c.in_ok-load_entry.ensures.upto id (i.upto id old (all-front (λ (x : Stored). x.deleted ≡ false → id_number x.id ≤ id_number id) (map stored c.loop-entry.yielded) (e ∷ []) each))
@@ -88,8 +91,14 @@ returns-in_err-load_entry-clause-err_some g c =
     let all = ap left_of c.into_iter-entry-iterator.ensures.into_iter_gives ∙ c.listed-entry-items.ensures in
     let es = map stored c.loop-entry.yielded in
     let first = first_ones c.loop-entry.yielded (left_of c.loop-entry.entry-iterator) (entries_of c.args.key (texts c.args.pack.now)) (c.loop-entry.invariant.joined ∙ all) in
-    let here = stopped m (g.B.BlockStore.blocks c.loop-entry.store) (g.B.BlockStore.blocks c.load_entry.new.store) c.args.self.now c.loop-entry.self c.load_entry.new.self es c.loop-entry.invariant.changed c.in_err-load_entry.ensures.err_stream c.in_err-load_entry.ensures.err_blocks in
-    told_err c.from_residual.result (length es, first.0, subst (λ xs. IsChanged m (g.B.BlockStore.blocks c.load_entry.new.store) c.args.self.now c.load_entry.new.self (loaded (stream_of m c.args.self.now) xs)) (sym first.1) here)
+    let here = stopped m (g.B.BlockStore.blocks c.loop-entry.store) (g.B.BlockStore.blocks c.load_entry.new.store) c.args.self.now c.loop-entry.self c.load_entry.new.self es
+    c.loop-entry.invariant.changed c.in_err-load_entry.ensures.err_stream c.in_err-load_entry.ensures.err_blocks in
+    told_err c.from_residual.result (
+      length es,
+      first.0,
+      subst (λ xs. IsChanged m (g.B.BlockStore.blocks c.load_entry.new.store) c.args.self.now c.load_entry.new.self (loaded (stream_of m c.args.self.now) xs))
+          (sym first.1) here,
+    )
 
 pub returns-clause-loaded : goal.returns-clause-loaded
 returns-clause-loaded g c =

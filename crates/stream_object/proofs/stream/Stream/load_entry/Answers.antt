@@ -12,7 +12,8 @@ returns-then-deleted-clause-loaded g c =
     let m = g.B.BlockStore.blocks c.args.store.now in
     let e = stored c.args.entry.now in
     let id : IsId c.id-self.result = record { ms = omega arith; seq = omega arith } in
-    marked_loaded m c.args.self.now _ e c.requires.is_stream (subst IsId c.id-self.ensures id) c.requires.below (sym c.deleted.ensures ∙ c.if-deleted.true) (ap (λ i. record c.args.self.now { last = i }) c.id-self.ensures)
+    marked_loaded m c.args.self.now _ e c.requires.is_stream (subst IsId c.id-self.ensures id) c.requires.below (sym c.deleted.ensures ∙ c.if-deleted.true)
+    (ap (λ i. record c.args.self.now { last = i }) c.id-self.ensures)
 
 pub returns-then-deleted-clause-served : goal.returns-then-deleted-clause-served
 returns-then-deleted-clause-served g c = Served-same _ _ refl
@@ -35,7 +36,9 @@ returns-clause-loaded g c =
     let m = g.B.BlockStore.blocks c.args.store.now in
     let after = g.B.BlockStore.blocks c.append.new.store in
     let e = stored c.args.entry.now in
-    on_ok c.append.result (live_loaded m after c.args.self.now c.append.new.self e c.id.result c.in_ok-pairs.pairs (sym c.deleted.ensures ∙ c.if-deleted.false) c.id.ensures c.in_ok-pairs.ensures) c.append.ensures.appended
+    on_ok c.append.result
+    (live_loaded m after c.args.self.now c.append.new.self e c.id.result c.in_ok-pairs.pairs (sym c.deleted.ensures ∙ c.if-deleted.false) c.id.ensures c.in_ok-pairs.ensures)
+    c.append.ensures.appended
 
 pub returns-clause-last : goal.returns-clause-last
 returns-clause-last g c =
@@ -51,4 +54,8 @@ returns-clause-upto g c =
     let m = g.B.BlockStore.blocks c.args.store.now in
     let after = g.B.BlockStore.blocks c.append.new.store in
     let e = stored c.args.entry.now in
-    on_ok c.append.result (λ h. λ id old live. upto_later id c.append.new.self.last (nodes after c.append.new.self) (omega (arith, ap id_number (last_is m after c.args.self.now c.append.new.self c.id.result c.in_ok-pairs.pairs h ∙ c.id.ensures), live.0 (sym c.deleted.ensures ∙ c.if-deleted.false))) h.is_stream.upto) c.append.ensures.appended
+    on_ok c.append.result
+    (λ h. λ id old live. upto_later id c.append.new.self.last (nodes after c.append.new.self)
+    (omega
+    (arith, ap id_number (last_is m after c.args.self.now c.append.new.self c.id.result c.in_ok-pairs.pairs h ∙ c.id.ensures), live.0 (sym c.deleted.ensures ∙ c.if-deleted.false)))
+    h.is_stream.upto) c.append.ensures.appended

@@ -8,4 +8,5 @@ returns-in-Some-clause-err_some g c =
     let m = g.B.BlockStore.blocks c.args.store.now in
     let after = g.B.BlockStore.blocks c.load_whole.new.store in
     let old = c.args.self.now in
-    on_err c.load_whole.result (λ same still. (0, omega arith, stopped m m after old old c.load_whole.new.self [] (loaded_none m old c.requires.is_stream) same still)) c.load_whole.ensures.err_stream c.load_whole.ensures.err_blocks
+    on_err c.load_whole.result (λ same still. (0, omega arith, stopped m m after old old c.load_whole.new.self [] (loaded_none m old c.requires.is_stream) same still))
+    c.load_whole.ensures.err_stream c.load_whole.ensures.err_blocks

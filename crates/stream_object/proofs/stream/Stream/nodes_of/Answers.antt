@@ -9,4 +9,5 @@ pub nodes_of-requires-clause-stands : goal.nodes_of-requires-clause-stands
 nodes_of-requires-clause-stands g c =
     let m = g.B.BlockStore.blocks c.args.store.now in
     let tree = c.args.self.now.tree in
-    ap (λ key. is_some (value_at (entries_of m tree) key)) c.key.ensures ∙ ap is_some (stands_value m tree (nodes m c.args.self.now) c.args.key c.requires.stands.0 c.requires.is_stream.parts c.requires.stands.1)
+    ap (λ key. is_some (value_at (entries_of m tree) key)) c.key.ensures
+    ∙ ap is_some (stands_value m tree (nodes m c.args.self.now) c.args.key c.requires.stands.0 c.requires.is_stream.parts c.requires.stands.1)

@@ -9,7 +9,8 @@ loop-next-init g c =
     let m = g.B.BlockStore.blocks c.args.store.now in
     let w = want c.args.from c.args.to c.args.back c.args.limit in
     record {
-      same = ap (λ xs. take c.args.limit (map taken xs ++ wanted_in w (ahead c.args.back (Some c.begin.result) (nodes m c.args.self.now)))) c.new-found.ensures.items ∙ ap (take c.args.limit) c.begin.ensures;
+      same = ap (λ xs. take c.args.limit (map taken xs ++ wanted_in w (ahead c.args.back (Some c.begin.result) (nodes m c.args.self.now)))) c.new-found.ensures.items
+          ∙ ap (take c.args.limit) c.begin.ensures;
       within = omega (arith, ap length c.new-found.ensures.items);
     }
 
@@ -36,4 +37,5 @@ pub returns : goal.returns
 returns g c =
     let m = g.B.BlockStore.blocks c.args.store.now in
     let w = want c.args.from c.args.to c.args.back c.args.limit in
-    ended w (nodes m c.args.self.now) c.loop-next.found.items (range_of (stream_of m c.args.self.now) c.args.from c.args.to c.args.back c.args.limit) c.loop-next.next c.in_default.is c.loop-next.invariant.within c.loop-next.invariant.same
+    ended w (nodes m c.args.self.now) c.loop-next.found.items (range_of (stream_of m c.args.self.now) c.args.from c.args.to c.args.back c.args.limit) c.loop-next.next c.in_default.is
+    c.loop-next.invariant.within c.loop-next.invariant.same

@@ -17,7 +17,8 @@ returns-clause-ok g c =
     let listed : Some c.in-Some.ids.items ≡ option_map (λ (group : Group). ids_of group.pending consumer (pair_of c.args.above) c.args.limit) (get groups name) =
     (ap (option_map (λ v. v.items)) (sym c.in-Some.is) ∙ c.in_ok-ids.ensures
     ∙ ap (λ (p : Pair). option_map (λ (group : Group). ids_of group.pending consumer p c.args.limit) (get groups name)) c.pair.ensures) in
-    let now = again_changed es consumer (pair_of c.args.above) c.args.limit c.args.moment c.in-Some.ids.items c.in_ok-found.found.items (c.in_ok-found.ensures ∙ ap (with_entries es) c.deref.ensures.value)
+    let now = again_changed es consumer (pair_of c.args.above) c.args.limit c.args.moment c.in-Some.ids.items c.in_ok-found.found.items
+    (c.in_ok-found.ensures ∙ ap (with_entries es) c.deref.ensures.value)
     groups c.add_consumer.new.self c.count_all.new.groups name c.in_ok-add_consumer.ensures.ok
     (c.count_all.ensures ∙ ap (λ (xs : List Again). changed c.add_consumer.new.self name (all_again c.args.moment (map told xs))) c.deref-2.ensures.value) listed in
     λ i. record c.args.self.now { groups = now i }

@@ -8,7 +8,8 @@ abbrev pub invariant-nodes : goal.invariant-nodes
 invariant-nodes g l = record {
   fewer : l.self.len ≤ l.initial.self.len;
   few : l.initial.self.len - l.self.len ≤ count_low l.least (entries (g.B.BlockStore.blocks l.initial.store) l.initial.self);
-  changed : IsChanged (g.B.BlockStore.blocks l.initial.store) (g.B.BlockStore.blocks l.store) l.initial.self l.self (dropping (stream_of (g.B.BlockStore.blocks l.initial.store) l.initial.self) (l.initial.self.len - l.self.len));
+  changed : IsChanged (g.B.BlockStore.blocks l.initial.store) (g.B.BlockStore.blocks l.store) l.initial.self l.self
+      (dropping (stream_of (g.B.BlockStore.blocks l.initial.store) l.initial.self) (l.initial.self.len - l.self.len));
   served : Served g.B.BlockStore.step l.initial.store l.store;
 }
 

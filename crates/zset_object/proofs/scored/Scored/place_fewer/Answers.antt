@@ -8,7 +8,8 @@ use Rattle.zset_object.proofs.scored.Scored.place_fewer.Goals as goal
 pub returns-then-packed-eq1-clause-placed : goal.returns-then-packed-eq1-clause-placed
 returns-then-packed-eq1-clause-placed g c =
     let self = c.args.self.now in
-    last_placed (g.B.BlockStore.blocks c.args.store.now) self.limits self.seed self.body c.args.member.now c.args.packed c.args.index c.requires.sound.body c.requires.body c.requires.first c.if-packed-eq1.true
+    last_placed (g.B.BlockStore.blocks c.args.store.now) self.limits self.seed self.body c.args.member.now c.args.packed c.args.index c.requires.sound.body c.requires.body c.requires.first
+    c.if-packed-eq1.true
 
 pub returns-then-packed-eq1-clause-served : goal.returns-then-packed-eq1-clause-served
 returns-then-packed-eq1-clause-served g c = no_step

@@ -20,7 +20,8 @@ returns-in-Ok-clause-placed g c =
     table_body m n self.limits self.seed c.set.new.self (insert (scores m self) k c.args.score)
     (placed_then m mid n self.seed c.in_ok-table.table c.set.new.self _ _ h
     (subst (λ map. table.IsChanged mid n c.in_ok-table.table c.set.new.self (insert map k c.args.score)) h.scores_are
-    (subst (λ (v : ℤ). table.IsChanged mid n c.in_ok-table.table c.set.new.self (insert (table.scores mid c.in_ok-table.table) k v)) (to_z-of_z w64 c.args.score c.ranges.score) c.in-Ok.ensures.changed)))
+    (subst (λ (v : ℤ). table.IsChanged mid n c.in_ok-table.table c.set.new.self (insert (table.scores mid c.in_ok-table.table) k v)) (to_z-of_z w64 c.args.score c.ranges.score)
+    c.in-Ok.ensures.changed)))
 
 pub returns-in-Ok-clause-served : goal.returns-in-Ok-clause-served
 returns-in-Ok-clause-served g c = Served-then _ _ _ c.table_all.ensures.served c.set.ensures.served
@@ -35,5 +36,6 @@ returns-in-Err-clause-err_blocks g c =
     let n = g.B.BlockStore.blocks c.release.new.store in
     let t = c.in_ok-table.table in
     let ended : Changes mid n (table.refs t) [] =
-    subst (λ (b : Blocks). Changes b n (table.refs t) []) c.in-Err.ensures.err_blocks (subst (λ t. Changes (g.B.BlockStore.blocks c.set.new.store) n (table.refs t) []) c.in-Err.ensures.err_table c.release.ensures.changes) in
+    subst (λ (b : Blocks). Changes b n (table.refs t) []) c.in-Err.ensures.err_blocks
+    (subst (λ t. Changes (g.B.BlockStore.blocks c.set.new.store) n (table.refs t) []) c.in-Err.ensures.err_table c.release.ensures.changes) in
     all_same m n (Changes-then m mid n [] (table.refs t) [] c.in_ok-table.ensures.placed.changes ended)

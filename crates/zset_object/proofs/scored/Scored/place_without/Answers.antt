@@ -15,11 +15,15 @@ returns-in_default g c = record {
 
 pub returns-in-Ok-clause-there : goal.returns-in-Ok-clause-there
 returns-in-Ok-clause-there g c =
-    sym (member_there (g.B.BlockStore.blocks c.args.store.now) c.args.self.now.limits c.args.self.now.body c.in-Pack.packed c.bytes.result.now c.in-Pack.is c.bytes.ensures c.args.member.now c.find_index.result c.find_index.ensures ∙ ap is_some c.in-Some.is)
+    sym
+    (member_there (g.B.BlockStore.blocks c.args.store.now) c.args.self.now.limits c.args.self.now.body c.in-Pack.packed c.bytes.result.now c.in-Pack.is c.bytes.ensures
+    c.args.member.now c.find_index.result c.find_index.ensures ∙ ap is_some c.in-Some.is)
 
 pub returns-in-None-clause-there : goal.returns-in-None-clause-there
 returns-in-None-clause-there g c =
-    sym (member_there (g.B.BlockStore.blocks c.args.store.now) c.args.self.now.limits c.args.self.now.body c.in-Pack.packed c.bytes.result.now c.in-Pack.is c.bytes.ensures c.args.member.now c.find_index.result c.find_index.ensures ∙ ap is_some c.in-None.is)
+    sym
+    (member_there (g.B.BlockStore.blocks c.args.store.now) c.args.self.now.limits c.args.self.now.body c.in-Pack.packed c.bytes.result.now c.in-Pack.is c.bytes.ensures
+    c.args.member.now c.find_index.result c.find_index.ensures ∙ ap is_some c.in-None.is)
 
 pub returns-in-None-clause-served : goal.returns-in-None-clause-served
 returns-in-None-clause-served g c = no_step

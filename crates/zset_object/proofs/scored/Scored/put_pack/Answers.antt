@@ -15,5 +15,6 @@ returns-clause-set g c =
     let n = g.B.BlockStore.blocks c.put_bytes.new.store in
     let self = c.args.self.now in
     let r = c.requires in
-    pack_changed m n self c.in_ok-at.at c.args.count c.in_ok-bytes.bytes.items (insert (scores m self) c.args.member.now c.args.score) r.sound r.packed (c.in_ok-at.ensures.bytes ∙ ap Some c.deref.ensures.value) c.in_ok-at.ensures.changes
+    pack_changed m n self c.in_ok-at.at c.args.count c.in_ok-bytes.bytes.items (insert (scores m self) c.args.member.now c.args.score) r.sound r.packed
+    (c.in_ok-at.ensures.bytes ∙ ap Some c.deref.ensures.value) c.in_ok-at.ensures.changes
     c.in_ok-bytes.ensures.pack (c.in_ok-bytes.ensures.scores ∙ ap (insert (scores m self) c.args.member.now) (to_z-of_z w64 c.args.score c.ranges.score)) r.count r.few c.in_ok-bytes.ensures.short

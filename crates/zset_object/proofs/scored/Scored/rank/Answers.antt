@@ -12,4 +12,5 @@ returns-in-Empty g c = ap (λ (b : Body). get (scores_of (g.B.BlockStore.blocks 
 
 pub returns-in-Pack : goal.returns-in-Pack
 returns-in-Pack g c =
-    rank_read (g.B.BlockStore.blocks c.args.store.now) c.args.self.now.limits c.args.self.now.body c.in-Pack.packed c.bytes.result.now c.in-Pack.is c.bytes.ensures c.args.member.now c.find_index.result c.find_index.ensures
+    rank_read (g.B.BlockStore.blocks c.args.store.now) c.args.self.now.limits c.args.self.now.body c.in-Pack.packed c.bytes.result.now c.in-Pack.is c.bytes.ensures c.args.member.now
+    c.find_index.result c.find_index.ensures

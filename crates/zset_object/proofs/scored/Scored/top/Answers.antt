@@ -10,4 +10,5 @@ pub returns-in-Pack-clause-above : goal.returns-in-Pack-clause-above
 returns-in-Pack-clause-above c = λ m is at some. subst (λ (n : ℕ). at < n) (ap top_in c.in-Pack.is) (below_of m c.args.self.now.limits c.args.self.now.seed c.args.self.now.body is.body at some)
 
 pub returns-in-Table-clause-above : goal.returns-in-Table-clause-above
-returns-in-Table-clause-above c = λ m is at some. subst (λ (n : ℕ). at < n) (ap top_in c.in-Table.is ∙ sym c.top.ensures.value) (below_of m c.args.self.now.limits c.args.self.now.seed c.args.self.now.body is.body at some)
+returns-in-Table-clause-above c = λ m is at some. subst (λ (n : ℕ). at < n) (ap top_in c.in-Table.is ∙ sym c.top.ensures.value)
+    (below_of m c.args.self.now.limits c.args.self.now.seed c.args.self.now.body is.body at some)

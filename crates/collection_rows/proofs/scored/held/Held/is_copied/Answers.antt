@@ -15,4 +15,6 @@ invariant_of-self-2 c =
     let blocks = refs c.in_ok-copy.copy in
     let changes = c.in_ok-copy.ensures.changes in
     let beside = scored_laws_hold.stays before copied s [] blocks (λ r. omega (arith, c.self.invariant.owned r, times-append r (refs s) [])) changes c.self.invariant in
-    scored_laws_hold.stays copied after s blocks [] (λ r. omega (arith, both_owned before copied after (refs s) blocks c.self.invariant.owned changes r, times-append r (refs s) blocks, times-append r blocks (refs s))) c.release.ensures.changes beside
+    scored_laws_hold.stays copied after s blocks []
+    (λ r. omega (arith, both_owned before copied after (refs s) blocks c.self.invariant.owned changes r, times-append r (refs s) blocks, times-append r blocks (refs s)))
+    c.release.ensures.changes beside

@@ -15,11 +15,13 @@ invariant_of-self-2 c =
     let copy = c.in_ok-copy.copy in
     let released : Changes mid n (refs old) [] = subst (λ s. Changes mid n (refs s) []) c.replace.ensures.value c.release.ensures.changes in
     subst (IsScoreTable n) (sym c.replace.ensures.after)
-    (score_table_laws_hold.sound mid n copy (new_kept m mid n (refs old) (refs copy) (score_table_laws_hold.owned m old c.self.invariant) c.in_ok-copy.ensures.copied.changes released) c.in_ok-copy.ensures.copied.sound).0
+    (score_table_laws_hold.sound mid n copy (new_kept m mid n (refs old) (refs copy) (score_table_laws_hold.owned m old c.self.invariant) c.in_ok-copy.ensures.copied.changes released)
+    c.in_ok-copy.ensures.copied.sound).0
 
 pub release-requires : goal.release-requires
 release-requires c =
     let m = plain_blocks c.self.inside.store in
     let mid = plain_blocks c.copy.new.store in
     let old = c.self.inside.table in
-    subst (λ s. Owned (refs s) mid) (sym c.replace.ensures.value) (old_owned m mid (refs old) (refs c.in_ok-copy.copy) (score_table_laws_hold.owned m old c.self.invariant) c.in_ok-copy.ensures.copied.changes)
+    subst (λ s. Owned (refs s) mid) (sym c.replace.ensures.value)
+    (old_owned m mid (refs old) (refs c.in_ok-copy.copy) (score_table_laws_hold.owned m old c.self.invariant) c.in_ok-copy.ensures.copied.changes)
