@@ -5,12 +5,12 @@ use Rattle.std.specs.Int.{bit_at}
 use Rattle.std.specs.Int.Bits.{bit_or}
 
 -- the labels of a node
-abbrev pub at : List ℕ → ℕ → ℕ
-at nodes k = slice_index_or nodes k 0
+abbrev pub word_of : List ℕ → ℕ → ℕ
+word_of nodes k = slice_index_or nodes k 0
 
 -- the node has the labels of either child
 abbrev pub IsUnion : List ℕ → ℕ → Type 0
-IsUnion nodes k = at nodes k ≡ bit_or (at nodes (k + k)) (at nodes (k + k + 1))
+IsUnion nodes k = word_of nodes k ≡ bit_or (word_of nodes (k + k)) (word_of nodes (k + k + 1))
 
 -- all inner nodes do but this one
 abbrev pub IsMendedBut : ℕ → List ℕ → ℕ → Type 0
@@ -23,7 +23,7 @@ IsMended bound nodes = (k : ℕ) → 0 < k → k < bound → IsUnion nodes k
 -- the leaves are the same, and as many
 pub record SameLeaves (bound : ℕ) (before after : List ℕ) : Type 0 where
   pub long : length after ≡ length before
-  pub leaves : (k : ℕ) → bound ≤ k → at after k ≡ at before k
+  pub leaves : (k : ℕ) → bound ≤ k → word_of after k ≡ word_of before k
 
 -- a tree with so many levels below its root, or without a node
 pub record IsTree (bound levels : ℕ) (nodes : List ℕ) : Type 0 where
@@ -35,5 +35,5 @@ pub record IsTree (bound levels : ℕ) (nodes : List ℕ) : Type 0 where
 -- n is the least number with the label
 pub record IsLeastWith (bound : ℕ) (nodes : List ℕ) (label n : ℕ) : Type 0 where
   pub within : n < bound
-  pub has : bit_at (at nodes (bound + n)) label ≡ 1
-  pub least : (m : ℕ) → m < n → bit_at (at nodes (bound + m)) label ≡ 0
+  pub has : bit_at (word_of nodes (bound + n)) label ≡ 1
+  pub least : (m : ℕ) → m < n → bit_at (word_of nodes (bound + m)) label ≡ 0

@@ -1,6 +1,6 @@
 ghost use Rattle.std.specs.Prelude.{◌≡◌, ℕ, ◌+◌, ◌<◌, ◌==◌, false, IsTrue, nat_lt, length, IfOk, IfSome, IfNone, if◌then◌else◌};
 ghost use Rattle.std.specs.Int.{bit_at};
-ghost use Rattle.class_heap.specs.Tree.{IsTree, IsMended, IsMendedBut, SameLeaves, IsLeastWith, at};
+ghost use Rattle.class_heap.specs.Tree.{IsTree, IsMended, IsMendedBut, SameLeaves, IsLeastWith, word_of};
 
 use blocks::Memory;
 use std::alloc::{AllocError, Global};
@@ -89,8 +89,8 @@ impl Directory {
     fn has(&self, node: usize, label: u32) -> bool
         requires inside { node < self.now.bound + self.now.bound }
         requires label { label < 64 }
-        ensures yes { IsTrue result → bit_at (at self.now.nodes.items node) label ≡ 1 }
-        ensures no { result ≡ false → bit_at (at self.now.nodes.items node) label ≡ 0 }
+        ensures yes { IsTrue result → bit_at (word_of self.now.nodes.items node) label ≡ 1 }
+        ensures no { result ≡ false → bit_at (word_of self.now.nodes.items node) label ≡ 0 }
     {
         self.nodes[node] >> label & 1 == 1
     }

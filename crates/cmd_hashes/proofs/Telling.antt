@@ -20,7 +20,7 @@ use Rattle.keyspace.specs.Values.{OfForm, value_refs}
 use Rattle.keyspace.specs.Databases.{Keyspace}
 use Rattle.keyspace.specs.Scopes.{one_key}
 use Rattle.keyspace.specs.Forms.{AsAt, HasForm, Formed, IsHashRisen, IsSourceForm, RisesBy, hash_of, hash_at, hash_to}
-use Rattle.keyspace.specs.Commands.{Held, sight}
+use Rattle.keyspace.specs.Commands.{KeepsTo, visible}
 use Rattle.cmd_hashes.specs.Changed.{HasHash, IsBefore, IsValue, Made, HashChanged}
 use Rattle.cmd_hashes.specs.Set.{IsSet, Unsets}
 
@@ -136,11 +136,11 @@ removed_told old new key names gone before fields from now form stands has u wor
     ∙ ap (leaves reply) (sym world)
 
 module _ {S : Type 0} (own : Made) (blocks : S → Blocks) (step : S → S → Type 0) (old new : Keyspace S) (at : Ctx) (key : List ℕ) (p : HashChanged own keep_hash blocks old new at key)
-    (held : Held blocks step (one_key at.db key) old new) where
+    (held : KeepsTo blocks step (one_key at.db key) old new) where
   -- the hash that was written has risen
-  pub formed_risen : (pairs : List (List ℕ × List ℕ)) → RisesBy old.bases.limits p.from (or_no_fields p.before) pairs p.form → Formed blocks (hash_to at.db (sight blocks old at) key pairs) old new
+  pub formed_risen : (pairs : List (List ℕ × List ℕ)) → RisesBy old.bases.limits p.from (or_no_fields p.before) pairs p.form → Formed blocks (hash_to at.db (visible blocks old at) key pairs) old new
   formed_risen pairs risen =
-      let world = sight blocks old at in
+      let world = visible blocks old at in
       written_key value_refs (IsHashRisen (is_some (look world key)) (hash_at world key) pairs at.db key old.bases (blocks old.store)) at.db key p.value
       (record {
         from = p.from;

@@ -14,7 +14,7 @@ use Rattle.keyspace.specs.declared.value.Value as kinds
 use Rattle.keyspace.specs.Values.{OfForm, encoding_of}
 use Rattle.keyspace.specs.Databases.{Bases, Keyspace}
 use Rattle.keyspace.specs.Forms.{IsSourceForm}
-use Rattle.keyspace.specs.Commands.{sight}
+use Rattle.keyspace.specs.Commands.{visible}
 use Rattle.keyspace.specs.Edits.{Shape}
 
 -- a hash of these fields stands at the key
@@ -84,13 +84,13 @@ Counting makes left limits fields from now form = makes limits fields from now f
 pub record HashChanged {S : Type 0} (makes : Made) (kept : World → List ℕ → Fields → World) (blocks : S → Blocks)
     (old new : Keyspace S) (at : Ctx) (key : List ℕ) : Type 0 where
   pub before : Option Fields
-  pub stands : IsBefore (sight blocks old at) key before
+  pub stands : IsBefore (visible blocks old at) key before
   pub from : Form
   pub now : Fields
   pub form : Form
   pub made : makes old.bases.limits (or_no_fields before) from now form
   pub was_form : IsSourceForm (is_some before) (FitsFields old.bases.limits empty) old.bases (blocks old.store) at.db key from
-  pub world : sight blocks new at ≡ kept (sight blocks old at) key now
+  pub world : visible blocks new at ≡ kept (visible blocks old at) key now
   pub value : kinds.Value
   pub only : HasOnly new.bases (blocks new.store) at.db key value
   pub encoded : encoding_of value ≡ OfForm form

@@ -15,7 +15,7 @@ use Rattle.plain_model.specs.HashSteps.{Fields, hash_outcome, value_or_null}
 use Rattle.plain_model.specs.declared.ctx.Ctx.{Ctx}
 use Rattle.plain_model.specs.declared.hash_command.HashCommand.{HashCommand}
 use Rattle.keyspace.specs.Databases.{Keyspace}
-use Rattle.keyspace.specs.Commands.{sight}
+use Rattle.keyspace.specs.Commands.{visible}
 
 -- the hash stands at the key, and is sound
 pub record FoundHash (world : World) (blocks : Blocks) (key : List ℕ) (hash : kept.Fields) : Type 0 where
@@ -47,4 +47,4 @@ values_of fields others = map (λ field. value_or_null (get fields field)) other
 abbrev pub Gives : {S E : Type 0} → (S → Blocks) → Keyspace S → Keyspace S → Ctx → HashCommand
     → Result (List Part) E → Type 0
 Gives blocks old new at command result =
-    IfOk result (λ reply. hash_outcome (sight blocks old at) command ≡ leaves reply (sight blocks new at))
+    IfOk result (λ reply. hash_outcome (visible blocks old at) command ≡ leaves reply (visible blocks new at))

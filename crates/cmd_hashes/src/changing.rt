@@ -8,7 +8,7 @@ ghost use Rattle.held.specs.Calls.{Seeks};
 ghost use Rattle.keyspace.specs.Looks.{IsLook};
 ghost use Rattle.keyspace.specs.Scopes.{one_key};
 ghost use Rattle.keyspace.specs.Seeking.{Sees};
-ghost use Rattle.keyspace.specs.Commands.{Ready, Held, sight};
+ghost use Rattle.keyspace.specs.Commands.{Ready, KeepsTo, visible};
 ghost use Rattle.cmd_hashes.specs.Found.{FoundOther};
 ghost use Rattle.cmd_hashes.specs.Changed.{HashItem, IsBefore, IsHashThere, Counting, HashChanged, keep_any};
 
@@ -27,8 +27,8 @@ pub fn hash_sought<B: BlockStore>(
 ) -> Look<usize>
     requires ready { Ready B.blocks keyspace.now at.now }
     requires sees { Sees B.blocks keyspace.now at.now key.now found }
-    ensures { IsLook (look (sight B.blocks keyspace.now at.now) key.now ≡ None) (FoundOther (sight B.blocks keyspace.now at.now) key.now)
-        (HashItem (sight B.blocks keyspace.now at.now) keyspace.now.bases (B.blocks keyspace.now.store) at.now.db key.now at.now.moment) result }
+    ensures { IsLook (look (visible B.blocks keyspace.now at.now) key.now ≡ None) (FoundOther (visible B.blocks keyspace.now at.now) key.now)
+        (HashItem (visible B.blocks keyspace.now at.now) keyspace.now.bases (B.blocks keyspace.now.store) at.now.db key.now at.now.moment) result }
 {
     // what was found tells the key
     let _ = key;
@@ -55,10 +55,10 @@ fn edit_hash<E: HashEdit, B: BlockStore>(
 ) -> Result<(), Memory>
     requires ready { Ready B.blocks keyspace.old at.now }
     requires seeks { Seeks keyspace.old.bases (B.blocks keyspace.old.store) at.now.db key.now sought }
-    requires there { IsHashThere (sight B.blocks keyspace.old at.now) keyspace.old.bases (B.blocks keyspace.old.store) at.now.db key.now at.now.moment there }
-    requires takes { (before : Option model.Fields) → IsBefore (sight B.blocks keyspace.old at.now) key.now before → E.takes on.old.edit (or_no_fields before) }
+    requires there { IsHashThere (visible B.blocks keyspace.old at.now) keyspace.old.bases (B.blocks keyspace.old.store) at.now.db key.now at.now.moment there }
+    requires takes { (before : Option model.Fields) → IsBefore (visible B.blocks keyspace.old at.now) key.now before → E.takes on.old.edit (or_no_fields before) }
     ensures edited { OnOk result (HashChanged (Counting (E.makes on.old.edit on.new.edit) on.new.left) keep_any B.blocks keyspace.old keyspace.new at.now key.now) }
-    ensures held { Held B.blocks B.step (one_key at.now.db key.now) keyspace.old keyspace.new }
+    ensures held { KeepsTo B.blocks B.step (one_key at.now.db key.now) keyspace.old keyspace.new }
 {
     match there {
         None => {
@@ -83,10 +83,10 @@ pub fn change_hash<E: HashEdit, B: BlockStore>(
 ) -> Result<E, Memory>
     requires ready { Ready B.blocks keyspace.old at.now }
     requires seeks { Seeks keyspace.old.bases (B.blocks keyspace.old.store) at.now.db key.now sought }
-    requires there { IsHashThere (sight B.blocks keyspace.old at.now) keyspace.old.bases (B.blocks keyspace.old.store) at.now.db key.now at.now.moment there }
-    requires takes { (before : Option model.Fields) → IsBefore (sight B.blocks keyspace.old at.now) key.now before → E.takes edit (or_no_fields before) }
+    requires there { IsHashThere (visible B.blocks keyspace.old at.now) keyspace.old.bases (B.blocks keyspace.old.store) at.now.db key.now at.now.moment there }
+    requires takes { (before : Option model.Fields) → IsBefore (visible B.blocks keyspace.old at.now) key.now before → E.takes edit (or_no_fields before) }
     ensures changed { IfOk result (λ last. HashChanged (E.makes edit last) keep_hash B.blocks keyspace.old keyspace.new at.now key.now) }
-    ensures held { Held B.blocks B.step (one_key at.now.db key.now) keyspace.old keyspace.new }
+    ensures held { KeepsTo B.blocks B.step (one_key at.now.db key.now) keyspace.old keyspace.new }
 {
     let mut on = OnHash { edit, left: 0 };
     edit_hash(keyspace, at, key, sought, there, &mut on)?;

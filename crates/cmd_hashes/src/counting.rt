@@ -10,7 +10,7 @@ ghost use Rattle.plain_model.specs.HashSteps.{number_in};
 ghost use Rattle.plain_model.specs.declared.hash_command.HashCommand.TheVariants as hashes;
 ghost use Rattle.keyspace.specs.Scopes.{one_key};
 ghost use Rattle.keyspace.specs.Forms.{Formed, hash_form, hash_to};
-ghost use Rattle.keyspace.specs.Commands.{Ready, Held, Kept, sight};
+ghost use Rattle.keyspace.specs.Commands.{Ready, KeepsTo, KeepsOrRefuses, visible};
 ghost use Rattle.cmd_hashes.specs.Found.{Gives};
 ghost use Rattle.cmd_hashes.specs.Changed.{IsHashThere, IsValue};
 ghost use Rattle.cmd_hashes.specs.Set.{IsSet};
@@ -46,8 +46,8 @@ fn number_there<B: BlockStore>(
     field: &[u8],
 ) -> Option<i64>
     requires ready { Ready B.blocks keyspace.now at.now }
-    requires there { IsHashThere (sight B.blocks keyspace.now at.now) keyspace.now.bases (B.blocks keyspace.now.store) at.now.db key.now at.now.moment there }
-    ensures { (value : Option (List ℕ)) × IsValue (sight B.blocks keyspace.now at.now) key.now field.now value × (number_in value ≡ result) }
+    requires there { IsHashThere (visible B.blocks keyspace.now at.now) keyspace.now.bases (B.blocks keyspace.now.store) at.now.db key.now at.now.moment there }
+    ensures { (value : Option (List ℕ)) × IsValue (visible B.blocks keyspace.now at.now) key.now field.now value × (number_in value ≡ result) }
 {
     match value_there(keyspace, at, key, there, field) {
         None => Some(0),
@@ -67,11 +67,11 @@ fn write_number<B: BlockStore>(
 ) -> Result<Reply, Memory>
     requires ready { Ready B.blocks keyspace.old at.now }
     requires seeks { Seeks keyspace.old.bases (B.blocks keyspace.old.store) at.now.db key.now sought }
-    requires there { IsHashThere (sight B.blocks keyspace.old at.now) keyspace.old.bases (B.blocks keyspace.old.store) at.now.db key.now at.now.moment there }
+    requires there { IsHashThere (visible B.blocks keyspace.old at.now) keyspace.old.bases (B.blocks keyspace.old.store) at.now.db key.now at.now.moment there }
     ensures reply { IfOk result (λ reply. reply ≡ parts.Number n ∷ []) }
-    ensures set { OnOk result ((fresh : ℕ) × IsSet (sight B.blocks keyspace.old at.now) key.now ((field.now, canonical n) ∷ []) fresh (sight B.blocks keyspace.new at.now)) }
-    ensures held { Held B.blocks B.step (one_key at.now.db key.now) keyspace.old keyspace.new }
-    ensures forms { OnOk result (Formed B.blocks (hash_to at.now.db (sight B.blocks keyspace.old at.now) key.now ((field.now, canonical n) ∷ [])) keyspace.old keyspace.new) }
+    ensures set { OnOk result ((fresh : ℕ) × IsSet (visible B.blocks keyspace.old at.now) key.now ((field.now, canonical n) ∷ []) fresh (visible B.blocks keyspace.new at.now)) }
+    ensures held { KeepsTo B.blocks B.step (one_key at.now.db key.now) keyspace.old keyspace.new }
+    ensures forms { OnOk result (Formed B.blocks (hash_to at.now.db (visible B.blocks keyspace.old at.now) key.now ((field.now, canonical n) ∷ [])) keyspace.old keyspace.new) }
 {
     let alloc = keyspace.alloc();
     let mut room = Buffer::new();
@@ -93,11 +93,11 @@ fn count_on<B: BlockStore>(
 ) -> Result<Reply, Memory>
     requires ready { Ready B.blocks keyspace.old at.now }
     requires seeks { Seeks keyspace.old.bases (B.blocks keyspace.old.store) at.now.db key.now sought }
-    requires there { IsHashThere (sight B.blocks keyspace.old at.now) keyspace.old.bases (B.blocks keyspace.old.store) at.now.db key.now at.now.moment there }
-    requires value { (value : Option (List ℕ)) × IsValue (sight B.blocks keyspace.old at.now) key.now field.now value × (number_in value ≡ Some n) }
+    requires there { IsHashThere (visible B.blocks keyspace.old at.now) keyspace.old.bases (B.blocks keyspace.old.store) at.now.db key.now at.now.moment there }
+    requires value { (value : Option (List ℕ)) × IsValue (visible B.blocks keyspace.old at.now) key.now field.now value × (number_in value ≡ Some n) }
     ensures gives { Gives B.blocks keyspace.old keyspace.new at.now (hashes.HIncrBy key.now field.now by) result }
-    ensures kept { Kept B.blocks B.step (one_key at.now.db key.now) keyspace.old keyspace.new result }
-    ensures forms { IfOk result (λ reply. Formed B.blocks (hash_form at.now.db (sight B.blocks keyspace.old at.now) (hashes.HIncrBy key.now field.now by)) keyspace.old keyspace.new) }
+    ensures kept { KeepsOrRefuses B.blocks B.step (one_key at.now.db key.now) keyspace.old keyspace.new result }
+    ensures forms { IfOk result (λ reply. Formed B.blocks (hash_form at.now.db (visible B.blocks keyspace.old at.now) (hashes.HIncrBy key.now field.now by)) keyspace.old keyspace.new) }
 {
     match n.checked_add(by) {
         None => Reply::refused(keyspace.alloc(), Refusal::Overflow),
@@ -117,8 +117,8 @@ pub fn hincrby<B: BlockStore>(
 ) -> Result<Reply, Memory>
     requires ready { Ready B.blocks keyspace.old at.now }
     ensures gives { Gives B.blocks keyspace.old keyspace.new at.now (hashes.HIncrBy key.now field.now by) result }
-    ensures kept { Kept B.blocks B.step (one_key at.now.db key.now) keyspace.old keyspace.new result }
-    ensures forms { IfOk result (λ reply. Formed B.blocks (hash_form at.now.db (sight B.blocks keyspace.old at.now) (hashes.HIncrBy key.now field.now by)) keyspace.old keyspace.new) }
+    ensures kept { KeepsOrRefuses B.blocks B.step (one_key at.now.db key.now) keyspace.old keyspace.new result }
+    ensures forms { IfOk result (λ reply. Formed B.blocks (hash_form at.now.db (visible B.blocks keyspace.old at.now) (hashes.HIncrBy key.now field.now by)) keyspace.old keyspace.new) }
 {
     let alloc = keyspace.alloc();
     let found = seek(keyspace, at, key);

@@ -8,7 +8,7 @@ ghost use Rattle.plain_world.specs.Worlds.{look};
 ghost use Rattle.plain_model.specs.OfType.{hash_in, may_tell};
 ghost use Rattle.plain_model.specs.HashSteps.{TellsFields, may_hashes};
 ghost use Rattle.plain_model.specs.declared.hash_command.HashCommand.TheVariants as hashes;
-ghost use Rattle.keyspace.specs.Commands.{Ready, sight};
+ghost use Rattle.keyspace.specs.Commands.{Ready, visible};
 ghost use Rattle.cmd_hashes.specs.Listed.{replies_of, telling, told_of};
 
 use crate::look::hash_at;
@@ -111,8 +111,8 @@ fn tell_fields<B: BlockStore>(
 ) -> Result<Reply, Memory>
     requires ready { Ready B.blocks keyspace.now at.now }
     ensures { IfOk result
-        (λ reply. may_tell hash_in (sight B.blocks keyspace.now at.now) (look (sight B.blocks keyspace.now at.now) key.now) (TellsFields (telling told)) reply
-        (sight B.blocks keyspace.now at.now)) }
+        (λ reply. may_tell hash_in (visible B.blocks keyspace.now at.now) (look (visible B.blocks keyspace.now at.now) key.now) (TellsFields (telling told)) reply
+        (visible B.blocks keyspace.now at.now)) }
 {
     let alloc = keyspace.alloc();
     match hash_at(keyspace, at, key) {
@@ -128,7 +128,7 @@ fn tell_fields<B: BlockStore>(
 /// `HKEYS key`: an array of all fields, each once, in any order. It is empty where there is no hash.
 pub fn hkeys<B: BlockStore>(keyspace: &Keyspace<B>, at: &Ctx, key: &[u8]) -> Result<Reply, Memory>
     requires ready { Ready B.blocks keyspace.now at.now }
-    ensures gives { IfOk result (λ reply. may_hashes keyspace.now.bases.seed (sight B.blocks keyspace.now at.now) (hashes.HKeys key.now) reply (sight B.blocks keyspace.now at.now)) }
+    ensures gives { IfOk result (λ reply. may_hashes keyspace.now.bases.seed (visible B.blocks keyspace.now at.now) (hashes.HKeys key.now) reply (visible B.blocks keyspace.now at.now)) }
 {
     tell_fields(keyspace, at, key, Told::OnlyFields)
 }
@@ -136,7 +136,7 @@ pub fn hkeys<B: BlockStore>(keyspace: &Keyspace<B>, at: &Ctx, key: &[u8]) -> Res
 /// `HVALS key`: an array of the values of all fields, in any order. It is empty where there is no hash.
 pub fn hvals<B: BlockStore>(keyspace: &Keyspace<B>, at: &Ctx, key: &[u8]) -> Result<Reply, Memory>
     requires ready { Ready B.blocks keyspace.now at.now }
-    ensures gives { IfOk result (λ reply. may_hashes keyspace.now.bases.seed (sight B.blocks keyspace.now at.now) (hashes.HVals key.now) reply (sight B.blocks keyspace.now at.now)) }
+    ensures gives { IfOk result (λ reply. may_hashes keyspace.now.bases.seed (visible B.blocks keyspace.now at.now) (hashes.HVals key.now) reply (visible B.blocks keyspace.now at.now)) }
 {
     tell_fields(keyspace, at, key, Told::OnlyValues)
 }
@@ -144,7 +144,7 @@ pub fn hvals<B: BlockStore>(keyspace: &Keyspace<B>, at: &Ctx, key: &[u8]) -> Res
 /// `HGETALL key`: an array of all fields, each once and followed by its value, in any order. It is empty where there is no hash.
 pub fn hgetall<B: BlockStore>(keyspace: &Keyspace<B>, at: &Ctx, key: &[u8]) -> Result<Reply, Memory>
     requires ready { Ready B.blocks keyspace.now at.now }
-    ensures gives { IfOk result (λ reply. may_hashes keyspace.now.bases.seed (sight B.blocks keyspace.now at.now) (hashes.HGetAll key.now) reply (sight B.blocks keyspace.now at.now)) }
+    ensures gives { IfOk result (λ reply. may_hashes keyspace.now.bases.seed (visible B.blocks keyspace.now at.now) (hashes.HGetAll key.now) reply (visible B.blocks keyspace.now at.now)) }
 {
     tell_fields(keyspace, at, key, Told::Both)
 }

@@ -3,7 +3,7 @@
 ghost use Rattle.std.specs.Prelude.{◌<◌, true, IfOk};
 ghost use Rattle.plain_model.specs.HashSteps.{may_hashes};
 ghost use Rattle.plain_model.specs.declared.hash_command.HashCommand.TheVariants as hashes;
-ghost use Rattle.keyspace.specs.Commands.{Ready, sight};
+ghost use Rattle.keyspace.specs.Commands.{Ready, visible};
 ghost use Rattle.keyspace.specs.Pages.{IsValuePage};
 
 use blocks::BlockStore;
@@ -24,7 +24,7 @@ pub fn hscan<B: BlockStore>(
     requires ready { Ready B.blocks keyspace.now at.now }
     requires count { 0 < options.now.count }
     ensures gives { IfOk result
-        (λ reply. may_hashes keyspace.now.bases.seed (sight B.blocks keyspace.now at.now) (hashes.HScan key.now cursor options.now) reply (sight B.blocks keyspace.now at.now)) }
+        (λ reply. may_hashes keyspace.now.bases.seed (visible B.blocks keyspace.now at.now) (hashes.HScan key.now cursor options.now) reply (visible B.blocks keyspace.now at.now)) }
     ensures shows { IfOk result (λ reply. IsValuePage keyspace.now.bases (B.blocks keyspace.now.store) at.now key.now cursor options.now true reply) }
 {
     let alloc = keyspace.alloc();

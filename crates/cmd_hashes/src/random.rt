@@ -7,7 +7,7 @@ ghost use Rattle.hash_object.specs.Items.{pair_at};
 ghost use Rattle.plain_world.specs.declared.reply.Part.TheVariants as replies;
 ghost use Rattle.plain_model.specs.HashSteps.{PicksFields, may_hashes};
 ghost use Rattle.plain_model.specs.declared.hash_command.HashCommand.TheVariants as hashes;
-ghost use Rattle.keyspace.specs.Commands.{Ready, sight};
+ghost use Rattle.keyspace.specs.Commands.{Ready, visible};
 ghost use Rattle.cmd_hashes.specs.Listed.{replies_of, told_of};
 ghost use Rattle.cmd_hashes.specs.Picked.{pairs_of, first_told, told_with};
 
@@ -121,7 +121,7 @@ pub fn hrandfield<B: BlockStore>(
 ) -> Result<Reply, Memory>
     requires ready { Ready B.blocks keyspace.now at.now }
     ensures gives { IfOk result
-        (λ reply. may_hashes keyspace.now.bases.seed (sight B.blocks keyspace.now at.now) (hashes.HRandField key.now n with_values) reply (sight B.blocks keyspace.now at.now)) }
+        (λ reply. may_hashes keyspace.now.bases.seed (visible B.blocks keyspace.now at.now) (hashes.HRandField key.now n with_values) reply (visible B.blocks keyspace.now at.now)) }
 {
     let alloc = keyspace.alloc();
     match hash_at(keyspace, at, key) {

@@ -6,7 +6,7 @@ ghost use Rattle.hash_object.specs.Fields.{IsFields, fields};
 ghost use Rattle.plain_world.specs.declared.reply.Part.TheVariants as replies;
 ghost use Rattle.plain_model.specs.HashSteps.{value_or_null, value_length};
 ghost use Rattle.plain_model.specs.declared.hash_command.HashCommand.TheVariants as hashes;
-ghost use Rattle.keyspace.specs.Commands.{Ready, sight};
+ghost use Rattle.keyspace.specs.Commands.{Ready, visible};
 ghost use Rattle.cmd_hashes.specs.Found.{Gives, fields_in, values_of};
 
 use crate::look::hash_at;

@@ -10,7 +10,7 @@ ghost use Rattle.plain_model.specs.HashSteps.{set_all};
 ghost use Rattle.plain_model.specs.declared.hash_command.HashCommand.TheVariants as hashes;
 ghost use Rattle.keyspace.specs.Scopes.{one_key};
 ghost use Rattle.keyspace.specs.Forms.{Formed, RisesBy, hash_form, hash_to};
-ghost use Rattle.keyspace.specs.Commands.{Ready, Held, Kept, sight};
+ghost use Rattle.keyspace.specs.Commands.{Ready, KeepsTo, KeepsOrRefuses, visible};
 ghost use Rattle.cmd_hashes.specs.Found.{Gives};
 ghost use Rattle.cmd_hashes.specs.Changed.{IsHashThere};
 ghost use Rattle.cmd_hashes.specs.Set.{IsSet, Sets};
@@ -95,10 +95,10 @@ pub fn set_at<B: BlockStore>(
 ) -> Result<usize, Memory>
     requires ready { Ready B.blocks keyspace.old at.now }
     requires seeks { Seeks keyspace.old.bases (B.blocks keyspace.old.store) at.now.db key.now sought }
-    requires there { IsHashThere (sight B.blocks keyspace.old at.now) keyspace.old.bases (B.blocks keyspace.old.store) at.now.db key.now at.now.moment there }
-    ensures set { IfOk result (λ fresh. IsSet (sight B.blocks keyspace.old at.now) key.now pairs.now fresh (sight B.blocks keyspace.new at.now)) }
-    ensures held { Held B.blocks B.step (one_key at.now.db key.now) keyspace.old keyspace.new }
-    ensures forms { IfOk result (λ fresh. Formed B.blocks (hash_to at.now.db (sight B.blocks keyspace.old at.now) key.now pairs.now) keyspace.old keyspace.new) }
+    requires there { IsHashThere (visible B.blocks keyspace.old at.now) keyspace.old.bases (B.blocks keyspace.old.store) at.now.db key.now at.now.moment there }
+    ensures set { IfOk result (λ fresh. IsSet (visible B.blocks keyspace.old at.now) key.now pairs.now fresh (visible B.blocks keyspace.new at.now)) }
+    ensures held { KeepsTo B.blocks B.step (one_key at.now.db key.now) keyspace.old keyspace.new }
+    ensures forms { IfOk result (λ fresh. Formed B.blocks (hash_to at.now.db (visible B.blocks keyspace.old at.now) key.now pairs.now) keyspace.old keyspace.new) }
 {
     let set = SetAll { pairs, fresh: 0 };
     let set = change_hash(keyspace, at, key, sought, there, set)?;
@@ -115,8 +115,8 @@ pub fn hset<B: BlockStore>(
 ) -> Result<Reply, Memory>
     requires ready { Ready B.blocks keyspace.old at.now }
     ensures gives { Gives B.blocks keyspace.old keyspace.new at.now (hashes.HSet key.now pairs.now) result }
-    ensures kept { Kept B.blocks B.step (one_key at.now.db key.now) keyspace.old keyspace.new result }
-    ensures forms { IfOk result (λ reply. Formed B.blocks (hash_form at.now.db (sight B.blocks keyspace.old at.now) (hashes.HSet key.now pairs.now)) keyspace.old keyspace.new) }
+    ensures kept { KeepsOrRefuses B.blocks B.step (one_key at.now.db key.now) keyspace.old keyspace.new result }
+    ensures forms { IfOk result (λ reply. Formed B.blocks (hash_form at.now.db (visible B.blocks keyspace.old at.now) (hashes.HSet key.now pairs.now)) keyspace.old keyspace.new) }
 {
     let alloc = keyspace.alloc();
     let found = seek(keyspace, at, key);
@@ -139,8 +139,8 @@ pub fn hmset<B: BlockStore>(
 ) -> Result<Reply, Memory>
     requires ready { Ready B.blocks keyspace.old at.now }
     ensures gives { Gives B.blocks keyspace.old keyspace.new at.now (hashes.HMSet key.now pairs.now) result }
-    ensures kept { Kept B.blocks B.step (one_key at.now.db key.now) keyspace.old keyspace.new result }
-    ensures forms { IfOk result (λ reply. Formed B.blocks (hash_form at.now.db (sight B.blocks keyspace.old at.now) (hashes.HMSet key.now pairs.now)) keyspace.old keyspace.new) }
+    ensures kept { KeepsOrRefuses B.blocks B.step (one_key at.now.db key.now) keyspace.old keyspace.new result }
+    ensures forms { IfOk result (λ reply. Formed B.blocks (hash_form at.now.db (visible B.blocks keyspace.old at.now) (hashes.HMSet key.now pairs.now)) keyspace.old keyspace.new) }
 {
     let alloc = keyspace.alloc();
     let found = seek(keyspace, at, key);
@@ -165,10 +165,10 @@ pub fn set_field_at<B: BlockStore>(
 ) -> Result<(), Memory>
     requires ready { Ready B.blocks keyspace.old at.now }
     requires seeks { Seeks keyspace.old.bases (B.blocks keyspace.old.store) at.now.db key.now sought }
-    requires there { IsHashThere (sight B.blocks keyspace.old at.now) keyspace.old.bases (B.blocks keyspace.old.store) at.now.db key.now at.now.moment there }
-    ensures set { OnOk result ((fresh : ℕ) × IsSet (sight B.blocks keyspace.old at.now) key.now ((field.now, value.now) ∷ []) fresh (sight B.blocks keyspace.new at.now)) }
-    ensures held { Held B.blocks B.step (one_key at.now.db key.now) keyspace.old keyspace.new }
-    ensures forms { OnOk result (Formed B.blocks (hash_to at.now.db (sight B.blocks keyspace.old at.now) key.now ((field.now, value.now) ∷ [])) keyspace.old keyspace.new) }
+    requires there { IsHashThere (visible B.blocks keyspace.old at.now) keyspace.old.bases (B.blocks keyspace.old.store) at.now.db key.now at.now.moment there }
+    ensures set { OnOk result ((fresh : ℕ) × IsSet (visible B.blocks keyspace.old at.now) key.now ((field.now, value.now) ∷ []) fresh (visible B.blocks keyspace.new at.now)) }
+    ensures held { KeepsTo B.blocks B.step (one_key at.now.db key.now) keyspace.old keyspace.new }
+    ensures forms { OnOk result (Formed B.blocks (hash_to at.now.db (visible B.blocks keyspace.old at.now) key.now ((field.now, value.now) ∷ [])) keyspace.old keyspace.new) }
 {
     let pair = (Word::new(field), Word::new(value));
     set_at(keyspace, at, key, sought, there, &[pair])?;
@@ -186,8 +186,8 @@ pub fn hsetnx<B: BlockStore>(
 ) -> Result<Reply, Memory>
     requires ready { Ready B.blocks keyspace.old at.now }
     ensures gives { Gives B.blocks keyspace.old keyspace.new at.now (hashes.HSetNx key.now field.now value.now) result }
-    ensures kept { Kept B.blocks B.step (one_key at.now.db key.now) keyspace.old keyspace.new result }
-    ensures forms { IfOk result (λ reply. Formed B.blocks (hash_form at.now.db (sight B.blocks keyspace.old at.now) (hashes.HSetNx key.now field.now value.now)) keyspace.old keyspace.new) }
+    ensures kept { KeepsOrRefuses B.blocks B.step (one_key at.now.db key.now) keyspace.old keyspace.new result }
+    ensures forms { IfOk result (λ reply. Formed B.blocks (hash_form at.now.db (visible B.blocks keyspace.old at.now) (hashes.HSetNx key.now field.now value.now)) keyspace.old keyspace.new) }
 {
     let alloc = keyspace.alloc();
     let found = seek(keyspace, at, key);

@@ -1,7 +1,7 @@
 //! The fields of a hash that was sought.
 
 ghost use Rattle.std.specs.Prelude.{◌≡◌, ℕ, List, Option, is_some};
-ghost use Rattle.keyspace.specs.Commands.{Ready, sight};
+ghost use Rattle.keyspace.specs.Commands.{Ready, visible};
 ghost use Rattle.cmd_hashes.specs.Found.{FoundHash, text_of};
 ghost use Rattle.cmd_hashes.specs.Changed.{HashItem, IsHashThere, IsValue};
 
@@ -19,8 +19,8 @@ fn hash_there<'a, B: BlockStore>(
     item: usize,
 ) -> &'a Fields
     requires ready { Ready B.blocks keyspace.now at.now }
-    requires there { HashItem (sight B.blocks keyspace.now at.now) keyspace.now.bases (B.blocks keyspace.now.store) at.now.db key.now at.now.moment item }
-    ensures { FoundHash (sight B.blocks keyspace.now at.now) (B.blocks keyspace.now.store) key.now result.now }
+    requires there { HashItem (visible B.blocks keyspace.now at.now) keyspace.now.bases (B.blocks keyspace.now.store) at.now.db key.now at.now.moment item }
+    ensures { FoundHash (visible B.blocks keyspace.now at.now) (B.blocks keyspace.now.store) key.now result.now }
 {
     // the item number tells the key
     let _ = key;
@@ -40,8 +40,8 @@ pub fn value_there<'a, B: BlockStore>(
     field: &[u8],
 ) -> Option<Element<'a>>
     requires ready { Ready B.blocks keyspace.now at.now }
-    requires there { IsHashThere (sight B.blocks keyspace.now at.now) keyspace.now.bases (B.blocks keyspace.now.store) at.now.db key.now at.now.moment there }
-    ensures { IsValue (sight B.blocks keyspace.now at.now) key.now field.now (text_of result) }
+    requires there { IsHashThere (visible B.blocks keyspace.now at.now) keyspace.now.bases (B.blocks keyspace.now.store) at.now.db key.now at.now.moment there }
+    ensures { IsValue (visible B.blocks keyspace.now at.now) key.now field.now (text_of result) }
 {
     match there {
         None => None,
@@ -58,8 +58,8 @@ pub fn has_field<B: BlockStore>(
     field: &[u8],
 ) -> bool
     requires ready { Ready B.blocks keyspace.now at.now }
-    requires there { IsHashThere (sight B.blocks keyspace.now at.now) keyspace.now.bases (B.blocks keyspace.now.store) at.now.db key.now at.now.moment there }
-    ensures { (value : Option (List ℕ)) × IsValue (sight B.blocks keyspace.now at.now) key.now field.now value × (result ≡ is_some value) }
+    requires there { IsHashThere (visible B.blocks keyspace.now at.now) keyspace.now.bases (B.blocks keyspace.now.store) at.now.db key.now at.now.moment there }
+    ensures { (value : Option (List ℕ)) × IsValue (visible B.blocks keyspace.now at.now) key.now field.now value × (result ≡ is_some value) }
 {
     match value_there(keyspace, at, key, there, field) {
         None => false,

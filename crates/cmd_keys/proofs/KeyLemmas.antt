@@ -29,7 +29,7 @@ use Rattle.keyspace.specs.declared.value.Value.{Value}
 use Rattle.keyspace.specs.Values.{value_refs, value_of, IsEncodedAs}
 use Rattle.keyspace.specs.Databases.{Bases, Keyspace}
 use Rattle.keyspace.specs.Scopes.{connection_scope, key_scope}
-use Rattle.keyspace.specs.Commands.{Ready, Kept, Runs, sight}
+use Rattle.keyspace.specs.Commands.{Ready, KeepsOrRefuses, Runs, visible}
 use Rattle.keyspace.specs.Shown.{IsActual, encoded, key_shown, connection_shown}
 use Rattle.plain_model.specs.declared.connection.ConnectionCommand.TheVariants as connection
 use Rattle.keyspace.proofs.Running.{outcome_is, unchanged}
@@ -133,52 +133,52 @@ connection_writes db (connection.DebugDefrag n) number key named = named
 
 -- a command on the connection or the server ran
 pub served_connection : {S E : Type 0} (blocks : S → Blocks) (step : S → S → Type 0) (old new : Keyspace S) (at : Ctx) (command same : ConnectionCommand) (result : Result (List Part) E)
-    → command ≡ same → IsCommon command → Serves blocks old new at same result → Kept blocks step (connection_scope at.db same) old new result
+    → command ≡ same → IsCommon command → Serves blocks old new at same result → KeepsOrRefuses blocks step (connection_scope at.db same) old new result
     → ((reply : List Part) → connection_shown blocks old new at same reply) → Runs blocks step old new at (Connection command) result
 served_connection {E = E} blocks step old new at command same (Ok reply) is none given kept shown = record {
-  answers = outcome_connection (sight blocks old at) at.moment command none reply (sight blocks new at)
-      (subst (λ c. IsOutcome (connection_outcome at.moment (sight blocks old at) c) reply (sight blocks new at)) (sym is)
-      (outcome_is (connection_outcome at.moment (sight blocks old at) same) reply (sight blocks new at) given));
-  kept = subst (λ c. Kept {E = E} blocks step (connection_scope at.db c) old new (Ok reply)) (sym is) kept;
+  answers = outcome_connection (visible blocks old at) at.moment command none reply (visible blocks new at)
+      (subst (λ c. IsOutcome (connection_outcome at.moment (visible blocks old at) c) reply (visible blocks new at)) (sym is)
+      (outcome_is (connection_outcome at.moment (visible blocks old at) same) reply (visible blocks new at) given));
+  kept = subst (λ c. KeepsOrRefuses {E = E} blocks step (connection_scope at.db c) old new (Ok reply)) (sym is) kept;
   shows = subst (λ c. connection_shown blocks old new at c reply) (sym is) (shown reply);
   forms = formed_scope Unwritten (connection_scope at.db same) (connection_writes at.db same) old.bases new.bases (blocks old.store) (blocks new.store) kept.held.within;
 }
 served_connection {E = E} blocks step old new at command same (Err x) is none given kept shown =
-    record { answers = tt; kept = subst (λ c. Kept {E = E} blocks step (connection_scope at.db c) old new (Err x)) (sym is) kept; shows = tt; forms = tt }
+    record { answers = tt; kept = subst (λ c. KeepsOrRefuses {E = E} blocks step (connection_scope at.db c) old new (Err x)) (sym is) kept; shows = tt; forms = tt }
 
 -- one that tells the same in every world
 pub told_connection : {S E : Type 0} (blocks : S → Blocks) (step : S → S → Type 0) (keyspace : Keyspace S) (at : Ctx) (command same : ConnectionCommand) (result : Result (List Part) E)
     → command ≡ same → IsCommon command → Tells same result → Ready blocks keyspace at → ((reply : List Part) → connection_shown blocks keyspace keyspace at same reply)
     → Runs blocks step keyspace keyspace at (Connection command) result
 told_connection blocks step keyspace at command same result is none told ready shown =
-    served_connection blocks step keyspace keyspace at command same result is none (told at.moment (sight blocks keyspace at))
+    served_connection blocks step keyspace keyspace at command same result is none (told at.moment (visible blocks keyspace at))
     (unchanged blocks step (connection_scope at.db same) keyspace result ready.sound) shown
 
 -- a command on keys ran that shows nothing of the tables
 pub ran_keys : {S E : Type 0} (blocks : S → Blocks) (step : S → S → Type 0) (old new : Keyspace S) (at : Ctx) (command same : KeyCommand) (result : Result (List Part) E)
-    → ((reply : List Part) (world : World) → IsOutcome (key_outcome at.moment (sight blocks old at) same) reply world → may_keys old.bases.seed (sight blocks old at) at.moment same reply world)
+    → ((reply : List Part) (world : World) → IsOutcome (key_outcome at.moment (visible blocks old at) same) reply world → may_keys old.bases.seed (visible blocks old at) at.moment same reply world)
     → ((reply : List Part) → key_shown old.bases (blocks old.store) at same reply)
-    → command ≡ same → Gives blocks old new at same result → Kept blocks step (key_scope at.db same) old new result → IfOk result (λ reply. Formed blocks (key_form at.db same) old new)
+    → command ≡ same → Gives blocks old new at same result → KeepsOrRefuses blocks step (key_scope at.db same) old new result → IfOk result (λ reply. Formed blocks (key_form at.db same) old new)
     → Runs blocks step old new at (Keys command) result
 ran_keys {E = E} blocks step old new at command same result fixed shows is given kept forms =
     subst (λ c. Runs {E = E} blocks step old new at (Keys c) result) (sym is) (record { answers = answers result given; kept = kept; shows = key_shows _ result shows; forms = forms })
   where
-    answers : (result : Result (List Part) E) → Gives blocks old new at same result → IfOk result (λ reply. may_keys old.bases.seed (sight blocks old at) at.moment same reply (sight blocks new at))
-    answers (Ok reply) given = fixed reply (sight blocks new at) (outcome_is (key_outcome at.moment (sight blocks old at) same) reply (sight blocks new at) given)
+    answers : (result : Result (List Part) E) → Gives blocks old new at same result → IfOk result (λ reply. may_keys old.bases.seed (visible blocks old at) at.moment same reply (visible blocks new at))
+    answers (Ok reply) given = fixed reply (visible blocks new at) (outcome_is (key_outcome at.moment (visible blocks old at) same) reply (visible blocks new at) given)
     answers (Err x) given = tt
 
 -- one that writes none
 pub removed_keys : {S E : Type 0} (blocks : S → Blocks) (step : S → S → Type 0) (old new : Keyspace S) (at : Ctx) (command same : KeyCommand) (result : Result (List Part) E)
-    → ((reply : List Part) (world : World) → IsOutcome (key_outcome at.moment (sight blocks old at) same) reply world → may_keys old.bases.seed (sight blocks old at) at.moment same reply world)
+    → ((reply : List Part) (world : World) → IsOutcome (key_outcome at.moment (visible blocks old at) same) reply world → may_keys old.bases.seed (visible blocks old at) at.moment same reply world)
     → ((reply : List Part) → key_shown old.bases (blocks old.store) at same reply) → ((number : ℕ) (key : List ℕ) → (key_scope at.db same).writes number key → ⊥)
-    → command ≡ same → Gives blocks old new at same result → Kept blocks step (key_scope at.db same) old new result → Runs blocks step old new at (Keys command) result
+    → command ≡ same → Gives blocks old new at same result → KeepsOrRefuses blocks step (key_scope at.db same) old new result → Runs blocks step old new at (Keys command) result
 removed_keys blocks step old new at command same result fixed shows none is given kept =
     ran_keys blocks step old new at command same result fixed shows is given kept
     (formed_ok blocks (key_form at.db same) old new result (formed_scope (key_form at.db same) (key_scope at.db same) none old.bases new.bases (blocks old.store) (blocks new.store) kept.held.within))
 
 -- a command on keys only looked
 pub asked_keys : {S E : Type 0} (blocks : S → Blocks) (step : S → S → Type 0) (keyspace : Keyspace S) (at : Ctx) (command same : KeyCommand) (result : Result (List Part) E)
-    → command ≡ same → IfOk result (λ reply. may_keys keyspace.bases.seed (sight blocks keyspace at) at.moment same reply (sight blocks keyspace at))
+    → command ≡ same → IfOk result (λ reply. may_keys keyspace.bases.seed (visible blocks keyspace at) at.moment same reply (visible blocks keyspace at))
     → IfOk result (λ reply. key_shown keyspace.bases (blocks keyspace.store) at same reply) → Ready blocks keyspace at
     → Runs blocks step keyspace keyspace at (Keys command) result
 asked_keys {E = E} blocks step keyspace at command same result is given shows ready =
@@ -189,8 +189,8 @@ asked_keys {E = E} blocks step keyspace at command same result is given shows re
 -- and told what the model tells
 pub told_keys : {S E : Type 0} (blocks : S → Blocks) (step : S → S → Type 0) (keyspace : Keyspace S) (at : Ctx) (command same : KeyCommand) (result : Result (List Part) E)
     →
-    ((reply : List Part) (new : World) → IsOutcome (key_outcome at.moment (sight blocks keyspace at) same) reply new
-    → may_keys keyspace.bases.seed (sight blocks keyspace at) at.moment same reply new)
+    ((reply : List Part) (new : World) → IsOutcome (key_outcome at.moment (visible blocks keyspace at) same) reply new
+    → may_keys keyspace.bases.seed (visible blocks keyspace at) at.moment same reply new)
     → ((reply : List Part) → key_shown keyspace.bases (blocks keyspace.store) at same reply)
     → command ≡ same → Gives blocks keyspace keyspace at same result → Ready blocks keyspace at → Runs blocks step keyspace keyspace at (Keys command) result
 told_keys blocks step keyspace at command same result fixed shows is given ready =

@@ -11,7 +11,7 @@ use Rattle.plain_model.specs.KeySteps.{key_outcome, time_told}
 use Rattle.plain_model.specs.declared.ctx.Ctx.{Ctx}
 use Rattle.plain_model.specs.declared.keys.KeyCommand.{KeyCommand}
 use Rattle.keyspace.specs.Databases.{Keyspace}
-use Rattle.keyspace.specs.Commands.{sight}
+use Rattle.keyspace.specs.Commands.{visible}
 use Rattle.cmd_keys.specs.declared.keys.look.Timeless.{Timeless}
 use Rattle.cmd_keys.specs.declared.keys.look.Timeless.TheVariants.{NoKey, NoDeadline}
 
@@ -22,14 +22,14 @@ GivesIn moment old command new result = IfOk result (λ reply. key_outcome momen
 -- from what the old keyspace means the command gives this reply, and leaves what the new one means
 abbrev pub Gives : {S E : Type 0} → (S → Blocks) → Keyspace S → Keyspace S → Ctx → KeyCommand → Result (List Part) E
     → Type 0
-Gives blocks old new at command result = GivesIn at.moment (sight blocks old at) command (sight blocks new at) result
+Gives blocks old new at command result = GivesIn at.moment (visible blocks old at) command (visible blocks new at) result
 
 -- the same of a command on the connection or the server
 abbrev pub Serves : {S E : Type 0} → (S → Blocks) → Keyspace S → Keyspace S → Ctx → ConnectionCommand
     → Result (List Part) E → Type 0
 Serves blocks old new at command result =
     IfOk result
-    (λ reply. connection_outcome at.moment (sight blocks old at) command ≡ leaves reply (sight blocks new at))
+    (λ reply. connection_outcome at.moment (visible blocks old at) command ≡ leaves reply (visible blocks new at))
 
 -- whatever the world is, the command tells this, and leaves it
 abbrev pub Tells : {E : Type 0} → ConnectionCommand → Result (List Part) E → Type 0

@@ -8,7 +8,7 @@ ghost use Rattle.keyspace.specs.Databases.{means, SameSettings};
 ghost use Rattle.keyspace.specs.Sound.{Sound};
 ghost use Rattle.keyspace.specs.Scopes.{no_key, all_keys, everything};
 ghost use Rattle.keyspace.specs.Shown.{IsRehashed, IsPurged, IsEmptied, AreEmptied};
-ghost use Rattle.keyspace.specs.Commands.{Ready, Held, Kept, sight};
+ghost use Rattle.keyspace.specs.Commands.{Ready, KeepsTo, KeepsOrRefuses, visible};
 ghost use Rattle.cmd_keys.specs.Found.{Serves, Tells};
 ghost use Rattle.cmd_keys.specs.Emptied.{IsEmpty};
 
@@ -40,9 +40,9 @@ pub fn echo(alloc: Global, text: &[u8]) -> Result<Reply, Memory>
 // Removes all keys of the selected database.
 fn clear_selected<B: BlockStore>(keyspace: &mut Keyspace<B>, at: &Ctx)
     requires ready { Ready B.blocks keyspace.old at.now }
-    ensures world { sight B.blocks keyspace.new at.now ≡ with_base (sight B.blocks keyspace.old at.now) no_keys }
+    ensures world { visible B.blocks keyspace.new at.now ≡ with_base (visible B.blocks keyspace.old at.now) no_keys }
     ensures emptied { IsEmptied B.blocks keyspace.old keyspace.new at.now }
-    ensures held { Held B.blocks B.step (all_keys at.now.db) keyspace.old keyspace.new }
+    ensures held { KeepsTo B.blocks B.step (all_keys at.now.db) keyspace.old keyspace.new }
 {
     keyspace.clear(at.db);
 }
@@ -59,7 +59,7 @@ pub fn flushdb<B: BlockStore>(keyspace: &mut Keyspace<B>, at: &Ctx) -> Result<Re
     requires ready { Ready B.blocks keyspace.old at.now }
     ensures gives { Serves B.blocks keyspace.old keyspace.new at.now commands.FlushDb result }
     ensures emptied { IsEmptied B.blocks keyspace.old keyspace.new at.now }
-    ensures kept { Kept B.blocks B.step (all_keys at.now.db) keyspace.old keyspace.new result }
+    ensures kept { KeepsOrRefuses B.blocks B.step (all_keys at.now.db) keyspace.old keyspace.new result }
 {
     clear_selected(keyspace, at);
     Reply::simple(keyspace.alloc(), Line::ok())
@@ -68,9 +68,9 @@ pub fn flushdb<B: BlockStore>(keyspace: &mut Keyspace<B>, at: &Ctx) -> Result<Re
 // Removes all keys of all databases.
 fn clear_all<B: BlockStore>(keyspace: &mut Keyspace<B>, at: &Ctx)
     requires ready { Ready B.blocks keyspace.old at.now }
-    ensures world { IsEmpty (sight B.blocks keyspace.new at.now) at.now.db }
+    ensures world { IsEmpty (visible B.blocks keyspace.new at.now) at.now.db }
     ensures emptied { AreEmptied B.blocks keyspace.old keyspace.new at.now }
-    ensures held { Held B.blocks B.step (everything) keyspace.old keyspace.new }
+    ensures held { KeepsTo B.blocks B.step (everything) keyspace.old keyspace.new }
 {
     let _ = at;
     for db in 0..DATABASES {
@@ -83,7 +83,7 @@ pub fn flushall<B: BlockStore>(keyspace: &mut Keyspace<B>, at: &Ctx) -> Result<R
     requires ready { Ready B.blocks keyspace.old at.now }
     ensures gives { Serves B.blocks keyspace.old keyspace.new at.now commands.FlushAll result }
     ensures emptied { AreEmptied B.blocks keyspace.old keyspace.new at.now }
-    ensures kept { Kept B.blocks B.step (everything) keyspace.old keyspace.new result }
+    ensures kept { KeepsOrRefuses B.blocks B.step (everything) keyspace.old keyspace.new result }
 {
     clear_all(keyspace, at);
     Reply::simple(keyspace.alloc(), Line::ok())
@@ -92,10 +92,10 @@ pub fn flushall<B: BlockStore>(keyspace: &mut Keyspace<B>, at: &Ctx) -> Result<R
 // Removes the keys of the selected database that are gone, and counts the others.
 fn count_live<B: BlockStore>(keyspace: &mut Keyspace<B>, at: &Ctx) -> u64
     requires ready { Ready B.blocks keyspace.old at.now }
-    ensures count { result ≡ len ((sight B.blocks keyspace.old at.now).bases at.now.db) }
-    ensures world { sight B.blocks keyspace.new at.now ≡ sight B.blocks keyspace.old at.now }
+    ensures count { result ≡ len ((visible B.blocks keyspace.old at.now).bases at.now.db) }
+    ensures world { visible B.blocks keyspace.new at.now ≡ visible B.blocks keyspace.old at.now }
     ensures purged { IsPurged B.blocks keyspace.old keyspace.new at.now }
-    ensures held { Held B.blocks B.step (no_key at.now.db) keyspace.old keyspace.new }
+    ensures held { KeepsTo B.blocks B.step (no_key at.now.db) keyspace.old keyspace.new }
 {
     let _ = keyspace.purge(at.db, at.moment);
     keyspace.count(at.db)
@@ -106,7 +106,7 @@ pub fn dbsize<B: BlockStore>(keyspace: &mut Keyspace<B>, at: &Ctx) -> Result<Rep
     requires ready { Ready B.blocks keyspace.old at.now }
     ensures gives { Serves B.blocks keyspace.old keyspace.new at.now commands.DbSize result }
     ensures purged { IsPurged B.blocks keyspace.old keyspace.new at.now }
-    ensures kept { Kept B.blocks B.step (no_key at.now.db) keyspace.old keyspace.new result }
+    ensures kept { KeepsOrRefuses B.blocks B.step (no_key at.now.db) keyspace.old keyspace.new result }
 {
     let count = count_live(keyspace, at);
     match i64::try_from(count) {

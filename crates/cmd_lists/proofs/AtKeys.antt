@@ -22,7 +22,7 @@ use Rattle.std.specs.Global.{Box}
 use Rattle.keyspace.specs.Values.{Encoding, OfText, OfForm, value_of, value_refs, encoding_of}
 use Rattle.keyspace.specs.Databases.{Bases, Keyspace}
 use Rattle.keyspace.specs.Scopes.{one_key, no_key, Within}
-use Rattle.keyspace.specs.Commands.{Held, seen, sight}
+use Rattle.keyspace.specs.Commands.{KeepsTo, seen, visible}
 use Rattle.keyspace.specs.Edits.{Shape, shape, Edits, MakesNew}
 use Rattle.keyspace.proofs.Running.{held_then}
 use Rattle.cmd_lists.specs.Changed.{HasList, ListItem, IsListThat, MakesList, ListChanged, Counting, keep_any}
@@ -68,7 +68,7 @@ takes_there Is world key list has holds entry is = subst (HoldsThere Is) (sym ha
 module _ {S T X : Type 0} (makes : T → T → Shape → Shape → Type 0) (own : Elements → Form → Elements → Form → Type 0) (left : ℕ) (first last : T) (blocks : S → Blocks)
     (old new : Keyspace S) (at : Ctx) (key : List ℕ)
     (same : (o n : Shape) → makes first last o n → MakesList own left o n) where
-  pub list_new : (fresh : Value) → value_of (blocks old.store) fresh ≡ ListOf [] → ((f : Form) → encoding_of fresh ≡ OfForm f → IsLeast (FitsList 7) f) → look (sight blocks old at) key ≡ None
+  pub list_new : (fresh : Value) → value_of (blocks old.store) fresh ≡ ListOf [] → ((f : Form) → encoding_of fresh ≡ OfForm f → IsLeast (FitsList 7) f) → look (visible blocks old at) key ≡ None
       → (result : Result (Unit {0}) X) → OnOk result (MakesNew makes first last blocks old new at key fresh) → OnOk result (ListChanged (Counting own left) keep_any blocks old new at key)
   list_new fresh empty least none (Err e) p = tt
   list_new fresh empty least none (Ok u) p =
@@ -82,8 +82,8 @@ module _ {S T X : Type 0} (makes : T → T → Shape → Shape → Type 0) (own 
         form = q.form;
         made = (subst (λ (l : Elements). own l q.from q.now q.form) nothing q.made, q.counted);
         was_form = least q.from q.was_form;
-        world = p.world ∙ ap (λ (v : model.Value). put (sight blocks old at) key (record { value = v; deadline = None })) q.is
-            ∙ ap (λ (d : Option ℕ). put (sight blocks old at) key (record { value = ListOf q.now; deadline = d })) (sym (ap deadline_of none));
+        world = p.world ∙ ap (λ (v : model.Value). put (visible blocks old at) key (record { value = v; deadline = None })) q.is
+            ∙ ap (λ (d : Option ℕ). put (visible blocks old at) key (record { value = ListOf q.now; deadline = d })) (sym (ap deadline_of none));
         value = p.now;
         only = p.only;
         encoded = p.encoded ∙ q.is_form;
@@ -101,8 +101,8 @@ module _ {S T X : Type 0} (makes : T → T → Shape → Shape → Type 0) (own 
         form = q.form;
         made = (q.made, q.counted);
         was_form = (p.was, p.had, q.was_form);
-        world = p.world ∙ ap (λ (v : model.Value). put (sight blocks old at) key (record { value = v; deadline = p.deadline })) q.is
-            ∙ ap (λ (d : Option ℕ). put (sight blocks old at) key (record { value = ListOf q.now; deadline = d })) (sym (ap deadline_of p.stands));
+        world = p.world ∙ ap (λ (v : model.Value). put (visible blocks old at) key (record { value = v; deadline = p.deadline })) q.is
+            ∙ ap (λ (d : Option ℕ). put (visible blocks old at) key (record { value = ListOf q.now; deadline = d })) (sym (ap deadline_of p.stands));
         value = p.now;
         only = p.only;
         encoded = q.is_form;
@@ -136,13 +136,13 @@ module _ {S : Type 0} (own : Elements → Form → Elements → Form → Type 0)
     form = p.form;
     made = p.made.0;
     was_form = p.was_form;
-    world = kept_is (sight blocks old at) (sight blocks mid at) key p.now (omega (arith, some, p.made.1)) p.world;
+    world = kept_is (visible blocks old at) (visible blocks mid at) key p.now (omega (arith, some, p.made.1)) p.world;
     value = p.value;
     only = p.only;
     encoded = p.encoded;
   }
 
-  pub list_gone : left ≡ 0 → (new : Keyspace S) → sight blocks new at ≡ remove (sight blocks mid at) key → Within (no_key at.db) mid.bases new.bases (blocks mid.store) (blocks new.store)
+  pub list_gone : left ≡ 0 → (new : Keyspace S) → visible blocks new at ≡ remove (visible blocks mid at) key → Within (no_key at.db) mid.bases new.bases (blocks mid.store) (blocks new.store)
       → ListChanged own keep_list blocks old new at key
   list_gone none new world within = record {
     before = p.before;
@@ -152,17 +152,17 @@ module _ {S : Type 0} (own : Elements → Form → Elements → Form → Type 0)
     form = p.form;
     made = p.made.0;
     was_form = p.was_form;
-    world = gone_is (sight blocks old at) (sight blocks new at) key p.now (omega (arith, none, p.made.1))
-        (world ∙ ap (λ (w : World). remove w key) p.world ∙ remove_put (sight blocks old at) key
-        (record { value = ListOf p.now; deadline = deadline_of (look (sight blocks old at) key) }));
+    world = gone_is (visible blocks old at) (visible blocks new at) key p.now (omega (arith, none, p.made.1))
+        (world ∙ ap (λ (w : World). remove w key) p.world ∙ remove_put (visible blocks old at) key
+        (record { value = ListOf p.now; deadline = deadline_of (look (visible blocks old at) key) }));
     value = p.value;
     only = only_on mid.bases new.bases (blocks mid.store) (blocks new.store) at.db key p.value p.only within;
     encoded = p.encoded;
   }
 
 -- a key is removed after it was changed
-pub held_gone : {S : Type 0} (blocks : S → Blocks) (step : S → S → Type 0) (db : ℕ) (key : List ℕ) (old mid new : Keyspace S) → Held blocks step (one_key db key) old mid
-    → Held blocks step (no_key db) mid new → Held blocks step (one_key db key) old new
+pub held_gone : {S : Type 0} (blocks : S → Blocks) (step : S → S → Type 0) (db : ℕ) (key : List ℕ) (old mid new : Keyspace S) → KeepsTo blocks step (one_key db key) old mid
+    → KeepsTo blocks step (no_key db) mid new → KeepsTo blocks step (one_key db key) old new
 held_gone blocks step db key old mid new p q =
     held_then blocks step (one_key db key) old mid new p
     (record {

@@ -32,8 +32,8 @@ use Rattle.keyspace.specs.declared.value.Value.{Value}
 use Rattle.keyspace.specs.Values.{value_refs}
 use Rattle.keyspace.specs.Databases.{Bases, Keyspace}
 use Rattle.keyspace.specs.Scopes.{Scope, one_key, two_keys, Within}
-use Rattle.keyspace.specs.Forms.{AsAt, Either, Form, HasForm, Formed, IsRisenAt, IsFormAt, list_of, list_at, risen_to, moved_to}
-use Rattle.keyspace.specs.Commands.{Held, sight}
+use Rattle.keyspace.specs.Forms.{AsAt, Either, FormRule, HasForm, Formed, IsRisenAt, IsFormAt, list_of, list_at, risen_to, moved_to}
+use Rattle.keyspace.specs.Commands.{KeepsTo, visible}
 use Rattle.cmd_lists.specs.Found.{FoundOther}
 use Rattle.cmd_lists.specs.Changed.{HasList, IsBefore}
 use Rattle.cmd_lists.specs.Moved.{HasNoOther, HasNone, IsFirst}
@@ -121,8 +121,8 @@ eq_apart a b apart = elim (cases_Bool (bytes_eq a b)) [
   | inr other ↦ other
 ]
 
-pub held_from : {S : Type 0} (blocks : S → Blocks) (step : S → S → Type 0) (db : ℕ) (from to : List ℕ) (old new : Keyspace S) → Held blocks step (one_key db from) old new
-    → Held blocks step (two_keys db from db to) old new
+pub held_from : {S : Type 0} (blocks : S → Blocks) (step : S → S → Type 0) (db : ℕ) (from to : List ℕ) (old new : Keyspace S) → KeepsTo blocks step (one_key db from) old new
+    → KeepsTo blocks step (two_keys db from db to) old new
 held_from blocks step db from to old new p = record {
   sound = p.sound;
   served = p.served;
@@ -131,8 +131,8 @@ held_from blocks step db from to old new p = record {
       (blocks old.store) (blocks new.store) p.within;
 }
 
-pub held_to : {S : Type 0} (blocks : S → Blocks) (step : S → S → Type 0) (db : ℕ) (from to : List ℕ) (old new : Keyspace S) → Held blocks step (one_key db to) old new
-    → Held blocks step (two_keys db from db to) old new
+pub held_to : {S : Type 0} (blocks : S → Blocks) (step : S → S → Type 0) (db : ℕ) (from to : List ℕ) (old new : Keyspace S) → KeepsTo blocks step (one_key db to) old new
+    → KeepsTo blocks step (two_keys db from db to) old new
 held_to blocks step db from to old new p = record {
   sound = p.sound;
   served = p.served;
@@ -182,36 +182,36 @@ written_as Is Also on old new m after p db at e found = elim (p db at e found) [
 
 module _ {S : Type 0} (blocks : S → Blocks) (at : Ctx) (from to : List ℕ) where
   pub formed_both : {X : Type 0} (old mid new : Keyspace S) (other : ListEnd) (element : List ℕ) (result : Result (Unit {0}) X) → (from ≡ to → ⊥)
-      → look (sight blocks mid at) to ≡ look (sight blocks old at) to
+      → look (visible blocks mid at) to ≡ look (visible blocks old at) to
       → Within (one_key at.db from) old.bases mid.bases (blocks old.store) (blocks mid.store) → Formed blocks (AsAt at.db from) old mid
-      → OnOk result (Formed blocks (risen_to at.db (sight blocks mid at) to (added other (list_at (sight blocks mid at) to) (element ∷ []))) mid new)
-      → OnOk result (Formed blocks (Either (AsAt at.db from) (risen_to at.db (sight blocks old at) to (added other (list_at (sight blocks old at) to) (element ∷ [])))) old new)
+      → OnOk result (Formed blocks (risen_to at.db (visible blocks mid at) to (added other (list_at (visible blocks mid at) to) (element ∷ []))) mid new)
+      → OnOk result (Formed blocks (Either (AsAt at.db from) (risen_to at.db (visible blocks old at) to (added other (list_at (visible blocks old at) to) (element ∷ [])))) old new)
   formed_both old mid new other element (Err x) apart same within first last = tt
   formed_both old mid new other element (Ok u) apart same within first last =
       let m = blocks old.store in
       let own = blocks mid.store in
-      let before = look (sight blocks mid at) to in
-      let Is : Value → Type 0 = HasForm (Either (AsAt at.db from) (risen_to at.db (sight blocks old at) to (added other (list_at (sight blocks old at) to) (element ∷ [])))) old.bases m in
+      let before = look (visible blocks mid at) to in
+      let Is : Value → Type 0 = HasForm (Either (AsAt at.db from) (risen_to at.db (visible blocks old at) to (added other (list_at (visible blocks old at) to) (element ∷ [])))) old.bases m in
       written_then value_refs Is old.bases mid.bases new.bases m own (blocks new.store)
       (written_as (HasForm (AsAt at.db from) old.bases m) Is (λ value is. inl is) old.bases mid.bases m own first)
-      (written_as (HasForm (risen_to at.db (sight blocks mid at) to (added other (list_at (sight blocks mid at) to) (element ∷ []))) mid.bases own) Is
+      (written_as (HasForm (risen_to at.db (visible blocks mid at) to (added other (list_at (visible blocks mid at) to) (element ∷ []))) mid.bases own) Is
       (λ value is. inr (subst (λ (o : Option Entry). IsRisenAt (is_some o) (pack_len (added other (list_of o) (element ∷ []))) at.db to old.bases m value) same
       (risen_before (is_some before) (pack_len (added other (list_of before) (element ∷ []))) (one_key at.db from) at.db to value old.bases mid.bases m own (λ named. apart (sym named.1)) within is)))
       mid.bases new.bases own (blocks new.store) last)
 
-  pub formed_same : {A X : Type 0} (old new : Keyspace S) (list : Elements) (form : Form) (result : Result A X) → from ≡ to
-      → form ≡ Either (AsAt at.db from) (risen_to at.db (sight blocks old at) to list)
-      → Formed blocks (risen_to at.db (sight blocks old at) from list) old new → IfOk result (λ reply. Formed blocks form old new)
+  pub formed_same : {A X : Type 0} (old new : Keyspace S) (list : Elements) (form : FormRule) (result : Result A X) → from ≡ to
+      → form ≡ Either (AsAt at.db from) (risen_to at.db (visible blocks old at) to list)
+      → Formed blocks (risen_to at.db (visible blocks old at) from list) old new → IfOk result (λ reply. Formed blocks form old new)
   formed_same old new list form (Err x) same is p = tt
   formed_same old new list form (Ok reply) same is p =
       let m = blocks old.store in
-      subst (λ (f : Form). Formed blocks f old new) (sym is)
-      (written_as (HasForm (risen_to at.db (sight blocks old at) from list) old.bases m) (HasForm (Either (AsAt at.db from) (risen_to at.db (sight blocks old at) to list)) old.bases m)
-      (λ value h. inr (subst (λ (k : List ℕ). HasForm (risen_to at.db (sight blocks old at) k list) old.bases m value) same h)) old.bases new.bases m (blocks new.store) p)
+      subst (λ (f : FormRule). Formed blocks f old new) (sym is)
+      (written_as (HasForm (risen_to at.db (visible blocks old at) from list) old.bases m) (HasForm (Either (AsAt at.db from) (risen_to at.db (visible blocks old at) to list)) old.bases m)
+      (λ value h. inr (subst (λ (k : List ℕ). HasForm (risen_to at.db (visible blocks old at) k list) old.bases m value) same h)) old.bases new.bases m (blocks new.store) p)
 
-  pub formed_moved : {A X : Type 0} (old new : Keyspace S) (form made : Form) (result : Result A X) → form ≡ made → Formed blocks made old new → IfOk result (λ reply. Formed blocks form old new)
+  pub formed_moved : {A X : Type 0} (old new : Keyspace S) (form made : FormRule) (result : Result A X) → form ≡ made → Formed blocks made old new → IfOk result (λ reply. Formed blocks form old new)
   formed_moved old new form made (Err x) is p = tt
-  formed_moved old new form made (Ok reply) is p = subst (λ (f : Form). Formed blocks f old new) (sym is) p
+  formed_moved old new form made (Ok reply) is p = subst (λ (f : FormRule). Formed blocks f old new) (sym is) p
 
 -- ---- what is answered
 
@@ -268,7 +268,7 @@ module _ (old : World) (from to : List ℕ) (end other : ListEnd) (element : Lis
       ∙ ap (λ (w : World). leaves (Bulk element ∷ []) w) (sym world)
       ∙ ap (λ r. leaves r new) (sym told)
 
-  abbrev form_with : ℕ → Elements → Form
+  abbrev form_with : ℕ → Elements → FormRule
   form_with db list = Either (AsAt db from) (risen_to db old to (added other list (element ∷ [])))
 
   form_met : (db : ℕ) (same : Bool) → bytes_eq from to ≡ same → moved_to db old from to end other (from_end end (list_at old from)) ≡ form_with db (cond same (from_end end p.met) (list_at old to))

@@ -17,7 +17,7 @@ use Rattle.keyspace.specs.Databases.{Keyspace}
 use Rattle.keyspace.specs.Scopes.{list_scope, scope_of}
 use Rattle.keyspace.specs.Forms.{Formed, list_form, form_of}
 use Rattle.keyspace.specs.Shown.{Shows}
-use Rattle.keyspace.specs.Commands.{Ready, Kept, Runs, sight}
+use Rattle.keyspace.specs.Commands.{Ready, KeepsOrRefuses, Runs, visible}
 use Rattle.keyspace.proofs.Running.{outcome_is, unchanged, nothing_shown}
 use Rattle.keyspace.proofs.Forming.{unformed}
 use Rattle.cmd_lists.specs.Found.{Gives}
@@ -29,15 +29,15 @@ step_of seed moment old new command own same (Err x) e f given = tt
 
 module _ {S E : Type 0} (blocks : S → Blocks) (step : S → S → Type 0) where
   pub ran : (old new : Keyspace S) (at : Ctx) (command : Command) (own same : ListCommand) (result : Result (List Part) E)
-      → command ≡ Lists own → own ≡ same → Gives blocks old new at same result → Kept blocks step (list_scope at.db same) old new result
-      → IfOk result (λ reply. Formed blocks (list_form at.db (sight blocks old at) same) old new) → Runs blocks step old new at command result
+      → command ≡ Lists own → own ≡ same → Gives blocks old new at same result → KeepsOrRefuses blocks step (list_scope at.db same) old new result
+      → IfOk result (λ reply. Formed blocks (list_form at.db (visible blocks old at) same) old new) → Runs blocks step old new at command result
   ran old new at command own same result e f given kept forms =
       let is = e ∙ ap Lists f in
       record {
-        answers = step_of old.bases.seed at.moment (sight blocks old at) (sight blocks new at) command own same result e f given;
-        kept = subst (λ x. Kept blocks step (scope_of at.db x) old new result) (sym is) kept;
+        answers = step_of old.bases.seed at.moment (visible blocks old at) (visible blocks new at) command own same result e f given;
+        kept = subst (λ x. KeepsOrRefuses blocks step (scope_of at.db x) old new result) (sym is) kept;
         shows = subst (λ x. IfOk result (λ reply. Shows blocks old new at x reply)) (sym is) (nothing_shown result);
-        forms = subst (λ x. IfOk result (λ reply. Formed blocks (form_of at.db (sight blocks old at) x) old new)) (sym is) forms;
+        forms = subst (λ x. IfOk result (λ reply. Formed blocks (form_of at.db (visible blocks old at) x) old new)) (sym is) forms;
       }
 
   -- a command that only looked
@@ -45,7 +45,7 @@ module _ {S E : Type 0} (blocks : S → Blocks) (step : S → S → Type 0) wher
       → command ≡ Lists own → own ≡ same → Gives blocks keyspace keyspace at same result → Ready blocks keyspace at → Runs blocks step keyspace keyspace at command result
   looked keyspace at command own same result e f given ready =
       ran keyspace keyspace at command own same result e f given (unchanged blocks step (list_scope at.db same) keyspace result ready.sound)
-      (unformed blocks (list_form at.db (sight blocks keyspace at) same) keyspace result)
+      (unformed blocks (list_form at.db (visible blocks keyspace at) same) keyspace result)
 
 -- what a request writes has one element at least
 pub some_lpush : (own : ListCommand) (key : List ℕ) (list : List (List ℕ)) → IsAsked (Lists own) → own ≡ lists.LPush key list → 0 < length list

@@ -18,7 +18,7 @@ use Rattle.plain_model.specs.declared.ctx.Ctx.{Ctx}
 use Rattle.keyspace.specs.Databases.{Keyspace}
 use Rattle.keyspace.specs.Scopes.{Scope, one_key}
 use Rattle.keyspace.specs.Forms.{Formed, list_at, set_to}
-use Rattle.keyspace.specs.Commands.{Held, Kept, sight}
+use Rattle.keyspace.specs.Commands.{KeepsTo, KeepsOrRefuses, visible}
 use Rattle.keyspace.proofs.Running.{calm}
 use Rattle.plain_model.specs.ListSteps.{Elements, on_list, or_none, keep_list, place_of, replaced, set_at, set_place, trim, list_range}
 use Rattle.cmd_lists.specs.Changed.{HasList, IsBefore, ListChanged}
@@ -114,18 +114,18 @@ trim_gives old new key a b first count before list from now form stands has rang
 -- ---- OK is no refusal, and what was set has risen
 
 pub simple_calm : {S X : Type 0} (blocks : S → Blocks) (step : S → S → Type 0) (scope : Scope) (old new : Keyspace S) (line : List ℕ) (result : Result (List Part) X)
-    → IfOk result (λ reply. reply ≡ Simple line ∷ []) → Held blocks step scope old new
-    → Kept blocks step scope old new result
+    → IfOk result (λ reply. reply ≡ Simple line ∷ []) → KeepsTo blocks step scope old new
+    → KeepsOrRefuses blocks step scope old new result
 simple_calm blocks step scope old new line (Err x) told held = calm blocks step scope old new (Err x) tt held
 simple_calm blocks step scope old new line (Ok reply) told held = calm blocks step scope old new (Ok reply) (λ refused. subst IsRefusal told refused) held
 
 pub set_formed : {S A X : Type 0} (own : Elements → Form → Elements → Form → Type 0) (blocks : S → Blocks) (step : S → S → Type 0) (old new : Keyspace S) (at : Ctx) (key : List ℕ)
-    (p : ListChanged own keep_list blocks old new at key) (held : Held blocks step (one_key at.db key) old new)
-    (element : List ℕ) (index : ℤ) (place : ℕ) (list : Elements) (len : ℕ) → HasList (sight blocks old at) key list → len ≡ length list → place_of len index ≡ Some place
+    (p : ListChanged own keep_list blocks old new at key) (held : KeepsTo blocks step (one_key at.db key) old new)
+    (element : List ℕ) (index : ℤ) (place : ℕ) (list : Elements) (len : ℕ) → HasList (visible blocks old at) key list → len ≡ length list → place_of len index ≡ Some place
     → p.now ≡ replaced (or_none p.before) place element → IsRisen p.from p.now p.form
-    → (result : Result A X) → IfOk result (λ reply. Formed blocks (set_to at.db (sight blocks old at) key element (place_of (length (list_at (sight blocks old at) key)) index)) old new)
+    → (result : Result A X) → IfOk result (λ reply. Formed blocks (set_to at.db (visible blocks old at) key element (place_of (length (list_at (visible blocks old at) key)) index)) old new)
 set_formed own blocks step old new at key p held element index place list len has size there is risen result =
-    let world = sight blocks old at in
+    let world = visible blocks old at in
     let stood : list_at world key ≡ list = list_before world key (Some list) has in
     let same : place_of (length (list_at world key)) index ≡ Some place = ap (λ l. place_of (length l) index) stood ∙ ap (λ n. place_of n index) (sym size) ∙ there in
     subst (λ o. IfOk result (λ reply. Formed blocks (set_to at.db world key element o) old new)) (sym same)

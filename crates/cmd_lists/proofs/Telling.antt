@@ -20,7 +20,7 @@ use Rattle.keyspace.specs.Values.{OfForm, value_refs}
 use Rattle.keyspace.specs.Databases.{Keyspace}
 use Rattle.keyspace.specs.Scopes.{Scope, one_key}
 use Rattle.keyspace.specs.Forms.{AsAt, HasForm, Formed, IsRisenAt, IsFormAt, list_of, list_at, risen_to}
-use Rattle.keyspace.specs.Commands.{Held, Kept, sight}
+use Rattle.keyspace.specs.Commands.{KeepsTo, KeepsOrRefuses, visible}
 use Rattle.keyspace.proofs.Running.{calm}
 use Rattle.cmd_lists.specs.Changed.{HasList, IsBefore, ListChanged}
 use Rattle.cmd_lists.specs.Pushed.{Pushes}
@@ -59,21 +59,21 @@ pushed_reply old new key end words list long before from form p world (Ok reply)
 
 -- the list that was written has risen, whatever is answered
 module _ {S : Type 0} (own : Elements → Form → Elements → Form → Type 0) (blocks : S → Blocks) (step : S → S → Type 0) (old new : Keyspace S) (at : Ctx) (key : List ℕ)
-    (p : ListChanged own keep_list blocks old new at key) (held : Held blocks step (one_key at.db key) old new) where
-  pub risen_there : (list : Elements) → p.now ≡ list → IsRisen p.from p.now p.form → Formed blocks (risen_to at.db (sight blocks old at) key list) old new
+    (p : ListChanged own keep_list blocks old new at key) (held : KeepsTo blocks step (one_key at.db key) old new) where
+  pub risen_there : (list : Elements) → p.now ≡ list → IsRisen p.from p.now p.form → Formed blocks (risen_to at.db (visible blocks old at) key list) old new
   risen_there list is risen =
-      let there = is_some (look (sight blocks old at) key) in
+      let there = is_some (look (visible blocks old at) key) in
       written_key value_refs (IsRisenAt there (pack_len list) at.db key old.bases (blocks old.store)) at.db key p.value
       (record {
         from = p.from;
         form = p.form;
-        at = subst (λ t. IsFormAt t old.bases (blocks old.store) at.db key p.from) (sym (there_before (sight blocks old at) key p.before p.stands)) p.was_form;
+        at = subst (λ t. IsFormAt t old.bases (blocks old.store) at.db key p.from) (sym (there_before (visible blocks old at) key p.before p.stands)) p.was_form;
         is = p.encoded;
         risen = subst (λ (l : Elements). IsLeastFrom p.from (FitsList (pack_len l)) p.form) is risen;
       }) old.bases new.bases (blocks old.store) (blocks new.store) held.within held.sound.arranged p.only
 
   pub formed_risen : (list : Elements) → p.now ≡ list → IsRisen p.from p.now p.form → {A X : Type 0} (result : Result A X)
-      → IfOk result (λ reply. Formed blocks (risen_to at.db (sight blocks old at) key list) old new)
+      → IfOk result (λ reply. Formed blocks (risen_to at.db (visible blocks old at) key list) old new)
   formed_risen list is risen (Err x) = tt
   formed_risen list is risen (Ok reply) = risen_there list is risen
 
@@ -111,8 +111,8 @@ no_refusal None refused = refused
 no_refusal (Some element) refused = refused
 
 pub popped_calm : {S X : Type 0} (blocks : S → Blocks) (step : S → S → Type 0) (scope : Scope) (old new : Keyspace S) (taken : Option (List ℕ)) (result : Result (List Part) X)
-    → IfOk result (λ reply. reply ≡ or_null taken ∷ []) → Held blocks step scope old new
-    → Kept blocks step scope old new result
+    → IfOk result (λ reply. reply ≡ or_null taken ∷ []) → KeepsTo blocks step scope old new
+    → KeepsOrRefuses blocks step scope old new result
 popped_calm blocks step scope old new taken (Err x) told held = calm blocks step scope old new (Err x) tt held
 popped_calm blocks step scope old new taken (Ok reply) told held = calm blocks step scope old new (Ok reply) (λ refused. no_refusal taken (subst IsRefusal told refused)) held
 
@@ -130,6 +130,6 @@ many_gives old new key end n parts before list from now form stands has p world 
     ∙ ap (leaves reply) (sym world)
 
 pub listed_calm : {S X : Type 0} (blocks : S → Blocks) (step : S → S → Type 0) (scope : Scope) (old new : Keyspace S) (list : Elements) (reply : List Part) → reply ≡ listed list
-    → Held blocks step scope old new
-    → Kept {E = X} blocks step scope old new (Ok reply)
+    → KeepsTo blocks step scope old new
+    → KeepsOrRefuses {E = X} blocks step scope old new (Ok reply)
 listed_calm blocks step scope old new list reply told held = calm blocks step scope old new (Ok reply) (λ refused. subst IsRefusal told refused) held

@@ -11,7 +11,7 @@ use Rattle.keyspace.specs.declared.value.Value as kinds
 use Rattle.keyspace.specs.Values.{OfForm, encoding_of}
 use Rattle.keyspace.specs.Databases.{Bases, Keyspace}
 use Rattle.keyspace.specs.Forms.{IsFormAt}
-use Rattle.keyspace.specs.Commands.{sight}
+use Rattle.keyspace.specs.Commands.{visible}
 use Rattle.keyspace.specs.Edits.{Shape}
 
 -- this list stands at the key
@@ -70,13 +70,13 @@ pub record ListChanged {S : Type 0} (makes : Elements → Form → Elements → 
     (kept : World → List ℕ → Elements → World) (blocks : S → Blocks) (old new : Keyspace S) (at : Ctx) (key : List ℕ)
     : Type 0 where
   pub before : Option Elements
-  pub stands : IsBefore (sight blocks old at) key before
+  pub stands : IsBefore (visible blocks old at) key before
   pub from : Form
   pub now : Elements
   pub form : Form
   pub made : makes (or_none before) from now form
   pub was_form : IsFormAt (is_some before) old.bases (blocks old.store) at.db key from
-  pub world : sight blocks new at ≡ kept (sight blocks old at) key now
+  pub world : visible blocks new at ≡ kept (visible blocks old at) key now
   pub value : kinds.Value
   pub only : HasOnly new.bases (blocks new.store) at.db key value
   pub encoded : encoding_of value ≡ OfForm form

@@ -10,7 +10,7 @@ use Rattle.plain_model.specs.ListSteps.{list_outcome}
 use Rattle.plain_model.specs.declared.ctx.Ctx.{Ctx}
 use Rattle.plain_model.specs.declared.list_command.ListCommand.{ListCommand}
 use Rattle.keyspace.specs.Databases.{Keyspace}
-use Rattle.keyspace.specs.Commands.{sight}
+use Rattle.keyspace.specs.Commands.{visible}
 
 -- the list stands at the key, and is sound
 pub record FoundList (world : World) (blocks : Blocks) (key : List ℕ) (q : Chain) : Type 0 where
@@ -28,4 +28,4 @@ pub record FoundOther (world : World) (key : List ℕ) : Type 0 where
 abbrev pub Gives : {S E : Type 0} → (S → Blocks) → Keyspace S → Keyspace S → Ctx → ListCommand
     → Result (List Part) E → Type 0
 Gives blocks old new at command result =
-    IfOk result (λ reply. list_outcome (sight blocks old at) command ≡ leaves reply (sight blocks new at))
+    IfOk result (λ reply. list_outcome (visible blocks old at) command ≡ leaves reply (visible blocks new at))

@@ -7,7 +7,7 @@ ghost use Rattle.held.specs.Calls.{Seeks};
 ghost use Rattle.keyspace.specs.Looks.{IsLook};
 ghost use Rattle.keyspace.specs.Scopes.{one_key};
 ghost use Rattle.keyspace.specs.Seeking.{Sees};
-ghost use Rattle.keyspace.specs.Commands.{Ready, Held, sight};
+ghost use Rattle.keyspace.specs.Commands.{Ready, KeepsTo, visible};
 ghost use Rattle.cmd_lists.specs.Found.{FoundOther};
 ghost use Rattle.cmd_lists.specs.Changed.{HasList, ListItem, IsBefore, IsListThere, Counting, ListChanged, keep_any};
 
@@ -26,8 +26,8 @@ pub fn list_sought<B: BlockStore>(
 ) -> Look<usize>
     requires ready { Ready B.blocks keyspace.now at.now }
     requires sees { Sees B.blocks keyspace.now at.now key.now found }
-    ensures { IsLook (look (sight B.blocks keyspace.now at.now) key.now ≡ None) (FoundOther (sight B.blocks keyspace.now at.now) key.now)
-        (ListItem (sight B.blocks keyspace.now at.now) keyspace.now.bases (B.blocks keyspace.now.store) at.now.db key.now at.now.moment) result }
+    ensures { IsLook (look (visible B.blocks keyspace.now at.now) key.now ≡ None) (FoundOther (visible B.blocks keyspace.now at.now) key.now)
+        (ListItem (visible B.blocks keyspace.now at.now) keyspace.now.bases (B.blocks keyspace.now.store) at.now.db key.now at.now.moment) result }
 {
     // what was found tells the key
     let _ = key;
@@ -46,8 +46,8 @@ pub fn list_sought<B: BlockStore>(
 /// The length of the list at a key, by its item number.
 pub fn length_at<B: BlockStore>(keyspace: &Keyspace<B>, at: &Ctx, key: &[u8], item: usize) -> usize
     requires ready { Ready B.blocks keyspace.now at.now }
-    requires there { ListItem (sight B.blocks keyspace.now at.now) keyspace.now.bases (B.blocks keyspace.now.store) at.now.db key.now at.now.moment item }
-    ensures { (list : List (List ℕ)) → HasList (sight B.blocks keyspace.now at.now) key.now list → result ≡ length list }
+    requires there { ListItem (visible B.blocks keyspace.now at.now) keyspace.now.bases (B.blocks keyspace.now.store) at.now.db key.now at.now.moment item }
+    ensures { (list : List (List ℕ)) → HasList (visible B.blocks keyspace.now at.now) key.now list → result ≡ length list }
 {
     // the item number tells the key
     let _ = key;
@@ -69,10 +69,10 @@ fn edit_list<E: ListEdit, B: BlockStore>(
 ) -> Result<(), Memory>
     requires ready { Ready B.blocks keyspace.old at.now }
     requires seeks { Seeks keyspace.old.bases (B.blocks keyspace.old.store) at.now.db key.now sought }
-    requires there { IsListThere (sight B.blocks keyspace.old at.now) keyspace.old.bases (B.blocks keyspace.old.store) at.now.db key.now at.now.moment there }
-    requires takes { (before : Option (List (List ℕ))) → IsBefore (sight B.blocks keyspace.old at.now) key.now before → E.takes on.old.edit (or_none before) }
+    requires there { IsListThere (visible B.blocks keyspace.old at.now) keyspace.old.bases (B.blocks keyspace.old.store) at.now.db key.now at.now.moment there }
+    requires takes { (before : Option (List (List ℕ))) → IsBefore (visible B.blocks keyspace.old at.now) key.now before → E.takes on.old.edit (or_none before) }
     ensures edited { OnOk result (ListChanged (Counting (E.makes on.old.edit on.new.edit) on.new.left) keep_any B.blocks keyspace.old keyspace.new at.now key.now) }
-    ensures held { Held B.blocks B.step (one_key at.now.db key.now) keyspace.old keyspace.new }
+    ensures held { KeepsTo B.blocks B.step (one_key at.now.db key.now) keyspace.old keyspace.new }
 {
     match there {
         None => {
@@ -96,10 +96,10 @@ pub fn change_list<E: ListEdit, B: BlockStore>(
 ) -> Result<E, Memory>
     requires ready { Ready B.blocks keyspace.old at.now }
     requires seeks { Seeks keyspace.old.bases (B.blocks keyspace.old.store) at.now.db key.now sought }
-    requires there { IsListThere (sight B.blocks keyspace.old at.now) keyspace.old.bases (B.blocks keyspace.old.store) at.now.db key.now at.now.moment there }
-    requires takes { (before : Option (List (List ℕ))) → IsBefore (sight B.blocks keyspace.old at.now) key.now before → E.takes edit (or_none before) }
+    requires there { IsListThere (visible B.blocks keyspace.old at.now) keyspace.old.bases (B.blocks keyspace.old.store) at.now.db key.now at.now.moment there }
+    requires takes { (before : Option (List (List ℕ))) → IsBefore (visible B.blocks keyspace.old at.now) key.now before → E.takes edit (or_none before) }
     ensures changed { IfOk result (λ last. ListChanged (E.makes edit last) keep_list B.blocks keyspace.old keyspace.new at.now key.now) }
-    ensures held { Held B.blocks B.step (one_key at.now.db key.now) keyspace.old keyspace.new }
+    ensures held { KeepsTo B.blocks B.step (one_key at.now.db key.now) keyspace.old keyspace.new }
 {
     let mut on = OnList { edit, left: 0 };
     edit_list(keyspace, at, key, sought, there, &mut on)?;

@@ -6,7 +6,7 @@ ghost use Rattle.plain_model.specs.ListSteps.{places};
 ghost use Rattle.plain_model.specs.declared.list_command.ListCommand.TheVariants as lists;
 ghost use Rattle.keyspace.specs.Scopes.{one_key};
 ghost use Rattle.keyspace.specs.Forms.{Formed, list_form};
-ghost use Rattle.keyspace.specs.Commands.{Ready, Kept, sight};
+ghost use Rattle.keyspace.specs.Commands.{Ready, KeepsOrRefuses, visible};
 ghost use Rattle.cmd_lists.specs.Found.{Gives};
 ghost use Rattle.cmd_lists.specs.Changed.{HasList, ListItem};
 ghost use Rattle.cmd_lists.specs.Inserted.{IsFirst, IsBeside, Inserts};
@@ -61,8 +61,8 @@ fn index_at<B: BlockStore>(
     pivot: &[u8],
 ) -> Option<usize>
     requires ready { Ready B.blocks keyspace.now at.now }
-    requires there { ListItem (sight B.blocks keyspace.now at.now) keyspace.now.bases (B.blocks keyspace.now.store) at.now.db key.now at.now.moment item }
-    ensures { (list : List (List ℕ)) → HasList (sight B.blocks keyspace.now at.now) key.now list → IsBeside side pivot.now list result }
+    requires there { ListItem (visible B.blocks keyspace.now at.now) keyspace.now.bases (B.blocks keyspace.now.store) at.now.db key.now at.now.moment item }
+    ensures { (list : List (List ℕ)) → HasList (visible B.blocks keyspace.now at.now) key.now list → IsBeside side pivot.now list result }
 {
     // the item number tells the key
     let _ = key;
@@ -105,8 +105,8 @@ pub fn linsert<B: BlockStore>(
 ) -> Result<Reply, Memory>
     requires ready { Ready B.blocks keyspace.old at.now }
     ensures gives { Gives B.blocks keyspace.old keyspace.new at.now (lists.LInsert key.now side pivot.now element.now) result }
-    ensures kept { Kept B.blocks B.step (one_key at.now.db key.now) keyspace.old keyspace.new result }
-    ensures forms { IfOk result (λ reply. Formed B.blocks (list_form at.now.db (sight B.blocks keyspace.old at.now) (lists.LInsert key.now side pivot.now element.now)) keyspace.old keyspace.new) }
+    ensures kept { KeepsOrRefuses B.blocks B.step (one_key at.now.db key.now) keyspace.old keyspace.new result }
+    ensures forms { IfOk result (λ reply. Formed B.blocks (list_form at.now.db (visible B.blocks keyspace.old at.now) (lists.LInsert key.now side pivot.now element.now)) keyspace.old keyspace.new) }
 {
     let alloc = keyspace.alloc();
     let found = seek(keyspace, at, key);

@@ -2,7 +2,7 @@
 
 ghost use Rattle.std.specs.Prelude.{◌≡◌, None};
 ghost use Rattle.plain_world.specs.Worlds.{look};
-ghost use Rattle.keyspace.specs.Commands.{Ready, sight};
+ghost use Rattle.keyspace.specs.Commands.{Ready, visible};
 ghost use Rattle.keyspace.specs.Looks.{IsLook};
 ghost use Rattle.cmd_lists.specs.Found.{FoundList, FoundOther};
 
@@ -18,8 +18,8 @@ pub fn list_at<'a, B: BlockStore>(
     key: &[u8],
 ) -> Look<&'a Quick>
     requires ready { Ready B.blocks keyspace.now at.now }
-    ensures { IsLook (look (sight B.blocks keyspace.now at.now) key.now ≡ None) (FoundOther (sight B.blocks keyspace.now at.now) key.now)
-        (λ list. FoundList (sight B.blocks keyspace.now at.now) (B.blocks keyspace.now.store) key.now list.now) result }
+    ensures { IsLook (look (visible B.blocks keyspace.now at.now) key.now ≡ None) (FoundOther (visible B.blocks keyspace.now at.now) key.now)
+        (λ list. FoundList (visible B.blocks keyspace.now at.now) (B.blocks keyspace.now.store) key.now list.now) result }
 {
     match keyspace.look(at.db, key, at.moment) {
         None => Look::Missing,

@@ -8,7 +8,7 @@ ghost use Rattle.keyspace.specs.Looks.{IsLook};
 ghost use Rattle.keyspace.specs.Scopes.{one_key, two_keys};
 ghost use Rattle.keyspace.specs.Forms as form;
 ghost use Rattle.keyspace.specs.Forms.{AsAt, Either, Formed, list_form, moved_to, risen_to};
-ghost use Rattle.keyspace.specs.Commands.{Ready, Held, Kept, sight};
+ghost use Rattle.keyspace.specs.Commands.{Ready, KeepsTo, KeepsOrRefuses, visible};
 ghost use Rattle.cmd_lists.specs.Found.{Gives, FoundOther};
 ghost use Rattle.cmd_lists.specs.Changed.{HasList, IsBefore, ListChanged};
 ghost use Rattle.cmd_lists.specs.Moved.{HasNoOther, HasNone, IsFirst, Takes, Turns};
@@ -67,8 +67,8 @@ fn first_at<B: BlockStore>(
 ) -> Result<Look<Bytes>, Memory>
     requires ready { Ready B.blocks keyspace.now at.now }
     ensures { IfOk result
-        (λ found. IsLook (HasNone (sight B.blocks keyspace.now at.now) key.now) (FoundOther (sight B.blocks keyspace.now at.now) key.now)
-        (λ element. IsFirst (sight B.blocks keyspace.now at.now) key.now end element) found) }
+        (λ found. IsLook (HasNone (visible B.blocks keyspace.now at.now) key.now) (FoundOther (visible B.blocks keyspace.now at.now) key.now)
+        (λ element. IsFirst (visible B.blocks keyspace.now at.now) key.now end element) found) }
 {
     match list_at(keyspace, at, key) {
         Look::Missing => Ok(Look::Missing),
@@ -85,8 +85,8 @@ fn first_at<B: BlockStore>(
 // Whether a value of another type than a list stands at a key.
 fn is_other<B: BlockStore>(keyspace: &Keyspace<B>, at: &Ctx, key: &[u8]) -> bool
     requires ready { Ready B.blocks keyspace.now at.now }
-    ensures other { result ≡ true → FoundOther (sight B.blocks keyspace.now at.now) key.now }
-    ensures no_other { result ≡ false → HasNoOther (sight B.blocks keyspace.now at.now) key.now }
+    ensures other { result ≡ true → FoundOther (visible B.blocks keyspace.now at.now) key.now }
+    ensures no_other { result ≡ false → HasNoOther (visible B.blocks keyspace.now at.now) key.now }
 {
     match list_at(keyspace, at, key) {
         Look::Missing => false,
@@ -103,10 +103,10 @@ fn change_at<E: ListEdit, B: BlockStore>(
     edit: E,
 ) -> Result<E, Memory>
     requires ready { Ready B.blocks keyspace.old at.now }
-    requires no_other { HasNoOther (sight B.blocks keyspace.old at.now) key.now }
-    requires takes { (before : Option (List (List ℕ))) → IsBefore (sight B.blocks keyspace.old at.now) key.now before → E.takes edit (or_none before) }
+    requires no_other { HasNoOther (visible B.blocks keyspace.old at.now) key.now }
+    requires takes { (before : Option (List (List ℕ))) → IsBefore (visible B.blocks keyspace.old at.now) key.now before → E.takes edit (or_none before) }
     ensures changed { IfOk result (λ last. ListChanged (E.makes edit last) keep_list B.blocks keyspace.old keyspace.new at.now key.now) }
-    ensures held { Held B.blocks B.step (one_key at.now.db key.now) keyspace.old keyspace.new }
+    ensures held { KeepsTo B.blocks B.step (one_key at.now.db key.now) keyspace.old keyspace.new }
 {
     let found = seek(keyspace, at, key);
     let there = match list_sought(keyspace, at, key, found) {
@@ -125,10 +125,10 @@ fn take_first<B: BlockStore>(
     end: ListEnd,
 ) -> Result<(), Memory>
     requires ready { Ready B.blocks keyspace.old at.now }
-    requires there { (list : List (List ℕ)) × HasList (sight B.blocks keyspace.old at.now) key.now list }
+    requires there { (list : List (List ℕ)) × HasList (visible B.blocks keyspace.old at.now) key.now list }
     ensures world { OnOk result
-        (sight B.blocks keyspace.new at.now ≡ keep_list (sight B.blocks keyspace.old at.now) key.now (without end 1 (form.list_at (sight B.blocks keyspace.old at.now) key.now))) }
-    ensures held { Held B.blocks B.step (one_key at.now.db key.now) keyspace.old keyspace.new }
+        (visible B.blocks keyspace.new at.now ≡ keep_list (visible B.blocks keyspace.old at.now) key.now (without end 1 (form.list_at (visible B.blocks keyspace.old at.now) key.now))) }
+    ensures held { KeepsTo B.blocks B.step (one_key at.now.db key.now) keyspace.old keyspace.new }
     ensures forms { OnOk result (Formed B.blocks (AsAt at.now.db key.now) keyspace.old keyspace.new) }
 {
     let _ = change_at(keyspace, at, key, Take { end })?;
@@ -144,13 +144,13 @@ fn put_one<B: BlockStore>(
     element: &Bytes,
 ) -> Result<(), Memory>
     requires ready { Ready B.blocks keyspace.old at.now }
-    requires no_other { HasNoOther (sight B.blocks keyspace.old at.now) key.now }
+    requires no_other { HasNoOther (visible B.blocks keyspace.old at.now) key.now }
     ensures world { OnOk result
-        (sight B.blocks keyspace.new at.now ≡ keep_list (sight B.blocks keyspace.old at.now) key.now
-        (added end (form.list_at (sight B.blocks keyspace.old at.now) key.now) (element.now ∷ []))) }
-    ensures held { Held B.blocks B.step (one_key at.now.db key.now) keyspace.old keyspace.new }
+        (visible B.blocks keyspace.new at.now ≡ keep_list (visible B.blocks keyspace.old at.now) key.now
+        (added end (form.list_at (visible B.blocks keyspace.old at.now) key.now) (element.now ∷ []))) }
+    ensures held { KeepsTo B.blocks B.step (one_key at.now.db key.now) keyspace.old keyspace.new }
     ensures forms { OnOk result
-        (Formed B.blocks (risen_to at.now.db (sight B.blocks keyspace.old at.now) key.now (added end (form.list_at (sight B.blocks keyspace.old at.now) key.now) (element.now ∷ [])))
+        (Formed B.blocks (risen_to at.now.db (visible B.blocks keyspace.old at.now) key.now (added end (form.list_at (visible B.blocks keyspace.old at.now) key.now) (element.now ∷ [])))
         keyspace.old keyspace.new) }
 {
     let words = [Word::new(element.as_slice())];
@@ -173,14 +173,14 @@ fn turn_list<B: BlockStore>(
     element: &Bytes,
 ) -> Result<(), Memory>
     requires ready { Ready B.blocks keyspace.old at.now }
-    requires first { IsFirst (sight B.blocks keyspace.old at.now) key.now end element.now }
+    requires first { IsFirst (visible B.blocks keyspace.old at.now) key.now end element.now }
     ensures world { OnOk result
-        (sight B.blocks keyspace.new at.now ≡ keep_list (sight B.blocks keyspace.old at.now) key.now
-        (added other (without end 1 (form.list_at (sight B.blocks keyspace.old at.now) key.now)) (element.now ∷ []))) }
-    ensures held { Held B.blocks B.step (one_key at.now.db key.now) keyspace.old keyspace.new }
+        (visible B.blocks keyspace.new at.now ≡ keep_list (visible B.blocks keyspace.old at.now) key.now
+        (added other (without end 1 (form.list_at (visible B.blocks keyspace.old at.now) key.now)) (element.now ∷ []))) }
+    ensures held { KeepsTo B.blocks B.step (one_key at.now.db key.now) keyspace.old keyspace.new }
     ensures forms { OnOk result
         (Formed B.blocks
-        (risen_to at.now.db (sight B.blocks keyspace.old at.now) key.now (added other (without end 1 (form.list_at (sight B.blocks keyspace.old at.now) key.now)) (element.now ∷ [])))
+        (risen_to at.now.db (visible B.blocks keyspace.old at.now) key.now (added other (without end 1 (form.list_at (visible B.blocks keyspace.old at.now) key.now)) (element.now ∷ [])))
         keyspace.old keyspace.new) }
 {
     let turn = Turn {
@@ -203,18 +203,18 @@ fn pass_on<B: BlockStore>(
     element: &Bytes,
 ) -> Result<(), Memory>
     requires ready { Ready B.blocks keyspace.old at.now }
-    requires first { IsFirst (sight B.blocks keyspace.old at.now) from.now end element.now }
-    requires no_other { HasNoOther (sight B.blocks keyspace.old at.now) to.now }
+    requires first { IsFirst (visible B.blocks keyspace.old at.now) from.now end element.now }
+    requires no_other { HasNoOther (visible B.blocks keyspace.old at.now) to.now }
     requires apart { from.now ≡ to.now → ⊥ }
     ensures world { OnOk result
-        (sight B.blocks keyspace.new at.now ≡ keep_list
-        (keep_list (sight B.blocks keyspace.old at.now) from.now (without end 1 (form.list_at (sight B.blocks keyspace.old at.now) from.now))) to.now
-        (added other (form.list_at (sight B.blocks keyspace.old at.now) to.now) (element.now ∷ []))) }
-    ensures held { Held B.blocks B.step (two_keys at.now.db from.now at.now.db to.now) keyspace.old keyspace.new }
+        (visible B.blocks keyspace.new at.now ≡ keep_list
+        (keep_list (visible B.blocks keyspace.old at.now) from.now (without end 1 (form.list_at (visible B.blocks keyspace.old at.now) from.now))) to.now
+        (added other (form.list_at (visible B.blocks keyspace.old at.now) to.now) (element.now ∷ []))) }
+    ensures held { KeepsTo B.blocks B.step (two_keys at.now.db from.now at.now.db to.now) keyspace.old keyspace.new }
     ensures forms { OnOk result
         (Formed B.blocks
         (Either (AsAt at.now.db from.now)
-        (risen_to at.now.db (sight B.blocks keyspace.old at.now) to.now (added other (form.list_at (sight B.blocks keyspace.old at.now) to.now) (element.now ∷ [])))) keyspace.old
+        (risen_to at.now.db (visible B.blocks keyspace.old at.now) to.now (added other (form.list_at (visible B.blocks keyspace.old at.now) to.now) (element.now ∷ [])))) keyspace.old
         keyspace.new) }
 {
     take_first(keyspace, at, from, end)?;
@@ -232,13 +232,13 @@ fn move_same<B: BlockStore>(
     element: Bytes,
 ) -> Result<Reply, Memory>
     requires ready { Ready B.blocks keyspace.old at.now }
-    requires first { IsFirst (sight B.blocks keyspace.old at.now) from.now end element }
+    requires first { IsFirst (visible B.blocks keyspace.old at.now) from.now end element }
     requires same { from.now ≡ to.now }
-    ensures gives { IfOk result (λ reply. move_element (sight B.blocks keyspace.old at.now) from.now to.now end other ≡ leaves reply (sight B.blocks keyspace.new at.now)) }
-    ensures kept { Kept B.blocks B.step (two_keys at.now.db from.now at.now.db to.now) keyspace.old keyspace.new result }
+    ensures gives { IfOk result (λ reply. move_element (visible B.blocks keyspace.old at.now) from.now to.now end other ≡ leaves reply (visible B.blocks keyspace.new at.now)) }
+    ensures kept { KeepsOrRefuses B.blocks B.step (two_keys at.now.db from.now at.now.db to.now) keyspace.old keyspace.new result }
     ensures forms { IfOk result
         (λ reply. Formed B.blocks
-        (moved_to at.now.db (sight B.blocks keyspace.old at.now) from.now to.now end other (from_end end (form.list_at (sight B.blocks keyspace.old at.now) from.now))) keyspace.old
+        (moved_to at.now.db (visible B.blocks keyspace.old at.now) from.now to.now end other (from_end end (form.list_at (visible B.blocks keyspace.old at.now) from.now))) keyspace.old
         keyspace.new) }
 {
     // it is the same key
@@ -259,13 +259,13 @@ fn move_apart<B: BlockStore>(
     element: Bytes,
 ) -> Result<Reply, Memory>
     requires ready { Ready B.blocks keyspace.old at.now }
-    requires first { IsFirst (sight B.blocks keyspace.old at.now) from.now end element }
+    requires first { IsFirst (visible B.blocks keyspace.old at.now) from.now end element }
     requires apart { from.now ≡ to.now → ⊥ }
-    ensures gives { IfOk result (λ reply. move_element (sight B.blocks keyspace.old at.now) from.now to.now end other ≡ leaves reply (sight B.blocks keyspace.new at.now)) }
-    ensures kept { Kept B.blocks B.step (two_keys at.now.db from.now at.now.db to.now) keyspace.old keyspace.new result }
+    ensures gives { IfOk result (λ reply. move_element (visible B.blocks keyspace.old at.now) from.now to.now end other ≡ leaves reply (visible B.blocks keyspace.new at.now)) }
+    ensures kept { KeepsOrRefuses B.blocks B.step (two_keys at.now.db from.now at.now.db to.now) keyspace.old keyspace.new result }
     ensures forms { IfOk result
         (λ reply. Formed B.blocks
-        (moved_to at.now.db (sight B.blocks keyspace.old at.now) from.now to.now end other (from_end end (form.list_at (sight B.blocks keyspace.old at.now) from.now))) keyspace.old
+        (moved_to at.now.db (visible B.blocks keyspace.old at.now) from.now to.now end other (from_end end (form.list_at (visible B.blocks keyspace.old at.now) from.now))) keyspace.old
         keyspace.new) }
 {
     let alloc = keyspace.alloc();
@@ -286,11 +286,11 @@ fn move_between<B: BlockStore>(
     other: ListEnd,
 ) -> Result<Reply, Memory>
     requires ready { Ready B.blocks keyspace.old at.now }
-    ensures gives { IfOk result (λ reply. move_element (sight B.blocks keyspace.old at.now) from.now to.now end other ≡ leaves reply (sight B.blocks keyspace.new at.now)) }
-    ensures kept { Kept B.blocks B.step (two_keys at.now.db from.now at.now.db to.now) keyspace.old keyspace.new result }
+    ensures gives { IfOk result (λ reply. move_element (visible B.blocks keyspace.old at.now) from.now to.now end other ≡ leaves reply (visible B.blocks keyspace.new at.now)) }
+    ensures kept { KeepsOrRefuses B.blocks B.step (two_keys at.now.db from.now at.now.db to.now) keyspace.old keyspace.new result }
     ensures forms { IfOk result
         (λ reply. Formed B.blocks
-        (moved_to at.now.db (sight B.blocks keyspace.old at.now) from.now to.now end other (from_end end (form.list_at (sight B.blocks keyspace.old at.now) from.now))) keyspace.old
+        (moved_to at.now.db (visible B.blocks keyspace.old at.now) from.now to.now end other (from_end end (form.list_at (visible B.blocks keyspace.old at.now) from.now))) keyspace.old
         keyspace.new) }
 {
     let alloc = keyspace.alloc();
@@ -318,8 +318,8 @@ pub fn lmove<B: BlockStore>(
 ) -> Result<Reply, Memory>
     requires ready { Ready B.blocks keyspace.old at.now }
     ensures gives { Gives B.blocks keyspace.old keyspace.new at.now (lists.LMove from.now to.now end other) result }
-    ensures kept { Kept B.blocks B.step (two_keys at.now.db from.now at.now.db to.now) keyspace.old keyspace.new result }
-    ensures forms { IfOk result (λ reply. Formed B.blocks (list_form at.now.db (sight B.blocks keyspace.old at.now) (lists.LMove from.now to.now end other)) keyspace.old keyspace.new) }
+    ensures kept { KeepsOrRefuses B.blocks B.step (two_keys at.now.db from.now at.now.db to.now) keyspace.old keyspace.new result }
+    ensures forms { IfOk result (λ reply. Formed B.blocks (list_form at.now.db (visible B.blocks keyspace.old at.now) (lists.LMove from.now to.now end other)) keyspace.old keyspace.new) }
 {
     move_between(keyspace, at, from, to, end, other)
 }
@@ -333,8 +333,8 @@ pub fn rpoplpush<B: BlockStore>(
 ) -> Result<Reply, Memory>
     requires ready { Ready B.blocks keyspace.old at.now }
     ensures gives { Gives B.blocks keyspace.old keyspace.new at.now (lists.RPopLPush from.now to.now) result }
-    ensures kept { Kept B.blocks B.step (two_keys at.now.db from.now at.now.db to.now) keyspace.old keyspace.new result }
-    ensures forms { IfOk result (λ reply. Formed B.blocks (list_form at.now.db (sight B.blocks keyspace.old at.now) (lists.RPopLPush from.now to.now)) keyspace.old keyspace.new) }
+    ensures kept { KeepsOrRefuses B.blocks B.step (two_keys at.now.db from.now at.now.db to.now) keyspace.old keyspace.new result }
+    ensures forms { IfOk result (λ reply. Formed B.blocks (list_form at.now.db (visible B.blocks keyspace.old at.now) (lists.RPopLPush from.now to.now)) keyspace.old keyspace.new) }
 {
     move_between(keyspace, at, from, to, ListEnd::Tail, ListEnd::Head)
 }

@@ -10,7 +10,7 @@ ghost use Rattle.plain_model.specs.ListSteps.{from_end, index_from, first_or_nul
 ghost use Rattle.plain_model.specs.declared.list_command.ListCommand.TheVariants as lists;
 ghost use Rattle.keyspace.specs.Scopes.{one_key};
 ghost use Rattle.keyspace.specs.Forms.{AsAt, Formed, list_form};
-ghost use Rattle.keyspace.specs.Commands.{Ready, Kept, sight};
+ghost use Rattle.keyspace.specs.Commands.{Ready, KeepsOrRefuses, visible};
 ghost use Rattle.cmd_lists.specs.Found.{Gives};
 ghost use Rattle.cmd_lists.specs.Popped.{Pops, PopsMany, or_null};
 
@@ -202,8 +202,8 @@ fn pop_first<B: BlockStore>(
     end: ListEnd,
 ) -> Result<Reply, Memory>
     requires ready { Ready B.blocks keyspace.old at.now }
-    ensures gives { IfOk result (λ reply. pop (sight B.blocks keyspace.old at.now) end key.now None ≡ leaves reply (sight B.blocks keyspace.new at.now)) }
-    ensures kept { Kept B.blocks B.step (one_key at.now.db key.now) keyspace.old keyspace.new result }
+    ensures gives { IfOk result (λ reply. pop (visible B.blocks keyspace.old at.now) end key.now None ≡ leaves reply (visible B.blocks keyspace.new at.now)) }
+    ensures kept { KeepsOrRefuses B.blocks B.step (one_key at.now.db key.now) keyspace.old keyspace.new result }
     ensures forms { IfOk result (λ reply. Formed B.blocks (AsAt at.now.db key.now) keyspace.old keyspace.new) }
 {
     let alloc = keyspace.alloc();
@@ -240,8 +240,8 @@ fn pop_many<B: BlockStore>(
     most: u64,
 ) -> Result<Reply, Memory>
     requires ready { Ready B.blocks keyspace.old at.now }
-    ensures gives { IfOk result (λ reply. pop (sight B.blocks keyspace.old at.now) end key.now (Some most) ≡ leaves reply (sight B.blocks keyspace.new at.now)) }
-    ensures kept { Kept B.blocks B.step (one_key at.now.db key.now) keyspace.old keyspace.new result }
+    ensures gives { IfOk result (λ reply. pop (visible B.blocks keyspace.old at.now) end key.now (Some most) ≡ leaves reply (visible B.blocks keyspace.new at.now)) }
+    ensures kept { KeepsOrRefuses B.blocks B.step (one_key at.now.db key.now) keyspace.old keyspace.new result }
     ensures forms { IfOk result (λ reply. Formed B.blocks (AsAt at.now.db key.now) keyspace.old keyspace.new) }
 {
     let alloc = keyspace.alloc();
@@ -270,8 +270,8 @@ fn pop_from<B: BlockStore>(
     most: Option<u64>,
 ) -> Result<Reply, Memory>
     requires ready { Ready B.blocks keyspace.old at.now }
-    ensures gives { IfOk result (λ reply. pop (sight B.blocks keyspace.old at.now) end key.now most ≡ leaves reply (sight B.blocks keyspace.new at.now)) }
-    ensures kept { Kept B.blocks B.step (one_key at.now.db key.now) keyspace.old keyspace.new result }
+    ensures gives { IfOk result (λ reply. pop (visible B.blocks keyspace.old at.now) end key.now most ≡ leaves reply (visible B.blocks keyspace.new at.now)) }
+    ensures kept { KeepsOrRefuses B.blocks B.step (one_key at.now.db key.now) keyspace.old keyspace.new result }
     ensures forms { IfOk result (λ reply. Formed B.blocks (AsAt at.now.db key.now) keyspace.old keyspace.new) }
 {
     match most {
@@ -289,8 +289,8 @@ pub fn lpop<B: BlockStore>(
 ) -> Result<Reply, Memory>
     requires ready { Ready B.blocks keyspace.old at.now }
     ensures gives { Gives B.blocks keyspace.old keyspace.new at.now (lists.LPop key.now most) result }
-    ensures kept { Kept B.blocks B.step (one_key at.now.db key.now) keyspace.old keyspace.new result }
-    ensures forms { IfOk result (λ reply. Formed B.blocks (list_form at.now.db (sight B.blocks keyspace.old at.now) (lists.LPop key.now most)) keyspace.old keyspace.new) }
+    ensures kept { KeepsOrRefuses B.blocks B.step (one_key at.now.db key.now) keyspace.old keyspace.new result }
+    ensures forms { IfOk result (λ reply. Formed B.blocks (list_form at.now.db (visible B.blocks keyspace.old at.now) (lists.LPop key.now most)) keyspace.old keyspace.new) }
 {
     pop_from(keyspace, at, key, ListEnd::Head, most)
 }
@@ -304,8 +304,8 @@ pub fn rpop<B: BlockStore>(
 ) -> Result<Reply, Memory>
     requires ready { Ready B.blocks keyspace.old at.now }
     ensures gives { Gives B.blocks keyspace.old keyspace.new at.now (lists.RPop key.now most) result }
-    ensures kept { Kept B.blocks B.step (one_key at.now.db key.now) keyspace.old keyspace.new result }
-    ensures forms { IfOk result (λ reply. Formed B.blocks (list_form at.now.db (sight B.blocks keyspace.old at.now) (lists.RPop key.now most)) keyspace.old keyspace.new) }
+    ensures kept { KeepsOrRefuses B.blocks B.step (one_key at.now.db key.now) keyspace.old keyspace.new result }
+    ensures forms { IfOk result (λ reply. Formed B.blocks (list_form at.now.db (visible B.blocks keyspace.old at.now) (lists.RPop key.now most)) keyspace.old keyspace.new) }
 {
     pop_from(keyspace, at, key, ListEnd::Tail, most)
 }

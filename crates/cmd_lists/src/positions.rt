@@ -6,7 +6,7 @@ ghost use Rattle.quicklist.specs.Cursor.{IsCursor};
 ghost use Rattle.plain_world.specs.declared.reply.Part.TheVariants as replies;
 ghost use Rattle.plain_model.specs.ListSteps.{index_from, end_of_rank, before_rank, at_most, matches, positions, first_match};
 ghost use Rattle.plain_model.specs.declared.list_command.ListCommand.TheVariants as lists;
-ghost use Rattle.keyspace.specs.Commands.{Ready, sight};
+ghost use Rattle.keyspace.specs.Commands.{Ready, visible};
 ghost use Rattle.cmd_lists.specs.Found.{Gives};
 ghost use Rattle.cmd_lists.specs.Met.{MeetsAt, IsMet, told_at_most};
 

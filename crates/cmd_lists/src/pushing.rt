@@ -8,7 +8,7 @@ ghost use Rattle.plain_model.specs.ListSteps.{added, push, push_if_there};
 ghost use Rattle.plain_model.specs.declared.list_command.ListCommand.TheVariants as lists;
 ghost use Rattle.keyspace.specs.Scopes.{one_key};
 ghost use Rattle.keyspace.specs.Forms.{Formed, list_form, list_at, risen_to};
-ghost use Rattle.keyspace.specs.Commands.{Ready, Kept, sight};
+ghost use Rattle.keyspace.specs.Commands.{Ready, KeepsOrRefuses, visible};
 ghost use Rattle.cmd_lists.specs.Found.{Gives};
 ghost use Rattle.cmd_lists.specs.Pushed.{Pushes};
 
@@ -92,10 +92,10 @@ fn push_words<B: BlockStore>(
 ) -> Result<Reply, Memory>
     requires ready { Ready B.blocks keyspace.old at.now }
     requires some { 0 < length words.now }
-    ensures gives { IfOk result (λ reply. push (sight B.blocks keyspace.old at.now) end key.now words.now ≡ leaves reply (sight B.blocks keyspace.new at.now)) }
-    ensures kept { Kept B.blocks B.step (one_key at.now.db key.now) keyspace.old keyspace.new result }
+    ensures gives { IfOk result (λ reply. push (visible B.blocks keyspace.old at.now) end key.now words.now ≡ leaves reply (visible B.blocks keyspace.new at.now)) }
+    ensures kept { KeepsOrRefuses B.blocks B.step (one_key at.now.db key.now) keyspace.old keyspace.new result }
     ensures forms { IfOk result
-        (λ reply. Formed B.blocks (risen_to at.now.db (sight B.blocks keyspace.old at.now) key.now (added end (list_at (sight B.blocks keyspace.old at.now) key.now) words.now))
+        (λ reply. Formed B.blocks (risen_to at.now.db (visible B.blocks keyspace.old at.now) key.now (added end (list_at (visible B.blocks keyspace.old at.now) key.now) words.now))
         keyspace.old keyspace.new) }
 {
     let alloc = keyspace.alloc();
@@ -124,10 +124,10 @@ fn push_there<B: BlockStore>(
 ) -> Result<Reply, Memory>
     requires ready { Ready B.blocks keyspace.old at.now }
     requires some { 0 < length words.now }
-    ensures gives { IfOk result (λ reply. push_if_there (sight B.blocks keyspace.old at.now) end key.now words.now ≡ leaves reply (sight B.blocks keyspace.new at.now)) }
-    ensures kept { Kept B.blocks B.step (one_key at.now.db key.now) keyspace.old keyspace.new result }
+    ensures gives { IfOk result (λ reply. push_if_there (visible B.blocks keyspace.old at.now) end key.now words.now ≡ leaves reply (visible B.blocks keyspace.new at.now)) }
+    ensures kept { KeepsOrRefuses B.blocks B.step (one_key at.now.db key.now) keyspace.old keyspace.new result }
     ensures forms { IfOk result
-        (λ reply. Formed B.blocks (risen_to at.now.db (sight B.blocks keyspace.old at.now) key.now (added end (list_at (sight B.blocks keyspace.old at.now) key.now) words.now))
+        (λ reply. Formed B.blocks (risen_to at.now.db (visible B.blocks keyspace.old at.now) key.now (added end (list_at (visible B.blocks keyspace.old at.now) key.now) words.now))
         keyspace.old keyspace.new) }
 {
     let alloc = keyspace.alloc();
@@ -156,8 +156,8 @@ pub fn lpush<B: BlockStore>(
     requires ready { Ready B.blocks keyspace.old at.now }
     requires some { 0 < length elements.now }
     ensures gives { Gives B.blocks keyspace.old keyspace.new at.now (lists.LPush key.now elements.now) result }
-    ensures kept { Kept B.blocks B.step (one_key at.now.db key.now) keyspace.old keyspace.new result }
-    ensures forms { IfOk result (λ reply. Formed B.blocks (list_form at.now.db (sight B.blocks keyspace.old at.now) (lists.LPush key.now elements.now)) keyspace.old keyspace.new) }
+    ensures kept { KeepsOrRefuses B.blocks B.step (one_key at.now.db key.now) keyspace.old keyspace.new result }
+    ensures forms { IfOk result (λ reply. Formed B.blocks (list_form at.now.db (visible B.blocks keyspace.old at.now) (lists.LPush key.now elements.now)) keyspace.old keyspace.new) }
 {
     push_words(keyspace, at, key, ListEnd::Head, elements)
 }
@@ -172,8 +172,8 @@ pub fn rpush<B: BlockStore>(
     requires ready { Ready B.blocks keyspace.old at.now }
     requires some { 0 < length elements.now }
     ensures gives { Gives B.blocks keyspace.old keyspace.new at.now (lists.RPush key.now elements.now) result }
-    ensures kept { Kept B.blocks B.step (one_key at.now.db key.now) keyspace.old keyspace.new result }
-    ensures forms { IfOk result (λ reply. Formed B.blocks (list_form at.now.db (sight B.blocks keyspace.old at.now) (lists.RPush key.now elements.now)) keyspace.old keyspace.new) }
+    ensures kept { KeepsOrRefuses B.blocks B.step (one_key at.now.db key.now) keyspace.old keyspace.new result }
+    ensures forms { IfOk result (λ reply. Formed B.blocks (list_form at.now.db (visible B.blocks keyspace.old at.now) (lists.RPush key.now elements.now)) keyspace.old keyspace.new) }
 {
     push_words(keyspace, at, key, ListEnd::Tail, elements)
 }
@@ -188,8 +188,8 @@ pub fn lpushx<B: BlockStore>(
     requires ready { Ready B.blocks keyspace.old at.now }
     requires some { 0 < length elements.now }
     ensures gives { Gives B.blocks keyspace.old keyspace.new at.now (lists.LPushX key.now elements.now) result }
-    ensures kept { Kept B.blocks B.step (one_key at.now.db key.now) keyspace.old keyspace.new result }
-    ensures forms { IfOk result (λ reply. Formed B.blocks (list_form at.now.db (sight B.blocks keyspace.old at.now) (lists.LPushX key.now elements.now)) keyspace.old keyspace.new) }
+    ensures kept { KeepsOrRefuses B.blocks B.step (one_key at.now.db key.now) keyspace.old keyspace.new result }
+    ensures forms { IfOk result (λ reply. Formed B.blocks (list_form at.now.db (visible B.blocks keyspace.old at.now) (lists.LPushX key.now elements.now)) keyspace.old keyspace.new) }
 {
     push_there(keyspace, at, key, ListEnd::Head, elements)
 }
@@ -204,8 +204,8 @@ pub fn rpushx<B: BlockStore>(
     requires ready { Ready B.blocks keyspace.old at.now }
     requires some { 0 < length elements.now }
     ensures gives { Gives B.blocks keyspace.old keyspace.new at.now (lists.RPushX key.now elements.now) result }
-    ensures kept { Kept B.blocks B.step (one_key at.now.db key.now) keyspace.old keyspace.new result }
-    ensures forms { IfOk result (λ reply. Formed B.blocks (list_form at.now.db (sight B.blocks keyspace.old at.now) (lists.RPushX key.now elements.now)) keyspace.old keyspace.new) }
+    ensures kept { KeepsOrRefuses B.blocks B.step (one_key at.now.db key.now) keyspace.old keyspace.new result }
+    ensures forms { IfOk result (λ reply. Formed B.blocks (list_form at.now.db (visible B.blocks keyspace.old at.now) (lists.RPushX key.now elements.now)) keyspace.old keyspace.new) }
 {
     push_there(keyspace, at, key, ListEnd::Tail, elements)
 }

@@ -5,7 +5,7 @@ ghost use Rattle.quicklist.specs.Chain.{elements, IsQuick};
 ghost use Rattle.plain_world.specs.declared.reply.Part.TheVariants as replies;
 ghost use Rattle.plain_model.specs.ListSteps.{place_of, range_start, range_end, list_range, listed, element_at};
 ghost use Rattle.plain_model.specs.declared.list_command.ListCommand.TheVariants as lists;
-ghost use Rattle.keyspace.specs.Commands.{Ready, sight};
+ghost use Rattle.keyspace.specs.Commands.{Ready, visible};
 ghost use Rattle.cmd_lists.specs.Found.{Gives};
 
 use crate::look::list_at;

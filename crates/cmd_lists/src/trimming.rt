@@ -6,7 +6,7 @@ ghost use Rattle.quicklist.specs.Chain.{elements, refs, IsQuick};
 ghost use Rattle.plain_model.specs.declared.list_command.ListCommand.TheVariants as lists;
 ghost use Rattle.keyspace.specs.Scopes.{one_key};
 ghost use Rattle.keyspace.specs.Forms.{Formed, list_form};
-ghost use Rattle.keyspace.specs.Commands.{Ready, Kept, sight};
+ghost use Rattle.keyspace.specs.Commands.{Ready, KeepsOrRefuses, visible};
 ghost use Rattle.cmd_lists.specs.Found.{Gives};
 ghost use Rattle.cmd_lists.specs.Written.{Trims};
 
@@ -65,8 +65,8 @@ pub fn ltrim<B: BlockStore>(
 ) -> Result<Reply, Memory>
     requires ready { Ready B.blocks keyspace.old at.now }
     ensures gives { Gives B.blocks keyspace.old keyspace.new at.now (lists.LTrim key.now a b) result }
-    ensures kept { Kept B.blocks B.step (one_key at.now.db key.now) keyspace.old keyspace.new result }
-    ensures forms { IfOk result (λ reply. Formed B.blocks (list_form at.now.db (sight B.blocks keyspace.old at.now) (lists.LTrim key.now a b)) keyspace.old keyspace.new) }
+    ensures kept { KeepsOrRefuses B.blocks B.step (one_key at.now.db key.now) keyspace.old keyspace.new result }
+    ensures forms { IfOk result (λ reply. Formed B.blocks (list_form at.now.db (visible B.blocks keyspace.old at.now) (lists.LTrim key.now a b)) keyspace.old keyspace.new) }
 {
     let alloc = keyspace.alloc();
     let found = seek(keyspace, at, key);

@@ -24,7 +24,7 @@ use Rattle.keyspace.specs.Values.{Encoding, OfText, OfForm, IsSound, value_of, v
 use Rattle.keyspace.specs.Databases.{Bases, Keyspace}
 use Rattle.keyspace.specs.Sound.{Sound}
 use Rattle.keyspace.specs.Scopes.{one_key, no_key}
-use Rattle.keyspace.specs.Commands.{Held, seen, sight}
+use Rattle.keyspace.specs.Commands.{KeepsTo, seen, visible}
 use Rattle.keyspace.specs.Edits.{Shape, shape, limits_of, Edits, MakesNew}
 use Rattle.keyspace.proofs.Absent.{remove_put}
 use Rattle.keyspace.proofs.Running.{held_then}
@@ -82,7 +82,7 @@ module _ {S T X : Type 0} (makes : T → T → Shape → Shape → Type 0) (own 
     (old new : Keyspace S) (at : Ctx) (key : List ℕ)
     (same : (o n : Shape) → makes first last o n → MakesSet own left o n) where
   pub set_new : (fresh : Value) → value_of (blocks old.store) fresh ≡ SetOf empty → limits_of fresh ≡ Some old.bases.limits
-      → ((f : Form) → encoding_of fresh ≡ OfForm f → IsLeast (FitsMembers old.bases.limits empty) f) → look (sight blocks old at) key ≡ None
+      → ((f : Form) → encoding_of fresh ≡ OfForm f → IsLeast (FitsMembers old.bases.limits empty) f) → look (visible blocks old at) key ≡ None
       → (result : Result (Unit {0}) X) → OnOk result (MakesNew makes first last blocks old new at key fresh)
       → OnOk result (SetChanged (Counting (own old.bases.limits) left) keep_any IsFormed blocks old new at key)
   set_new fresh is_empty limits_are least none (Err e) p = tt
@@ -98,8 +98,8 @@ module _ {S T X : Type 0} (makes : T → T → Shape → Shape → Type 0) (own 
         form = q.form;
         made = (subst (λ (l : Limits). own l empty q.from q.now q.form) limits (subst (λ (s : Members). own q.limits s q.from q.now q.form) nothing q.made), q.counted);
         was_form = least q.from q.was_form;
-        world = p.world ∙ ap (λ (v : model.Value). put (sight blocks old at) key (record { value = v; deadline = None })) q.is
-            ∙ ap (λ (d : Option ℕ). put (sight blocks old at) key (record { value = SetOf q.now; deadline = d })) (sym (ap deadline_of none));
+        world = p.world ∙ ap (λ (v : model.Value). put (visible blocks old at) key (record { value = v; deadline = None })) q.is
+            ∙ ap (λ (d : Option ℕ). put (visible blocks old at) key (record { value = SetOf q.now; deadline = d })) (sym (ap deadline_of none));
         is = λ number e found bytes. ap encoding_of (p.only number e found bytes) ∙ p.encoded ∙ q.is_form;
       }
 
@@ -117,8 +117,8 @@ module _ {S T X : Type 0} (makes : T → T → Shape → Shape → Type 0) (own 
         form = q.form;
         made = (subst (λ (l : Limits). own l q.members q.from q.now q.form) limits q.made, q.counted);
         was_form = (p.was, p.had, q.was_form);
-        world = p.world ∙ ap (λ (v : model.Value). put (sight blocks old at) key (record { value = v; deadline = p.deadline })) q.is
-            ∙ ap (λ (d : Option ℕ). put (sight blocks old at) key (record { value = SetOf q.now; deadline = d })) (sym (ap deadline_of p.stands));
+        world = p.world ∙ ap (λ (v : model.Value). put (visible blocks old at) key (record { value = v; deadline = p.deadline })) q.is
+            ∙ ap (λ (d : Option ℕ). put (visible blocks old at) key (record { value = SetOf q.now; deadline = d })) (sym (ap deadline_of p.stands));
         is = λ number e found bytes. ap encoding_of (p.only number e found bytes) ∙ q.is_form;
       }
 
@@ -143,11 +143,11 @@ module _ {S : Type 0} (own : Members → Form → Members → Form → Type 0) (
         form = p.form;
         made = p.made.0;
         was_form = p.was_form;
-        world = kept_is (sight blocks old at) (sight blocks mid at) key p.now lasts p.world;
+        world = kept_is (visible blocks old at) (visible blocks mid at) key p.now lasts p.world;
         is = λ number e found bytes. (p.is number e found bytes, lasts);
       }
 
-  pub set_gone : left ≡ 0 → (new : Keyspace S) → sight blocks new at ≡ remove (sight blocks mid at) key → AllAt (λ value. ⊥) new.bases (blocks new.store) at.db key
+  pub set_gone : left ≡ 0 → (new : Keyspace S) → visible blocks new at ≡ remove (visible blocks mid at) key → AllAt (λ value. ⊥) new.bases (blocks new.store) at.db key
       → SetChanged own keep_set IsLasting blocks old new at key
   set_gone none new world gone = record {
     before = p.before;
@@ -157,14 +157,14 @@ module _ {S : Type 0} (own : Members → Form → Members → Form → Type 0) (
     form = p.form;
     made = p.made.0;
     was_form = p.was_form;
-    world = gone_is (sight blocks old at) (sight blocks new at) key p.now (omega (arith, none, p.made.1))
-        (world ∙ ap (λ (w : World). remove w key) p.world ∙ remove_put (sight blocks old at) key (record { value = SetOf p.now; deadline = deadline_of (look (sight blocks old at) key) }));
+    world = gone_is (visible blocks old at) (visible blocks new at) key p.now (omega (arith, none, p.made.1))
+        (world ∙ ap (λ (w : World). remove w key) p.world ∙ remove_put (visible blocks old at) key (record { value = SetOf p.now; deadline = deadline_of (look (visible blocks old at) key) }));
     is = λ number e found bytes. absurd (gone number e found bytes);
   }
 
 -- a key is removed after it was changed
-pub held_gone : {S : Type 0} (blocks : S → Blocks) (step : S → S → Type 0) (db : ℕ) (key : List ℕ) (old mid new : Keyspace S) → Held blocks step (one_key db key) old mid
-    → Held blocks step (no_key db) mid new → Held blocks step (one_key db key) old new
+pub held_gone : {S : Type 0} (blocks : S → Blocks) (step : S → S → Type 0) (db : ℕ) (key : List ℕ) (old mid new : Keyspace S) → KeepsTo blocks step (one_key db key) old mid
+    → KeepsTo blocks step (no_key db) mid new → KeepsTo blocks step (one_key db key) old new
 held_gone blocks step db key old mid new p q =
     held_then blocks step (one_key db key) old mid new p
     (record {

@@ -31,7 +31,7 @@ use Rattle.keyspace.specs.Databases.{Bases, Keyspace}
 use Rattle.keyspace.specs.Scopes.{one_key, two_keys, Within}
 use Rattle.keyspace.specs.Seeking.{Sees}
 use Rattle.keyspace.specs.Forms.{AsAt, Either, HasForm, Formed, RisesWith, IsSourceForm, set_of, set_at, set_with, set_form}
-use Rattle.keyspace.specs.Commands.{Held, seen, sight}
+use Rattle.keyspace.specs.Commands.{KeepsTo, seen, visible}
 use Rattle.keyspace.proofs.Running.{held_then}
 use Rattle.keyspace.proofs.Absent.{look_put_other, look_remove_other}
 use Rattle.cmd_sets.specs.Found.{FoundOther}
@@ -109,7 +109,7 @@ found_item bases m at key deadline None is (Some item) there until gone = some_n
 found_item bases m at key deadline (Some set) is (Some item) there until gone = record { there = there; members = set; has = is }
 
 pub sought_item : {S : Type 0} (blocks : S → Blocks) (keyspace : Keyspace S) (at : Ctx) (key : List ℕ) (found : SoughtAt) (before : Option Members) → Sees blocks keyspace at key found
-    → IsBefore (sight blocks keyspace at) key before → IsSetThere (sight blocks keyspace at) keyspace.bases (blocks keyspace.store) at.db key at.moment found.there
+    → IsBefore (visible blocks keyspace at) key before → IsSetThere (visible blocks keyspace at) keyspace.bases (blocks keyspace.store) at.db key at.moment found.there
 sought_item blocks keyspace at key found before sees is = found_item keyspace.bases (blocks keyspace.store) at key found.deadline before is found.there sees.there sees.until sees.gone
 
 -- the one set without the member, and the other one with it
@@ -131,7 +131,7 @@ moved_is limits old mid new from to member move word same before source form man
 -- ---- one set after the other
 
 module _ {S : Type 0} (blocks : S → Blocks) (step : S → S → Type 0) (db : ℕ) (from to : List ℕ) where
-  pub held_from : (old new : Keyspace S) → Held blocks step (one_key db from) old new → Held blocks step (two_keys db from db to) old new
+  pub held_from : (old new : Keyspace S) → KeepsTo blocks step (one_key db from) old new → KeepsTo blocks step (two_keys db from db to) old new
   held_from old new p = record {
     sound = p.sound;
     served = p.served;
@@ -140,7 +140,7 @@ module _ {S : Type 0} (blocks : S → Blocks) (step : S → S → Type 0) (db : 
         (blocks old.store) (blocks new.store) p.within;
   }
 
-  held_to : (old new : Keyspace S) → Held blocks step (one_key db to) old new → Held blocks step (two_keys db from db to) old new
+  held_to : (old new : Keyspace S) → KeepsTo blocks step (one_key db to) old new → KeepsTo blocks step (two_keys db from db to) old new
   held_to old new p = record {
     sound = p.sound;
     served = p.served;
@@ -149,7 +149,7 @@ module _ {S : Type 0} (blocks : S → Blocks) (step : S → S → Type 0) (db : 
         (blocks old.store) (blocks new.store) p.within;
   }
 
-  pub held_both : (old mid new : Keyspace S) → Held blocks step (one_key db from) old mid → Held blocks step (one_key db to) mid new → Held blocks step (two_keys db from db to) old new
+  pub held_both : (old mid new : Keyspace S) → KeepsTo blocks step (one_key db from) old mid → KeepsTo blocks step (one_key db to) mid new → KeepsTo blocks step (two_keys db from db to) old new
   held_both old mid new p q = held_then blocks step (two_keys db from db to) old mid new (held_from old mid p) (held_to mid new q)
 
 -- the bytes of a block that is live
@@ -172,27 +172,27 @@ source_before : (there : Bool) (limits : Limits) (old mid : Bases) (m after : Bl
 source_before true limits old mid m after db from to form apart within is = (is.0, had_before old mid m after db from to is.0 apart within is.1, is.2)
 source_before false limits old mid m after db from to form apart within is = is
 
-module _ {S : Type 0} (blocks : S → Blocks) (step : S → S → Type 0) (old mid new : Keyspace S) (at : Ctx) (from to member : List ℕ) (p : Held blocks step (one_key at.db from) old mid)
-    (q : Held blocks step (one_key at.db to) mid new)
-    (apart : to ≡ from → ⊥) (same : look (sight blocks mid at) to ≡ look (sight blocks old at) to) where
+module _ {S : Type 0} (blocks : S → Blocks) (step : S → S → Type 0) (old mid new : Keyspace S) (at : Ctx) (from to member : List ℕ) (p : KeepsTo blocks step (one_key at.db from) old mid)
+    (q : KeepsTo blocks step (one_key at.db to) mid new)
+    (apart : to ≡ from → ⊥) (same : look (visible blocks mid at) to ≡ look (visible blocks old at) to) where
   -- what rose over the databases between rose over those before
-  risen_before : (value : Value) → HasForm (set_with at.db (sight blocks mid at) to (member ∷ [])) mid.bases (blocks mid.store) value
-      → HasForm (set_with at.db (sight blocks old at) to (member ∷ [])) old.bases (blocks old.store) value
+  risen_before : (value : Value) → HasForm (set_with at.db (visible blocks mid at) to (member ∷ [])) mid.bases (blocks mid.store) value
+      → HasForm (set_with at.db (visible blocks old at) to (member ∷ [])) old.bases (blocks old.store) value
   risen_before value risen = record {
     from = risen.from;
     form = risen.form;
-    at = source_before (is_some (look (sight blocks old at) to)) old.bases.limits old.bases mid.bases (blocks old.store) (blocks mid.store) at.db from to risen.from apart p.within
-        (subst (λ (l : Limits). IsSourceForm (is_some (look (sight blocks old at) to)) (FitsMembers l empty) mid.bases (blocks mid.store) at.db to risen.from) p.settings.limits
+    at = source_before (is_some (look (visible blocks old at) to)) old.bases.limits old.bases mid.bases (blocks old.store) (blocks mid.store) at.db from to risen.from apart p.within
+        (subst (λ (l : Limits). IsSourceForm (is_some (look (visible blocks old at) to)) (FitsMembers l empty) mid.bases (blocks mid.store) at.db to risen.from) p.settings.limits
         (subst (λ (o : Option Entry). IsSourceForm (is_some o) (FitsMembers mid.bases.limits empty) mid.bases (blocks mid.store) at.db to risen.from) same risen.at));
     is = risen.is;
-    risen = subst (λ (l : Limits). RisesWith l risen.from (set_at (sight blocks old at) to) (member ∷ []) risen.form) p.settings.limits
+    risen = subst (λ (l : Limits). RisesWith l risen.from (set_at (visible blocks old at) to) (member ∷ []) risen.form) p.settings.limits
         (subst (λ (o : Option Entry). RisesWith mid.bases.limits risen.from (set_of o) (member ∷ []) risen.form) same risen.risen);
   }
 
-  pub formed_both : Formed blocks (AsAt at.db from) old mid → Formed blocks (set_with at.db (sight blocks mid at) to (member ∷ [])) mid new
-      → Formed blocks (set_form at.db (sight blocks old at) (sets.SMove from to member)) old new
+  pub formed_both : Formed blocks (AsAt at.db from) old mid → Formed blocks (set_with at.db (visible blocks mid at) to (member ∷ [])) mid new
+      → Formed blocks (set_form at.db (visible blocks old at) (sets.SMove from to member)) old new
   formed_both first second =
-      written_then value_refs (HasForm (Either (AsAt at.db from) (set_with at.db (sight blocks old at) to (member ∷ []))) old.bases (blocks old.store)) old.bases mid.bases new.bases
+      written_then value_refs (HasForm (Either (AsAt at.db from) (set_with at.db (visible blocks old at) to (member ∷ []))) old.bases (blocks old.store)) old.bases mid.bases new.bases
       (blocks old.store) (blocks mid.store) (blocks new.store)
       (λ number i e found. elim (first number i e found) [ inl stayed ↦ inl stayed | inr is ↦ inr (inl is) ])
       (λ number i e found. elim (second number i e found) [ inl stayed ↦ inl stayed | inr is ↦ inr (inr (risen_before e.value is)) ])

@@ -26,7 +26,7 @@ use Rattle.keyspace.specs.Values.{value_refs}
 use Rattle.keyspace.specs.Databases.{Keyspace}
 use Rattle.keyspace.specs.Scopes.{one_key, no_key}
 use Rattle.keyspace.specs.Forms.{IsNewSet, IsSourceForm, RisesIf, RisesWith}
-use Rattle.keyspace.specs.Commands.{Held, sight}
+use Rattle.keyspace.specs.Commands.{KeepsTo, visible}
 use Rattle.keyspace.proofs.Absent.{look_removed}
 use Rattle.keyspace.proofs.Running.{held_then}
 use Rattle.cmd_sets.specs.Changed.{IsBefore, SetChanged, IsLasting}
@@ -172,16 +172,16 @@ none_before world key None none is = refl
 none_before world key (Some set) none is = absurd (some_none _ _ is.stands none)
 
 module _ {S : Type 0} (blocks : S → Blocks) (old mid new : Keyspace S) (at : Ctx) (key : List ℕ) (words : List (List ℕ)) (many : ℕ)
-    (gone : sight blocks mid at ≡ remove (sight blocks old at) key)
+    (gone : visible blocks mid at ≡ remove (visible blocks old at) key)
     (p : SetChanged (Adds mid.bases.limits words many) keep_set IsLasting blocks mid new at key) where
   nothing : p.before ≡ None
-  nothing = none_before (sight blocks mid at) key p.before (ap (λ (w : World). look w key) gone ∙ look_removed (sight blocks old at) key) p.stands
+  nothing = none_before (visible blocks mid at) key p.before (ap (λ (w : World). look w key) gone ∙ look_removed (visible blocks old at) key) p.stands
 
   pub put_is : p.now ≡ set_of words
   put_is = p.made.is ∙ ap (λ (b : Option Members). add_all (or_no_members b) words) nothing ∙ filled words
 
-  pub put_world : sight blocks new at ≡ store_set (sight blocks old at) key (set_of words)
-  put_world = p.world ∙ ap (λ (w : World). keep_set w key p.now) gone ∙ kept_again (sight blocks old at) key p.now ∙ ap (store_set (sight blocks old at) key) put_is
+  pub put_world : visible blocks new at ≡ store_set (visible blocks old at) key (set_of words)
+  put_world = p.world ∙ ap (λ (w : World). keep_set w key p.now) gone ∙ kept_again (visible blocks old at) key p.now ∙ ap (store_set (visible blocks old at) key) put_is
 
   pub put_count : many ≡ len (set_of words)
   put_count =
@@ -203,8 +203,8 @@ module _ {S : Type 0} (blocks : S → Blocks) (old mid new : Keyspace S) (at : C
       }
 
 -- a key is removed, and then it changes
-pub held_anew : {S : Type 0} (blocks : S → Blocks) (step : S → S → Type 0) (db : ℕ) (key : List ℕ) (old mid new : Keyspace S) → Held blocks step (no_key db) old mid
-    → Held blocks step (one_key db key) mid new → Held blocks step (one_key db key) old new
+pub held_anew : {S : Type 0} (blocks : S → Blocks) (step : S → S → Type 0) (db : ℕ) (key : List ℕ) (old mid new : Keyspace S) → KeepsTo blocks step (no_key db) old mid
+    → KeepsTo blocks step (one_key db key) mid new → KeepsTo blocks step (one_key db key) old new
 held_anew blocks step db key old mid new p q =
     held_then blocks step (one_key db key) old mid new
     (record {

@@ -20,7 +20,7 @@ use Rattle.keyspace.specs.Values.{OfForm}
 use Rattle.keyspace.specs.Databases.{Keyspace}
 use Rattle.keyspace.specs.Scopes.{one_key}
 use Rattle.keyspace.specs.Forms.{AsAt, Formed, RisesWith, IsSourceForm, set_of, set_at, set_with}
-use Rattle.keyspace.specs.Commands.{Held, sight}
+use Rattle.keyspace.specs.Commands.{KeepsTo, visible}
 use Rattle.keyspace.proofs.Forming.{formed_key}
 use Rattle.cmd_sets.specs.Found.{told_each}
 use Rattle.cmd_sets.specs.Changed.{HasSet, IsBefore, SetChanged, IsLasting}
@@ -101,19 +101,19 @@ dropped_none old key words none (Ok reply) told = on_before old key None (drop_m
 -- ---- how what was written is encoded
 
 module _ {S : Type 0} (own : Members → Form → Members → Form → Type 0) (blocks : S → Blocks) (step : S → S → Type 0) (old new : Keyspace S) (at : Ctx) (key : List ℕ)
-    (p : SetChanged own keep_set IsLasting blocks old new at key) (held : Held blocks step (one_key at.db key) old new) where
+    (p : SetChanged own keep_set IsLasting blocks old new at key) (held : KeepsTo blocks step (one_key at.db key) old new) where
   -- it has risen by the members that were put in
   pub formed_risen : (words : List (List ℕ)) → RisesWith old.bases.limits p.from (or_no_members p.before) words p.form → {A X : Type 0} (result : Result A X)
-      → IfOk result (λ reply. Formed blocks (set_with at.db (sight blocks old at) key words) old new)
+      → IfOk result (λ reply. Formed blocks (set_with at.db (visible blocks old at) key words) old new)
   formed_risen words risen (Err x) = tt
   formed_risen words risen (Ok reply) =
-      formed_key (set_with at.db (sight blocks old at) key words) at.db key old.bases new.bases (blocks old.store) (blocks new.store) held.within held.sound.arranged
+      formed_key (set_with at.db (visible blocks old at) key words) at.db key old.bases new.bases (blocks old.store) (blocks new.store) held.within held.sound.arranged
       (λ number e found bytes. record {
         from = p.from;
         form = p.form;
-        at = subst (λ t. IsSourceForm t (FitsMembers old.bases.limits empty) old.bases (blocks old.store) at.db key p.from) (sym (there_before (sight blocks old at) key p.before p.stands)) p.was_form;
+        at = subst (λ t. IsSourceForm t (FitsMembers old.bases.limits empty) old.bases (blocks old.store) at.db key p.from) (sym (there_before (visible blocks old at) key p.before p.stands)) p.was_form;
         is = (p.is number e found bytes).0;
-        risen = subst (λ (s : Members). RisesWith old.bases.limits p.from s words p.form) (sym (set_before (sight blocks old at) key p.before p.stands)) risen;
+        risen = subst (λ (s : Members). RisesWith old.bases.limits p.from s words p.form) (sym (set_before (visible blocks old at) key p.before p.stands)) risen;
       })
 
   -- or has its form still

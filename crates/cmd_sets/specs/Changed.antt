@@ -14,7 +14,7 @@ use Rattle.keyspace.specs.declared.value.Value as kinds
 use Rattle.keyspace.specs.Values.{OfForm, encoding_of}
 use Rattle.keyspace.specs.Databases.{Bases, Keyspace}
 use Rattle.keyspace.specs.Forms.{IsSourceForm}
-use Rattle.keyspace.specs.Commands.{sight}
+use Rattle.keyspace.specs.Commands.{visible}
 use Rattle.keyspace.specs.Edits.{Shape}
 
 -- this set stands at the key
@@ -85,12 +85,12 @@ pub record SetChanged {S : Type 0} (makes : Members → Form → Members → For
     (kept : World → List ℕ → Members → World) (Is : Members → Form → kinds.Value → Type 0) (blocks : S → Blocks)
     (old new : Keyspace S) (at : Ctx) (key : List ℕ) : Type 0 where
   pub before : Option Members
-  pub stands : IsBefore (sight blocks old at) key before
+  pub stands : IsBefore (visible blocks old at) key before
   pub from : Form
   pub now : Members
   pub form : Form
   pub made : makes (or_no_members before) from now form
   pub was_form : IsSourceForm (is_some before) (FitsMembers old.bases.limits empty) old.bases (blocks old.store) at.db key
       from
-  pub world : sight blocks new at ≡ kept (sight blocks old at) key now
+  pub world : visible blocks new at ≡ kept (visible blocks old at) key now
   pub is : AllAt (Is now form) new.bases (blocks new.store) at.db key

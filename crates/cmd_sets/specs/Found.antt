@@ -13,7 +13,7 @@ use Rattle.plain_model.specs.SetSteps.{Members, has, set_outcome}
 use Rattle.plain_model.specs.declared.ctx.Ctx.{Ctx}
 use Rattle.plain_model.specs.declared.set_command.SetCommand.{SetCommand}
 use Rattle.keyspace.specs.Databases.{Keyspace}
-use Rattle.keyspace.specs.Commands.{sight}
+use Rattle.keyspace.specs.Commands.{visible}
 
 -- the set stands at the key, and is sound
 pub record FoundSet (world : World) (blocks : Blocks) (key : List ℕ) (m : object.Members) : Type 0 where
@@ -35,4 +35,4 @@ told_each members words = map (λ member. Number (one_if (has members member))) 
 abbrev pub Gives : {S E : Type 0} → (S → Blocks) → Keyspace S → Keyspace S → Ctx → SetCommand
     → Result (List Part) E → Type 0
 Gives blocks old new at command result =
-    IfOk result (λ reply. set_outcome (sight blocks old at) command ≡ leaves reply (sight blocks new at))
+    IfOk result (λ reply. set_outcome (visible blocks old at) command ≡ leaves reply (visible blocks new at))

@@ -8,7 +8,7 @@ ghost use Rattle.held.specs.Calls.{Seeks};
 ghost use Rattle.keyspace.specs.Looks.{IsLook};
 ghost use Rattle.keyspace.specs.Scopes.{one_key};
 ghost use Rattle.keyspace.specs.Seeking.{Sees};
-ghost use Rattle.keyspace.specs.Commands.{Ready, Held, sight};
+ghost use Rattle.keyspace.specs.Commands.{Ready, KeepsTo, visible};
 ghost use Rattle.cmd_sets.specs.Found.{FoundOther};
 ghost use Rattle.cmd_sets.specs.Changed.{SetItem, IsBefore, IsSetThere, Counting, SetChanged, IsFormed, IsLasting, keep_any};
 
@@ -27,8 +27,8 @@ pub fn set_sought<B: BlockStore>(
 ) -> Look<usize>
     requires ready { Ready B.blocks keyspace.now at.now }
     requires sees { Sees B.blocks keyspace.now at.now key.now found }
-    ensures { IsLook (look (sight B.blocks keyspace.now at.now) key.now ≡ None) (FoundOther (sight B.blocks keyspace.now at.now) key.now)
-        (SetItem (sight B.blocks keyspace.now at.now) keyspace.now.bases (B.blocks keyspace.now.store) at.now.db key.now at.now.moment) result }
+    ensures { IsLook (look (visible B.blocks keyspace.now at.now) key.now ≡ None) (FoundOther (visible B.blocks keyspace.now at.now) key.now)
+        (SetItem (visible B.blocks keyspace.now at.now) keyspace.now.bases (B.blocks keyspace.now.store) at.now.db key.now at.now.moment) result }
 {
     // what was found tells the key
     let _ = key;
@@ -55,10 +55,10 @@ fn edit_set_at<E: SetEdit, B: BlockStore>(
 ) -> Result<(), Memory>
     requires ready { Ready B.blocks keyspace.old at.now }
     requires seeks { Seeks keyspace.old.bases (B.blocks keyspace.old.store) at.now.db key.now sought }
-    requires there { IsSetThere (sight B.blocks keyspace.old at.now) keyspace.old.bases (B.blocks keyspace.old.store) at.now.db key.now at.now.moment there }
-    requires takes { (before : Option model.Members) → IsBefore (sight B.blocks keyspace.old at.now) key.now before → E.takes on.old.edit (or_no_members before) }
+    requires there { IsSetThere (visible B.blocks keyspace.old at.now) keyspace.old.bases (B.blocks keyspace.old.store) at.now.db key.now at.now.moment there }
+    requires takes { (before : Option model.Members) → IsBefore (visible B.blocks keyspace.old at.now) key.now before → E.takes on.old.edit (or_no_members before) }
     ensures edited { OnOk result (SetChanged (Counting (E.makes keyspace.old.bases.limits on.old.edit on.new.edit) on.new.left) keep_any IsFormed B.blocks keyspace.old keyspace.new at.now key.now) }
-    ensures held { Held B.blocks B.step (one_key at.now.db key.now) keyspace.old keyspace.new }
+    ensures held { KeepsTo B.blocks B.step (one_key at.now.db key.now) keyspace.old keyspace.new }
 {
     match there {
         None => {
@@ -83,10 +83,10 @@ pub fn change_set<E: SetEdit, B: BlockStore>(
 ) -> Result<E, Memory>
     requires ready { Ready B.blocks keyspace.old at.now }
     requires seeks { Seeks keyspace.old.bases (B.blocks keyspace.old.store) at.now.db key.now sought }
-    requires there { IsSetThere (sight B.blocks keyspace.old at.now) keyspace.old.bases (B.blocks keyspace.old.store) at.now.db key.now at.now.moment there }
-    requires takes { (before : Option model.Members) → IsBefore (sight B.blocks keyspace.old at.now) key.now before → E.takes edit (or_no_members before) }
+    requires there { IsSetThere (visible B.blocks keyspace.old at.now) keyspace.old.bases (B.blocks keyspace.old.store) at.now.db key.now at.now.moment there }
+    requires takes { (before : Option model.Members) → IsBefore (visible B.blocks keyspace.old at.now) key.now before → E.takes edit (or_no_members before) }
     ensures changed { IfOk result (λ last. SetChanged (E.makes keyspace.old.bases.limits edit last) keep_set IsLasting B.blocks keyspace.old keyspace.new at.now key.now) }
-    ensures held { Held B.blocks B.step (one_key at.now.db key.now) keyspace.old keyspace.new }
+    ensures held { KeepsTo B.blocks B.step (one_key at.now.db key.now) keyspace.old keyspace.new }
 {
     let mut on = OnSet { edit, left: 0 };
     edit_set_at(keyspace, at, key, sought, there, &mut on)?;

@@ -4,7 +4,7 @@ ghost use Rattle.std.specs.Prelude.{◌≡◌, IfOk};
 ghost use Rattle.set_object.specs.Strings.{set_of, IsOnce};
 ghost use Rattle.set_object.specs.Members.{IsMembers, listed};
 ghost use Rattle.keyspace.specs.Forms.{set_at};
-ghost use Rattle.keyspace.specs.Commands.{Ready, sight};
+ghost use Rattle.keyspace.specs.Commands.{Ready, visible};
 
 use blocks::BlockStore;
 use keyspace::{Keyspace, Look, bytes_of};
@@ -44,7 +44,7 @@ pub fn names_at<B: BlockStore>(
     key: &[u8],
 ) -> Result<Vec<Bytes>, Memory>
     requires ready { Ready B.blocks keyspace.now at.now }
-    ensures members { IfOk result (λ names. set_of names.items ≡ set_at (sight B.blocks keyspace.now at.now) key.now) }
+    ensures members { IfOk result (λ names. set_of names.items ≡ set_at (visible B.blocks keyspace.now at.now) key.now) }
     ensures once { IfOk result (λ names. IsOnce names.items) }
 {
     let alloc = keyspace.alloc();

@@ -8,7 +8,7 @@ ghost use Rattle.plain_model.specs.SetSteps.{IsJoin, at_most, has, in_all, in_an
 ghost use Rattle.plain_model.specs.declared.set_command.SetCommand.TheVariants as sets;
 ghost use Rattle.plain_model.specs.declared.set_command.SetJoin.TheVariants as joins;
 ghost use Rattle.keyspace.specs.Forms as forms;
-ghost use Rattle.keyspace.specs.Commands.{Ready, sight};
+ghost use Rattle.keyspace.specs.Commands.{Ready, visible};
 ghost use Rattle.cmd_sets.specs.Joined.{sets_here, IsCounted};
 
 use crate::gathering::{names_at, names_of};
@@ -24,7 +24,7 @@ use set_object::Members;
 /// Whether no key has a value of another type.
 pub fn are_sets<B: BlockStore>(keyspace: &Keyspace<B>, at: &Ctx, keys: &[Word<'_>]) -> bool
     requires ready { Ready B.blocks keyspace.now at.now }
-    ensures { result ≡ is_some (sets_at (sight B.blocks keyspace.now at.now) keys.now) }
+    ensures { result ≡ is_some (sets_at (visible B.blocks keyspace.now at.now) keys.now) }
 {
     for key in keys {
         match set_at(keyspace, at, key.as_slice()) {
@@ -49,7 +49,7 @@ fn add_at<B: BlockStore, C: BlockStore>(
     ensures sound { OnOk result (IsMembers (C.blocks own.new) all.new) }
     ensures members { OnOk result
         ((name : List ℕ) → has (members (C.blocks own.new) all.new) name ≡
-        (has (members (C.blocks own.old) all.old) name || has (forms.set_at (sight B.blocks keyspace.now at.now) key.now) name)) }
+        (has (members (C.blocks own.old) all.old) name || has (forms.set_at (visible B.blocks keyspace.now at.now) key.now) name)) }
 {
     match set_at(keyspace, at, key) {
         Look::Missing => Ok(()),
@@ -71,7 +71,7 @@ fn add_each<B: BlockStore, C: BlockStore>(
     ensures sound { OnOk result (IsMembers (C.blocks own.new) all.new) }
     ensures members { OnOk result
         ((name : List ℕ) → has (members (C.blocks own.new) all.new) name ≡
-        (has (members (C.blocks own.old) all.old) name || in_any (sets_here (sight B.blocks keyspace.now at.now) keys.now) name)) }
+        (has (members (C.blocks own.old) all.old) name || in_any (sets_here (visible B.blocks keyspace.now at.now) keys.now) name)) }
 {
     for key in keys {
         add_at(keyspace, at, key.as_slice(), own, all)?;
@@ -89,7 +89,7 @@ fn drop_each<B: BlockStore>(
     requires ready { Ready B.blocks keyspace.now at.now }
     requires once { IsOnce names.items }
     ensures left { IfOk result
-        (λ kept. (name : List ℕ) → has (set_of kept.items) name ≡ (has (set_of names.items) name && not (in_any (sets_here (sight B.blocks keyspace.now at.now) keys.now) name))) }
+        (λ kept. (name : List ℕ) → has (set_of kept.items) name ≡ (has (set_of names.items) name && not (in_any (sets_here (visible B.blocks keyspace.now at.now) keys.now) name))) }
     ensures once { IfOk result (λ kept. IsOnce kept.items) }
 {
     let mut kept = names;
@@ -102,7 +102,7 @@ fn drop_each<B: BlockStore>(
 // Whether the set at a key has a member.
 fn has_at<B: BlockStore>(keyspace: &Keyspace<B>, at: &Ctx, key: &[u8], name: &[u8]) -> bool
     requires ready { Ready B.blocks keyspace.now at.now }
-    ensures { result ≡ has (forms.set_at (sight B.blocks keyspace.now at.now) key.now) name.now }
+    ensures { result ≡ has (forms.set_at (visible B.blocks keyspace.now at.now) key.now) name.now }
 {
     match set_at(keyspace, at, key) {
         Look::Missing => false,
@@ -114,7 +114,7 @@ fn has_at<B: BlockStore>(keyspace: &Keyspace<B>, at: &Ctx, key: &[u8], name: &[u
 // Whether the sets at all keys have a member.
 fn in_each<B: BlockStore>(keyspace: &Keyspace<B>, at: &Ctx, keys: &[Word<'_>], name: &[u8]) -> bool
     requires ready { Ready B.blocks keyspace.now at.now }
-    ensures { result ≡ in_all (sets_here (sight B.blocks keyspace.now at.now) keys.now) name.now }
+    ensures { result ≡ in_all (sets_here (visible B.blocks keyspace.now at.now) keys.now) name.now }
 {
     for key in keys {
         if !has_at(keyspace, at, key.as_slice(), name) {
@@ -162,7 +162,7 @@ fn share_names<B: BlockStore>(
 ) -> Result<Vec<Bytes>, Memory>
     requires ready { Ready B.blocks keyspace.now at.now }
     requires inside { one < length keys.now }
-    ensures shared { IfOk result (λ kept. (name : List ℕ) → has (set_of kept.items) name ≡ in_all (sets_here (sight B.blocks keyspace.now at.now) keys.now) name) }
+    ensures shared { IfOk result (λ kept. (name : List ℕ) → has (set_of kept.items) name ≡ in_all (sets_here (visible B.blocks keyspace.now at.now) keys.now) name) }
     ensures once { IfOk result (λ kept. IsOnce kept.items) }
 {
     let mut kept = names_at(keyspace, at, keys[one].as_slice())?;
@@ -182,7 +182,7 @@ fn inter<B: BlockStore>(
     keys: &[Word<'_>],
 ) -> Result<Vec<Bytes>, Memory>
     requires ready { Ready B.blocks keyspace.now at.now }
-    ensures join { IfOk result (λ names. IsJoin joins.Inter (sets_here (sight B.blocks keyspace.now at.now) keys.now) (set_of names.items)) }
+    ensures join { IfOk result (λ names. IsJoin joins.Inter (sets_here (visible B.blocks keyspace.now at.now) keys.now) (set_of names.items)) }
     ensures once { IfOk result (λ names. IsOnce names.items) }
 {
     if keys.is_empty() {
@@ -199,7 +199,7 @@ fn union<B: BlockStore>(
     keys: &[Word<'_>],
 ) -> Result<Vec<Bytes>, Memory>
     requires ready { Ready B.blocks keyspace.now at.now }
-    ensures join { IfOk result (λ names. IsJoin joins.Union (sets_here (sight B.blocks keyspace.now at.now) keys.now) (set_of names.items)) }
+    ensures join { IfOk result (λ names. IsJoin joins.Union (sets_here (visible B.blocks keyspace.now at.now) keys.now) (set_of names.items)) }
     ensures once { IfOk result (λ names. IsOnce names.items) }
 {
     let alloc = keyspace.alloc();
@@ -216,7 +216,7 @@ fn diff<B: BlockStore>(
     keys: &[Word<'_>],
 ) -> Result<Vec<Bytes>, Memory>
     requires ready { Ready B.blocks keyspace.now at.now }
-    ensures join { IfOk result (λ names. IsJoin joins.Diff (sets_here (sight B.blocks keyspace.now at.now) keys.now) (set_of names.items)) }
+    ensures join { IfOk result (λ names. IsJoin joins.Diff (sets_here (visible B.blocks keyspace.now at.now) keys.now) (set_of names.items)) }
     ensures once { IfOk result (λ names. IsOnce names.items) }
 {
     match keys.split_first() {
@@ -236,7 +236,7 @@ pub fn join<B: BlockStore>(
     keys: &[Word<'_>],
 ) -> Result<Vec<Bytes>, Memory>
     requires ready { Ready B.blocks keyspace.now at.now }
-    ensures join { IfOk result (λ names. IsJoin how (sets_here (sight B.blocks keyspace.now at.now) keys.now) (set_of names.items)) }
+    ensures join { IfOk result (λ names. IsJoin how (sets_here (visible B.blocks keyspace.now at.now) keys.now) (set_of names.items)) }
     ensures once { IfOk result (λ names. IsOnce names.items) }
 {
     match how {
@@ -255,7 +255,7 @@ pub fn sjoin<B: BlockStore>(
     keys: &[Word<'_>],
 ) -> Result<Reply, Memory>
     requires ready { Ready B.blocks keyspace.now at.now }
-    ensures gives { IfOk result (λ reply. may_sets keyspace.now.bases.seed (sight B.blocks keyspace.now at.now) (sets.SJoin how keys.now) reply (sight B.blocks keyspace.now at.now)) }
+    ensures gives { IfOk result (λ reply. may_sets keyspace.now.bases.seed (visible B.blocks keyspace.now at.now) (sets.SJoin how keys.now) reply (visible B.blocks keyspace.now at.now)) }
 {
     let alloc = keyspace.alloc();
     if !are_sets(keyspace, at, keys) {
@@ -274,7 +274,7 @@ fn count_shared<B: BlockStore>(
     limit: u64,
 ) -> usize
     requires ready { Ready B.blocks keyspace.now at.now }
-    ensures { result ≡ at_most limit (length (filter (in_all (sets_here (sight B.blocks keyspace.now at.now) keys.now)) names.items)) }
+    ensures { result ≡ at_most limit (length (filter (in_all (sets_here (visible B.blocks keyspace.now at.now) keys.now)) names.items)) }
 {
     let mut count = 0;
     let mut rest = names;
@@ -298,7 +298,7 @@ fn count_inter<B: BlockStore>(
     limit: u64,
 ) -> Result<usize, Memory>
     requires ready { Ready B.blocks keyspace.now at.now }
-    ensures { IfOk result (IsCounted limit (sets_here (sight B.blocks keyspace.now at.now) keys.now)) }
+    ensures { IfOk result (IsCounted limit (sets_here (visible B.blocks keyspace.now at.now) keys.now)) }
 {
     if keys.is_empty() {
         return Ok(0);
@@ -316,7 +316,7 @@ pub fn sintercard<B: BlockStore>(
     limit: u64,
 ) -> Result<Reply, Memory>
     requires ready { Ready B.blocks keyspace.now at.now }
-    ensures gives { IfOk result (λ reply. may_sets keyspace.now.bases.seed (sight B.blocks keyspace.now at.now) (sets.SInterCard keys.now limit) reply (sight B.blocks keyspace.now at.now)) }
+    ensures gives { IfOk result (λ reply. may_sets keyspace.now.bases.seed (visible B.blocks keyspace.now at.now) (sets.SInterCard keys.now limit) reply (visible B.blocks keyspace.now at.now)) }
 {
     let alloc = keyspace.alloc();
     if !are_sets(keyspace, at, keys) {

@@ -5,7 +5,7 @@ ghost use Rattle.set_object.specs.Members.{IsMembers, members, listed};
 ghost use Rattle.plain_world.specs.declared.reply.Part.TheVariants as replies;
 ghost use Rattle.plain_model.specs.SetSteps.{AreMembers, may_sets};
 ghost use Rattle.plain_model.specs.declared.set_command.SetCommand.TheVariants as sets;
-ghost use Rattle.keyspace.specs.Commands.{Ready, sight};
+ghost use Rattle.keyspace.specs.Commands.{Ready, visible};
 
 use crate::look::set_at;
 use blocks::BlockStore;
@@ -57,7 +57,7 @@ pub fn smembers<B: BlockStore>(
     key: &[u8],
 ) -> Result<Reply, Memory>
     requires ready { Ready B.blocks keyspace.now at.now }
-    ensures gives { IfOk result (λ reply. may_sets keyspace.now.bases.seed (sight B.blocks keyspace.now at.now) (sets.SMembers key.now) reply (sight B.blocks keyspace.now at.now)) }
+    ensures gives { IfOk result (λ reply. may_sets keyspace.now.bases.seed (visible B.blocks keyspace.now at.now) (sets.SMembers key.now) reply (visible B.blocks keyspace.now at.now)) }
 {
     let alloc = keyspace.alloc();
     match set_at(keyspace, at, key) {

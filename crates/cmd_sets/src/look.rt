@@ -3,7 +3,7 @@
 ghost use Rattle.std.specs.Prelude.{◌≡◌, None};
 ghost use Rattle.plain_world.specs.Worlds.{look};
 ghost use Rattle.plain_model.specs.HashSteps.{one_if};
-ghost use Rattle.keyspace.specs.Commands.{Ready, sight};
+ghost use Rattle.keyspace.specs.Commands.{Ready, visible};
 ghost use Rattle.keyspace.specs.Looks.{IsLook};
 ghost use Rattle.cmd_sets.specs.Found.{FoundSet, FoundOther};
 
@@ -19,8 +19,8 @@ pub fn set_at<'a, B: BlockStore>(
     key: &[u8],
 ) -> Look<&'a Members>
     requires ready { Ready B.blocks keyspace.now at.now }
-    ensures { IsLook (look (sight B.blocks keyspace.now at.now) key.now ≡ None) (FoundOther (sight B.blocks keyspace.now at.now) key.now)
-        (λ set. FoundSet (sight B.blocks keyspace.now at.now) (B.blocks keyspace.now.store) key.now set.now) result }
+    ensures { IsLook (look (visible B.blocks keyspace.now at.now) key.now ≡ None) (FoundOther (visible B.blocks keyspace.now at.now) key.now)
+        (λ set. FoundSet (visible B.blocks keyspace.now at.now) (B.blocks keyspace.now.store) key.now set.now) result }
 {
     match keyspace.look(at.db, key, at.moment) {
         None => Look::Missing,

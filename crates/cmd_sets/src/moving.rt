@@ -6,7 +6,7 @@ ghost use Rattle.plain_model.specs.ListSteps.{tells_number};
 ghost use Rattle.plain_model.specs.declared.set_command.SetCommand.TheVariants as sets;
 ghost use Rattle.keyspace.specs.Scopes.{two_keys};
 ghost use Rattle.keyspace.specs.Forms.{Formed, set_form};
-ghost use Rattle.keyspace.specs.Commands.{Ready, Held, Kept, sight};
+ghost use Rattle.keyspace.specs.Commands.{Ready, KeepsTo, KeepsOrRefuses, visible};
 ghost use Rattle.cmd_sets.specs.Found.{Gives};
 ghost use Rattle.cmd_sets.specs.Moves.{IsMove, IsPlan, Takes};
 
@@ -32,7 +32,7 @@ enum Plan {
 // Whether a set can stand at a key: one does, or nothing.
 fn may_take<B: BlockStore>(keyspace: &Keyspace<B>, at: &Ctx, key: &[u8]) -> bool
     requires ready { Ready B.blocks keyspace.now at.now }
-    ensures { Takes (sight B.blocks keyspace.now at.now) key.now result }
+    ensures { Takes (visible B.blocks keyspace.now at.now) key.now result }
 {
     match set_at(keyspace, at, key) {
         Look::Missing => true,
@@ -50,7 +50,7 @@ fn plan_of<B: BlockStore>(
     member: &[u8],
 ) -> Plan
     requires ready { Ready B.blocks keyspace.now at.now }
-    ensures { IsPlan (sight B.blocks keyspace.now at.now) from.now to.now member.now result }
+    ensures { IsPlan (visible B.blocks keyspace.now at.now) from.now to.now member.now result }
 {
     match set_at(keyspace, at, from) {
         Look::Missing => Plan::Tell(0),
@@ -79,10 +79,10 @@ fn move_member<B: BlockStore>(
     member: &[u8],
 ) -> Result<(), Memory>
     requires ready { Ready B.blocks keyspace.old at.now }
-    requires moves { IsMove (sight B.blocks keyspace.old at.now) from.now to.now member.now }
-    ensures moved { OnOk result (set_outcome (sight B.blocks keyspace.old at.now) (sets.SMove from.now to.now member.now) ≡ tells_number (pos 1) (sight B.blocks keyspace.new at.now)) }
-    ensures held { Held B.blocks B.step (two_keys at.now.db from.now at.now.db to.now) keyspace.old keyspace.new }
-    ensures forms { OnOk result (Formed B.blocks (set_form at.now.db (sight B.blocks keyspace.old at.now) (sets.SMove from.now to.now member.now)) keyspace.old keyspace.new) }
+    requires moves { IsMove (visible B.blocks keyspace.old at.now) from.now to.now member.now }
+    ensures moved { OnOk result (set_outcome (visible B.blocks keyspace.old at.now) (sets.SMove from.now to.now member.now) ≡ tells_number (pos 1) (visible B.blocks keyspace.new at.now)) }
+    ensures held { KeepsTo B.blocks B.step (two_keys at.now.db from.now at.now.db to.now) keyspace.old keyspace.new }
+    ensures forms { OnOk result (Formed B.blocks (set_form at.now.db (visible B.blocks keyspace.old at.now) (sets.SMove from.now to.now member.now)) keyspace.old keyspace.new) }
 {
     let words = [Word::new(member)];
     let found = seek(keyspace, at, from);
@@ -111,8 +111,8 @@ pub fn smove<B: BlockStore>(
 ) -> Result<Reply, Memory>
     requires ready { Ready B.blocks keyspace.old at.now }
     ensures gives { Gives B.blocks keyspace.old keyspace.new at.now (sets.SMove from.now to.now member.now) result }
-    ensures kept { Kept B.blocks B.step (two_keys at.now.db from.now at.now.db to.now) keyspace.old keyspace.new result }
-    ensures forms { IfOk result (λ reply. Formed B.blocks (set_form at.now.db (sight B.blocks keyspace.old at.now) (sets.SMove from.now to.now member.now)) keyspace.old keyspace.new) }
+    ensures kept { KeepsOrRefuses B.blocks B.step (two_keys at.now.db from.now at.now.db to.now) keyspace.old keyspace.new result }
+    ensures forms { IfOk result (λ reply. Formed B.blocks (set_form at.now.db (visible B.blocks keyspace.old at.now) (sets.SMove from.now to.now member.now)) keyspace.old keyspace.new) }
 {
     let alloc = keyspace.alloc();
     match plan_of(keyspace, at, from, to, member) {

@@ -3,7 +3,7 @@
 ghost use Rattle.std.specs.Prelude.{◌<◌, false, IfOk};
 ghost use Rattle.plain_model.specs.SetSteps.{may_sets};
 ghost use Rattle.plain_model.specs.declared.set_command.SetCommand.TheVariants as sets;
-ghost use Rattle.keyspace.specs.Commands.{Ready, sight};
+ghost use Rattle.keyspace.specs.Commands.{Ready, visible};
 ghost use Rattle.keyspace.specs.Pages.{IsValuePage};
 
 use blocks::BlockStore;
@@ -23,7 +23,7 @@ pub fn sscan<B: BlockStore>(
 ) -> Result<Reply, Memory>
     requires ready { Ready B.blocks keyspace.now at.now }
     requires count { 0 < options.now.count }
-    ensures gives { IfOk result (λ reply. may_sets keyspace.now.bases.seed (sight B.blocks keyspace.now at.now) (sets.SScan key.now cursor options.now) reply (sight B.blocks keyspace.now at.now)) }
+    ensures gives { IfOk result (λ reply. may_sets keyspace.now.bases.seed (visible B.blocks keyspace.now at.now) (sets.SScan key.now cursor options.now) reply (visible B.blocks keyspace.now at.now)) }
     ensures shows { IfOk result (λ reply. IsValuePage keyspace.now.bases (B.blocks keyspace.now.store) at.now key.now cursor options.now false reply) }
 {
     let alloc = keyspace.alloc();

@@ -13,7 +13,7 @@ ghost use Rattle.plain_model.specs.SetSteps.{TellsMembers, drop_all, may_sets};
 ghost use Rattle.plain_model.specs.declared.set_command.SetCommand.TheVariants as sets;
 ghost use Rattle.keyspace.specs.Scopes.{one_key};
 ghost use Rattle.keyspace.specs.Forms.{Formed, set_form};
-ghost use Rattle.keyspace.specs.Commands.{Ready, Kept, sight};
+ghost use Rattle.keyspace.specs.Commands.{Ready, KeepsOrRefuses, visible};
 ghost use Rattle.cmd_sets.specs.Picked.{Pops};
 
 use crate::changing::{change_set, set_sought};
@@ -108,7 +108,7 @@ pub fn srandmember<B: BlockStore>(
     dice: &mut Pcg32,
 ) -> Result<Reply, Memory>
     requires ready { Ready B.blocks keyspace.now at.now }
-    ensures gives { IfOk result (λ reply. may_sets keyspace.now.bases.seed (sight B.blocks keyspace.now at.now) (sets.SRandMember key.now n) reply (sight B.blocks keyspace.now at.now)) }
+    ensures gives { IfOk result (λ reply. may_sets keyspace.now.bases.seed (visible B.blocks keyspace.now at.now) (sets.SRandMember key.now n) reply (visible B.blocks keyspace.now at.now)) }
 {
     let alloc = keyspace.alloc();
     match set_at(keyspace, at, key) {
@@ -186,9 +186,9 @@ pub fn spop<B: BlockStore>(
     dice: &mut Pcg32,
 ) -> Result<Reply, Memory>
     requires ready { Ready B.blocks keyspace.old at.now }
-    ensures gives { IfOk result (λ reply. may_sets keyspace.old.bases.seed (sight B.blocks keyspace.old at.now) (sets.SPop key.now n) reply (sight B.blocks keyspace.new at.now)) }
-    ensures kept { Kept B.blocks B.step (one_key at.now.db key.now) keyspace.old keyspace.new result }
-    ensures forms { IfOk result (λ reply. Formed B.blocks (set_form at.now.db (sight B.blocks keyspace.old at.now) (sets.SPop key.now n)) keyspace.old keyspace.new) }
+    ensures gives { IfOk result (λ reply. may_sets keyspace.old.bases.seed (visible B.blocks keyspace.old at.now) (sets.SPop key.now n) reply (visible B.blocks keyspace.new at.now)) }
+    ensures kept { KeepsOrRefuses B.blocks B.step (one_key at.now.db key.now) keyspace.old keyspace.new result }
+    ensures forms { IfOk result (λ reply. Formed B.blocks (set_form at.now.db (visible B.blocks keyspace.old at.now) (sets.SPop key.now n)) keyspace.old keyspace.new) }
 {
     let alloc = keyspace.alloc();
     let found = seek(keyspace, at, key);

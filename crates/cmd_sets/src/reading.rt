@@ -4,7 +4,7 @@ ghost use Rattle.std.specs.Prelude.{◌≡◌, ◌++◌, ◌∷◌, length, IfOk
 ghost use Rattle.set_object.specs.Members.{IsMembers, members};
 ghost use Rattle.plain_world.specs.declared.reply.Part.TheVariants as replies;
 ghost use Rattle.plain_model.specs.declared.set_command.SetCommand.TheVariants as sets;
-ghost use Rattle.keyspace.specs.Commands.{Ready, sight};
+ghost use Rattle.keyspace.specs.Commands.{Ready, visible};
 ghost use Rattle.cmd_sets.specs.Found.{Gives, told_each};
 
 use crate::look::{number_if, set_at};

@@ -3,7 +3,7 @@
 ghost use Rattle.std.specs.Prelude.{◌≡◌, IfOk};
 ghost use Rattle.set_object.specs.Members.{IsMembers, members};
 ghost use Rattle.keyspace.specs.Forms.{set_at};
-ghost use Rattle.keyspace.specs.Commands.{Ready, sight};
+ghost use Rattle.keyspace.specs.Commands.{Ready, visible};
 ghost use Rattle.cmd_sets.specs.Joined.{has_or_lacks, Sifts};
 
 use crate::hashing::{add_members, never_packed};
@@ -103,7 +103,7 @@ pub fn sift_at<B: BlockStore>(
     there: bool,
 ) -> Result<Vec<Bytes>, Memory>
     requires ready { Ready B.blocks keyspace.now at.now }
-    ensures { IfOk result (λ kept. Sifts there (set_at (sight B.blocks keyspace.now at.now) key.now) names.items kept.items) }
+    ensures { IfOk result (λ kept. Sifts there (set_at (visible B.blocks keyspace.now at.now) key.now) names.items kept.items) }
 {
     match crate::look::set_at(keyspace, at, key) {
         Look::There(set) => sift(keyspace, set, names, there),

@@ -8,7 +8,7 @@ ghost use Rattle.plain_model.specs.SetSteps.{has, may_sets, store_set};
 ghost use Rattle.plain_model.specs.declared.set_command.SetCommand.TheVariants as sets;
 ghost use Rattle.keyspace.specs.Scopes.{one_key};
 ghost use Rattle.keyspace.specs.Forms.{Formed, IsNewSet, set_form};
-ghost use Rattle.keyspace.specs.Commands.{Ready, Held, Kept, sight};
+ghost use Rattle.keyspace.specs.Commands.{Ready, KeepsTo, KeepsOrRefuses, visible};
 
 use crate::adding::Add;
 use crate::changing::change_set;
@@ -27,10 +27,10 @@ fn put_words<B: BlockStore>(
     words: &[Word<'_>],
 ) -> Result<usize, Memory>
     requires ready { Ready B.blocks keyspace.old at.now }
-    ensures world { OnOk result (sight B.blocks keyspace.new at.now ≡ store_set (sight B.blocks keyspace.old at.now) key.now (set_of words.now)) }
+    ensures world { OnOk result (visible B.blocks keyspace.new at.now ≡ store_set (visible B.blocks keyspace.old at.now) key.now (set_of words.now)) }
     ensures counted { IfOk result (λ count. count ≡ len (set_of words.now)) }
     ensures new { OnOk result (AllAt (IsNewSet (has (set_of words.now)) keyspace.old.bases) keyspace.new.bases (B.blocks keyspace.new.store) at.now.db key.now) }
-    ensures held { Held B.blocks B.step (one_key at.now.db key.now) keyspace.old keyspace.new }
+    ensures held { KeepsTo B.blocks B.step (one_key at.now.db key.now) keyspace.old keyspace.new }
 {
     let gone = seek(keyspace, at, key);
     drop_sought(keyspace, at, key, gone.sought.hash);
@@ -50,9 +50,9 @@ pub fn sjoin_store<B: BlockStore>(
     keys: &[Word<'_>],
 ) -> Result<Reply, Memory>
     requires ready { Ready B.blocks keyspace.old at.now }
-    ensures gives { IfOk result (λ reply. may_sets keyspace.old.bases.seed (sight B.blocks keyspace.old at.now) (sets.SJoinStore how to.now keys.now) reply (sight B.blocks keyspace.new at.now)) }
-    ensures kept { Kept B.blocks B.step (one_key at.now.db to.now) keyspace.old keyspace.new result }
-    ensures forms { IfOk result (λ reply. Formed B.blocks (set_form at.now.db (sight B.blocks keyspace.old at.now) (sets.SJoinStore how to.now keys.now)) keyspace.old keyspace.new) }
+    ensures gives { IfOk result (λ reply. may_sets keyspace.old.bases.seed (visible B.blocks keyspace.old at.now) (sets.SJoinStore how to.now keys.now) reply (visible B.blocks keyspace.new at.now)) }
+    ensures kept { KeepsOrRefuses B.blocks B.step (one_key at.now.db to.now) keyspace.old keyspace.new result }
+    ensures forms { IfOk result (λ reply. Formed B.blocks (set_form at.now.db (visible B.blocks keyspace.old at.now) (sets.SJoinStore how to.now keys.now)) keyspace.old keyspace.new) }
 {
     let alloc = keyspace.alloc();
     if !are_sets(keyspace, at, keys) {

@@ -21,7 +21,7 @@ use Rattle.keyspace.specs.Values.{OfForm, value_of, value_refs, IsSound}
 use Rattle.keyspace.specs.Databases.{Bases, Keyspace}
 use Rattle.keyspace.specs.Scopes.{one_key}
 use Rattle.keyspace.specs.Forms.{Log, HasForm, Formed}
-use Rattle.keyspace.specs.Commands.{Held, seen, sight}
+use Rattle.keyspace.specs.Commands.{KeepsTo, seen, visible}
 use Rattle.keyspace.specs.Edits.{Shape, shape, Edits, MakesNew}
 use Rattle.cmd_streams.specs.Changed.{HasStream, StreamItem, IsStreamThat, Made, MakesStream, StreamChanged}
 use Rattle.cmd_streams.specs.Found.{FoundStream}
@@ -66,7 +66,7 @@ takes_there Is world key stream has holds entry is = subst (HoldsThere Is) (sym 
 
 module _ {S T X : Type 0} (makes : T → T → Shape → Shape → Type 0) (own : Made) (first last : T) (blocks : S → Blocks) (old new : Keyspace S) (at : Ctx) (key : List ℕ)
     (same : (o n : Shape) → makes first last o n → MakesStream own o n) where
-  pub stream_new : (fresh : Value) → value_of (blocks old.store) fresh ≡ StreamOf no_stream → look (sight blocks old at) key ≡ None
+  pub stream_new : (fresh : Value) → value_of (blocks old.store) fresh ≡ StreamOf no_stream → look (visible blocks old at) key ≡ None
       → (result : Result (Unit {0}) X) → OnOk result (MakesNew makes first last blocks old new at key fresh) → OnOk result (StreamChanged own blocks old new at key)
   stream_new fresh blank none (Err e) p = tt
   stream_new fresh blank none (Ok u) p =
@@ -77,8 +77,8 @@ module _ {S T X : Type 0} (makes : T → T → Shape → Shape → Type 0) (own 
         stands = none;
         now = q.now;
         made = subst (λ (s : Stream). own s q.now) nothing q.made;
-        world = p.world ∙ ap (λ (v : model.Value). put (sight blocks old at) key (record { value = v; deadline = None })) q.is
-            ∙ ap (λ (d : Option ℕ). put (sight blocks old at) key (record { value = StreamOf q.now; deadline = d })) (sym (ap deadline_of none));
+        world = p.world ∙ ap (λ (v : model.Value). put (visible blocks old at) key (record { value = v; deadline = None })) q.is
+            ∙ ap (λ (d : Option ℕ). put (visible blocks old at) key (record { value = StreamOf q.now; deadline = d })) (sym (ap deadline_of none));
         value = p.now;
         only = p.only;
         encoded = p.encoded ∙ q.is_form;
@@ -93,8 +93,8 @@ module _ {S T X : Type 0} (makes : T → T → Shape → Shape → Type 0) (own 
         stands = record { deadline = p.deadline; stands = p.stands ∙ ap (λ (v : model.Value). Some (record { value = v; deadline = p.deadline })) q.was };
         now = q.now;
         made = q.made;
-        world = p.world ∙ ap (λ (v : model.Value). put (sight blocks old at) key (record { value = v; deadline = p.deadline })) q.is
-            ∙ ap (λ (d : Option ℕ). put (sight blocks old at) key (record { value = StreamOf q.now; deadline = d })) (sym (ap deadline_of p.stands));
+        world = p.world ∙ ap (λ (v : model.Value). put (visible blocks old at) key (record { value = v; deadline = p.deadline })) q.is
+            ∙ ap (λ (d : Option ℕ). put (visible blocks old at) key (record { value = StreamOf q.now; deadline = d })) (sym (ap deadline_of p.stands));
         value = p.now;
         only = p.only;
         encoded = q.is_form;
@@ -102,7 +102,7 @@ module _ {S T X : Type 0} (makes : T → T → Shape → Shape → Type 0) (own 
 
 -- the stream that was written is encoded as any stream
 pub formed_log : {S : Type 0} (own : Made) (blocks : S → Blocks) (step : S → S → Type 0) (old new : Keyspace S) (at : Ctx) (key : List ℕ) (p : StreamChanged own blocks old new at key)
-    → Held blocks step (one_key at.db key) old new → Formed blocks Log old new
+    → KeepsTo blocks step (one_key at.db key) old new → Formed blocks Log old new
 formed_log own blocks step old new at key p held =
     written_key value_refs (HasForm Log old.bases (blocks old.store)) at.db key p.value p.encoded old.bases new.bases (blocks old.store) (blocks new.store) held.within held.sound.arranged p.only
 

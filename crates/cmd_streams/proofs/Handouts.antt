@@ -25,7 +25,7 @@ use Rattle.keyspace.specs.Values.{value_refs, OfForm, encoding_of}
 use Rattle.keyspace.specs.declared.value.Value.{Value}
 use Rattle.keyspace.specs.Forms.{Log, Formed}
 use Rattle.keyspace.specs.Scopes.{Scope, asked_keys, one_key, some_keys}
-use Rattle.keyspace.specs.Commands.{Held, Kept}
+use Rattle.keyspace.specs.Commands.{KeepsTo, KeepsOrRefuses}
 use Rattle.keyspace.proofs.Running.{calm}
 use Rattle.cmd_streams.specs.declared.delivering.Handed.{Handed}
 use Rattle.cmd_streams.specs.declared.delivering.Handed.TheVariants.{Fresh, Again}
@@ -132,7 +132,7 @@ handed_out old new who asked first told is none same world (Ok reply) replied =
 handed_out old new who asked first told is none same world (Err x) replied = tt
 
 pub handed_calm : {S X : Type 0} (blocks : S → Blocks) (step : S → S → Type 0) (scope : Scope) (old new : Keyspace S) (told : List (List Part)) (result : Result (List Part) X)
-    → IfOk result (λ reply. reply ≡ all_listed told) → Held blocks step scope old new → Kept blocks step scope old new result
+    → IfOk result (λ reply. reply ≡ all_listed told) → KeepsTo blocks step scope old new → KeepsOrRefuses blocks step scope old new result
 handed_calm blocks step scope old new told (Err x) is held = calm blocks step scope old new (Err x) tt held
 handed_calm blocks step scope old new told (Ok reply) is held = calm blocks step scope old new (Ok reply) (λ refused. listed_calm told (subst IsRefusal is refused)) held
 
@@ -140,7 +140,7 @@ handed_calm blocks step scope old new told (Ok reply) is held = calm blocks step
 
 -- what is held to one key is held to those that it is one of
 pub held_wider : {S : Type 0} (blocks : S → Blocks) (step : S → S → Type 0) (db : ℕ) (key : List ℕ) (keys : List (List ℕ)) → Contains keys key → (old new : Keyspace S)
-    → Held blocks step (one_key db key) old new → Held blocks step (some_keys db keys) old new
+    → KeepsTo blocks step (one_key db key) old new → KeepsTo blocks step (some_keys db keys) old new
 held_wider blocks step db key keys there old new held = record {
   sound = held.sound;
   served = held.served;

@@ -20,7 +20,7 @@ use Rattle.plain_model.specs.StreamSteps.{from_id, keep_stream, on_stream, or_no
 use Rattle.plain_model.specs.GroupSteps.{create, create_in, destroy, regrouped}
 use Rattle.keyspace.specs.Databases.{Keyspace}
 use Rattle.keyspace.specs.Scopes.{Scope}
-use Rattle.keyspace.specs.Commands.{Held, Kept}
+use Rattle.keyspace.specs.Commands.{KeepsTo, KeepsOrRefuses}
 use Rattle.keyspace.proofs.Running.{calm}
 use Rattle.cmd_streams.specs.Changed.{HasStream, IsBefore}
 use Rattle.cmd_streams.specs.Found.{FoundStream}
@@ -88,7 +88,7 @@ made_told old new key name id was now stands free made world (Ok reply) told = �
 
 -- OK is no refusal
 pub ok_calm : {S X : Type 0} (blocks : S → Blocks) (step : S → S → Type 0) (scope : Scope) (old new : Keyspace S) (result : Result (List Part) X) → IfOk result (λ reply. reply ≡ ok ∷ [])
-    → Held blocks step scope old new → Kept blocks step scope old new result
+    → KeepsTo blocks step scope old new → KeepsOrRefuses blocks step scope old new result
 ok_calm blocks step scope old new (Err x) told held = calm blocks step scope old new (Err x) tt held
 ok_calm blocks step scope old new (Ok reply) told held = calm blocks step scope old new (Ok reply) (λ refused. subst IsRefusal told refused) held
 

@@ -10,7 +10,7 @@ use Rattle.held.specs.Calls.{HasOnly, StandsAt}
 use Rattle.keyspace.specs.declared.value.Value as kinds
 use Rattle.keyspace.specs.Values.{OfForm, encoding_of}
 use Rattle.keyspace.specs.Databases.{Bases, Keyspace}
-use Rattle.keyspace.specs.Commands.{sight}
+use Rattle.keyspace.specs.Commands.{visible}
 use Rattle.keyspace.specs.Edits.{Shape}
 
 -- this stream stands at the key
@@ -60,10 +60,10 @@ pub record MakesStream (makes : Made) (old new : Shape) : Type 0 where
 pub record StreamChanged {S : Type 0} (makes : Made) (blocks : S → Blocks) (old new : Keyspace S) (at : Ctx)
     (key : List ℕ) : Type 0 where
   pub before : Option Stream
-  pub stands : IsBefore (sight blocks old at) key before
+  pub stands : IsBefore (visible blocks old at) key before
   pub now : Stream
   pub made : makes (or_no_stream before) now
-  pub world : sight blocks new at ≡ keep_stream (sight blocks old at) key now
+  pub world : visible blocks new at ≡ keep_stream (visible blocks old at) key now
   pub value : kinds.Value
   pub only : HasOnly new.bases (blocks new.store) at.db key value
   pub encoded : encoding_of value ≡ OfForm forms.Stream

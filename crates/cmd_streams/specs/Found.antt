@@ -11,7 +11,7 @@ use Rattle.plain_model.specs.GroupSteps.{stream_outcome}
 use Rattle.plain_model.specs.declared.ctx.Ctx.{Ctx}
 use Rattle.plain_model.specs.declared.stream_command.StreamCommand.{StreamCommand}
 use Rattle.keyspace.specs.Databases.{Keyspace}
-use Rattle.keyspace.specs.Commands.{sight}
+use Rattle.keyspace.specs.Commands.{visible}
 
 -- the stream stands at the key, and is sound
 pub record FoundStream (world : World) (blocks : Blocks) (key : List ℕ) (stream : kept.Stream) : Type 0 where
@@ -29,4 +29,4 @@ pub record FoundOther (world : World) (key : List ℕ) : Type 0 where
 abbrev pub Gives : {S E : Type 0} → (S → Blocks) → Keyspace S → Keyspace S → Ctx → StreamCommand
     → Result (List Part) E → Type 0
 Gives blocks old new at command result =
-    IfOk result (λ reply. stream_outcome (sight blocks old at) at.moment command ≡ leaves reply (sight blocks new at))
+    IfOk result (λ reply. stream_outcome (visible blocks old at) at.moment command ≡ leaves reply (visible blocks new at))

@@ -12,7 +12,7 @@ use Rattle.plain_model.specs.declared.ctx.Ctx.{Ctx}
 use Rattle.plain_model.specs.StreamSteps.{Asked, listed, of_key, some_listed}
 use Rattle.plain_model.specs.GroupSteps.{Reader, hand_out, left_of, regrouped, told_in, waits_listed, waits_parts}
 use Rattle.keyspace.specs.Databases.{Keyspace}
-use Rattle.keyspace.specs.Commands.{sight}
+use Rattle.keyspace.specs.Commands.{visible}
 use Rattle.cmd_streams.specs.declared.delivering.Asker.{Asker}
 use Rattle.cmd_streams.specs.declared.delivering.Handed.{Handed}
 use Rattle.cmd_streams.specs.declared.delivering.Handed.TheVariants.{Fresh, Again}
@@ -52,5 +52,5 @@ pub record Hands (who : Reader) (above : Option Id) (handed : Option Handed) (ol
 -- What is handed out of each key in turn came behind what was there.
 pub record HandsOut {S : Type 0} (blocks : S → Blocks) (old new : Keyspace S) (at : Ctx) (who : Reader) (asked : List Asked)
     (first last : List (List Part)) : Type 0 where
-  pub told : last ≡ first ++ (hand_out (sight blocks old at) who asked).0
-  pub world : sight blocks new at ≡ (hand_out (sight blocks old at) who asked).1
+  pub told : last ≡ first ++ (hand_out (visible blocks old at) who asked).0
+  pub world : visible blocks new at ≡ (hand_out (visible blocks old at) who asked).1

@@ -13,7 +13,7 @@ ghost use Rattle.plain_model.specs.StreamSteps as steps;
 ghost use Rattle.plain_model.specs.declared.stream_command.StreamCommand.TheVariants as streams;
 ghost use Rattle.keyspace.specs.Scopes.{one_key};
 ghost use Rattle.keyspace.specs.Forms.{Log, Formed, stream_form};
-ghost use Rattle.keyspace.specs.Commands.{Ready, Kept, sight};
+ghost use Rattle.keyspace.specs.Commands.{Ready, KeepsOrRefuses, visible};
 ghost use Rattle.cmd_streams.specs.Found.{Gives};
 ghost use Rattle.cmd_streams.specs.Changed.{IsBefore, IsStreamThere};
 ghost use Rattle.cmd_streams.specs.Added.{Adds, IsNext};
@@ -93,8 +93,8 @@ fn last_there<B: BlockStore>(
     there: Option<usize>,
 ) -> Id
     requires ready { Ready B.blocks keyspace.now at.now }
-    requires there { IsStreamThere (sight B.blocks keyspace.now at.now) keyspace.now.bases (B.blocks keyspace.now.store) at.now.db key.now at.now.moment there }
-    ensures { (before : Option model.Stream) → IsBefore (sight B.blocks keyspace.now at.now) key.now before → (or_no_stream before).last ≡ pair_of result }
+    requires there { IsStreamThere (visible B.blocks keyspace.now at.now) keyspace.now.bases (B.blocks keyspace.now.store) at.now.db key.now at.now.moment there }
+    ensures { (before : Option model.Stream) → IsBefore (visible B.blocks keyspace.now at.now) key.now before → (or_no_stream before).last ≡ pair_of result }
 {
     match there {
         None => Id { ms: 0, seq: 0 },
@@ -153,13 +153,13 @@ fn append_at<B: BlockStore>(
 ) -> Result<Reply, Memory>
     requires ready { Ready B.blocks keyspace.old at.now }
     requires seeks { Seeks keyspace.old.bases (B.blocks keyspace.old.store) at.now.db key.now sought }
-    requires there { IsStreamThere (sight B.blocks keyspace.old at.now) keyspace.old.bases (B.blocks keyspace.old.store) at.now.db key.now at.now.moment there }
-    requires above { (before : Option model.Stream) → IsBefore (sight B.blocks keyspace.old at.now) key.now before → IsNext append.id append.pairs (or_no_stream before) }
+    requires there { IsStreamThere (visible B.blocks keyspace.old at.now) keyspace.old.bases (B.blocks keyspace.old.store) at.now.db key.now at.now.moment there }
+    requires above { (before : Option model.Stream) → IsBefore (visible B.blocks keyspace.old at.now) key.now before → IsNext append.id append.pairs (or_no_stream before) }
     ensures gives { IfOk result
-        (λ reply. (before : Option model.Stream) → IsBefore (sight B.blocks keyspace.old at.now) key.now before
-        → steps.append_as (sight B.blocks keyspace.old at.now) key.now append.trim append.pairs (or_no_stream before) (Ok (pair_of append.id)) ≡ leaves reply
-        (sight B.blocks keyspace.new at.now)) }
-    ensures kept { Kept B.blocks B.step (one_key at.now.db key.now) keyspace.old keyspace.new result }
+        (λ reply. (before : Option model.Stream) → IsBefore (visible B.blocks keyspace.old at.now) key.now before
+        → steps.append_as (visible B.blocks keyspace.old at.now) key.now append.trim append.pairs (or_no_stream before) (Ok (pair_of append.id)) ≡ leaves reply
+        (visible B.blocks keyspace.new at.now)) }
+    ensures kept { KeepsOrRefuses B.blocks B.step (one_key at.now.db key.now) keyspace.old keyspace.new result }
     ensures forms { IfOk result (λ reply. Formed B.blocks Log keyspace.old keyspace.new) }
 {
     let alloc = keyspace.alloc();
@@ -183,10 +183,10 @@ fn append_where<B: BlockStore>(
     requires ready { Ready B.blocks keyspace.old at.now }
     requires entry { IsAddable pairs.now }
     requires seeks { Seeks keyspace.old.bases (B.blocks keyspace.old.store) at.now.db key.now sought }
-    requires there { IsStreamThere (sight B.blocks keyspace.old at.now) keyspace.old.bases (B.blocks keyspace.old.store) at.now.db key.now at.now.moment there }
+    requires there { IsStreamThere (visible B.blocks keyspace.old at.now) keyspace.old.bases (B.blocks keyspace.old.store) at.now.db key.now at.now.moment there }
     requires made { there ≡ None → options.only_there ≡ false }
     ensures gives { Gives B.blocks keyspace.old keyspace.new at.now (streams.XAdd key.now options asked pairs.now) result }
-    ensures kept { Kept B.blocks B.step (one_key at.now.db key.now) keyspace.old keyspace.new result }
+    ensures kept { KeepsOrRefuses B.blocks B.step (one_key at.now.db key.now) keyspace.old keyspace.new result }
     ensures forms { IfOk result (λ reply. Formed B.blocks Log keyspace.old keyspace.new) }
 {
     let alloc = keyspace.alloc();
@@ -215,7 +215,7 @@ pub fn xadd<B: BlockStore>(
     requires ready { Ready B.blocks keyspace.old at.now }
     requires entry { IsAddable pairs.now }
     ensures gives { Gives B.blocks keyspace.old keyspace.new at.now (streams.XAdd key.now options asked pairs.now) result }
-    ensures kept { Kept B.blocks B.step (one_key at.now.db key.now) keyspace.old keyspace.new result }
+    ensures kept { KeepsOrRefuses B.blocks B.step (one_key at.now.db key.now) keyspace.old keyspace.new result }
     ensures forms { IfOk result (λ reply. Formed B.blocks (stream_form (streams.XAdd key.now options asked pairs.now)) keyspace.old keyspace.new) }
 {
     let alloc = keyspace.alloc();

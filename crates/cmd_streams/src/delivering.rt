@@ -12,7 +12,7 @@ ghost use Rattle.plain_model.specs.GroupSteps.{first_refusal, hand_at, hand_out,
 ghost use Rattle.plain_model.specs.declared.stream_command.StreamCommand.TheVariants as streams;
 ghost use Rattle.keyspace.specs.Scopes.{asked_keys, one_key, some_keys};
 ghost use Rattle.keyspace.specs.Forms.{Log, Formed, stream_form};
-ghost use Rattle.keyspace.specs.Commands.{Held, Kept, Ready, sight};
+ghost use Rattle.keyspace.specs.Commands.{KeepsTo, KeepsOrRefuses, Ready, visible};
 ghost use Rattle.cmd_streams.specs.Found.{Gives};
 ghost use Rattle.cmd_streams.specs.Handed.{again_parts, key_parts, reader, told_of_key, Hands, HandsOut, IsTold};
 
@@ -59,7 +59,7 @@ fn refusal_of<B: BlockStore>(
     group: &[u8],
 ) -> Option<Refusal>
     requires ready { Ready B.blocks keyspace.now at.now }
-    ensures { result ≡ refusal_at group.now (look (sight B.blocks keyspace.now at.now) key.now) }
+    ensures { result ≡ refusal_at group.now (look (visible B.blocks keyspace.now at.now) key.now) }
 {
     match stream_at(keyspace, at, key) {
         Look::Missing => Some(Refusal::NoSuchGroup),
@@ -81,7 +81,7 @@ fn refusal_among<B: BlockStore>(
     asked: &[(Word<'_>, Option<EntryId>)],
 ) -> Option<Refusal>
     requires ready { Ready B.blocks keyspace.now at.now }
-    ensures { result ≡ first_refusal (sight B.blocks keyspace.now at.now) group.now asked.now }
+    ensures { result ≡ first_refusal (visible B.blocks keyspace.now at.now) group.now asked.now }
 {
     for one in asked {
         let refusal = refusal_of(keyspace, at, one.0.as_slice(), group);
@@ -193,9 +193,9 @@ fn hand_one<B: BlockStore>(
 ) -> Result<Option<Handed>, Memory>
     requires ready { Ready B.blocks keyspace.old at.now }
     ensures gives { IfOk result
-        (λ handed. hand_at (sight B.blocks keyspace.old at.now) (reader at.now.moment who.now) key.now above (stream_there (look (sight B.blocks keyspace.old at.now) key.now)) ≡
-        (told_of_key key.now handed, sight B.blocks keyspace.new at.now)) }
-    ensures held { Held B.blocks B.step (one_key at.now.db key.now) keyspace.old keyspace.new }
+        (λ handed. hand_at (visible B.blocks keyspace.old at.now) (reader at.now.moment who.now) key.now above (stream_there (look (visible B.blocks keyspace.old at.now) key.now)) ≡
+        (told_of_key key.now handed, visible B.blocks keyspace.new at.now)) }
+    ensures held { KeepsTo B.blocks B.step (one_key at.now.db key.now) keyspace.old keyspace.new }
     ensures forms { IfOk result (λ handed. Formed B.blocks Log keyspace.old keyspace.new) }
 {
     let found = seek(keyspace, at, key);
@@ -255,7 +255,7 @@ fn hand_each<'a, B: BlockStore>(
 ) -> Result<(), Memory>
     requires ready { Ready B.blocks keyspace.old at.now }
     ensures gives { OnOk result (HandsOut B.blocks keyspace.old keyspace.new at.now (reader at.now.moment who.now) asked.now (map key_parts found.old.items) (map key_parts found.new.items)) }
-    ensures held { Held B.blocks B.step (some_keys at.now.db (asked_keys asked.now)) keyspace.old keyspace.new }
+    ensures held { KeepsTo B.blocks B.step (some_keys at.now.db (asked_keys asked.now)) keyspace.old keyspace.new }
     ensures forms { OnOk result (Formed B.blocks Log keyspace.old keyspace.new) }
 {
     for one in asked {
@@ -348,7 +348,7 @@ pub fn xreadgroup<B: BlockStore>(
 ) -> Result<Reply, Memory>
     requires ready { Ready B.blocks keyspace.old at.now }
     ensures gives { Gives B.blocks keyspace.old keyspace.new at.now (streams.XReadGroup group.now consumer.now limit asked.now) result }
-    ensures kept { Kept B.blocks B.step (some_keys at.now.db (asked_keys asked.now)) keyspace.old keyspace.new result }
+    ensures kept { KeepsOrRefuses B.blocks B.step (some_keys at.now.db (asked_keys asked.now)) keyspace.old keyspace.new result }
     ensures forms { IfOk result (λ reply. Formed B.blocks (stream_form (streams.XReadGroup group.now consumer.now limit asked.now)) keyspace.old keyspace.new) }
 {
     let alloc = keyspace.alloc();

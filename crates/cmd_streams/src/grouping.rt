@@ -12,7 +12,7 @@ ghost use Rattle.plain_model.specs.StreamSteps.{from_id, or_no_stream};
 ghost use Rattle.plain_model.specs.declared.stream_command.StreamCommand.TheVariants as streams;
 ghost use Rattle.keyspace.specs.Scopes.{one_key};
 ghost use Rattle.keyspace.specs.Forms.{Log, Formed, stream_form};
-ghost use Rattle.keyspace.specs.Commands.{Ready, Kept, sight};
+ghost use Rattle.keyspace.specs.Commands.{Ready, KeepsOrRefuses, visible};
 ghost use Rattle.cmd_streams.specs.Found.{Gives};
 ghost use Rattle.cmd_streams.specs.Changed.{IsBefore, IsStreamThere};
 
@@ -88,12 +88,12 @@ fn create_at<B: BlockStore>(
 ) -> Result<Reply, Memory>
     requires ready { Ready B.blocks keyspace.old at.now }
     requires seeks { Seeks keyspace.old.bases (B.blocks keyspace.old.store) at.now.db key.now sought }
-    requires there { IsStreamThere (sight B.blocks keyspace.old at.now) keyspace.old.bases (B.blocks keyspace.old.store) at.now.db key.now at.now.moment there }
-    requires free { (before : Option model.Stream) → IsBefore (sight B.blocks keyspace.old at.now) key.now before → contains_key (or_no_stream before).groups name.now ≡ false }
+    requires there { IsStreamThere (visible B.blocks keyspace.old at.now) keyspace.old.bases (B.blocks keyspace.old.store) at.now.db key.now at.now.moment there }
+    requires free { (before : Option model.Stream) → IsBefore (visible B.blocks keyspace.old at.now) key.now before → contains_key (or_no_stream before).groups name.now ≡ false }
     ensures gives { IfOk result
-        (λ reply. (before : Option model.Stream) → IsBefore (sight B.blocks keyspace.old at.now) key.now before
-        → create_in (sight B.blocks keyspace.old at.now) key.now name.now id (or_no_stream before) ≡ leaves reply (sight B.blocks keyspace.new at.now)) }
-    ensures kept { Kept B.blocks B.step (one_key at.now.db key.now) keyspace.old keyspace.new result }
+        (λ reply. (before : Option model.Stream) → IsBefore (visible B.blocks keyspace.old at.now) key.now before
+        → create_in (visible B.blocks keyspace.old at.now) key.now name.now id (or_no_stream before) ≡ leaves reply (visible B.blocks keyspace.new at.now)) }
+    ensures kept { KeepsOrRefuses B.blocks B.step (one_key at.now.db key.now) keyspace.old keyspace.new result }
     ensures forms { IfOk result (λ reply. Formed B.blocks Log keyspace.old keyspace.new) }
 {
     let alloc = keyspace.alloc();
@@ -115,7 +115,7 @@ pub fn xgroup_create<B: BlockStore>(
 ) -> Result<Reply, Memory>
     requires ready { Ready B.blocks keyspace.old at.now }
     ensures gives { Gives B.blocks keyspace.old keyspace.new at.now (streams.XGroupCreate key.now name.now id make) result }
-    ensures kept { Kept B.blocks B.step (one_key at.now.db key.now) keyspace.old keyspace.new result }
+    ensures kept { KeepsOrRefuses B.blocks B.step (one_key at.now.db key.now) keyspace.old keyspace.new result }
     ensures forms { IfOk result (λ reply. Formed B.blocks (stream_form (streams.XGroupCreate key.now name.now id make)) keyspace.old keyspace.new) }
 {
     let alloc = keyspace.alloc();
@@ -147,7 +147,7 @@ pub fn xgroup_destroy<B: BlockStore>(
 ) -> Result<Reply, Memory>
     requires ready { Ready B.blocks keyspace.old at.now }
     ensures gives { Gives B.blocks keyspace.old keyspace.new at.now (streams.XGroupDestroy key.now name.now) result }
-    ensures kept { Kept B.blocks B.step (one_key at.now.db key.now) keyspace.old keyspace.new result }
+    ensures kept { KeepsOrRefuses B.blocks B.step (one_key at.now.db key.now) keyspace.old keyspace.new result }
     ensures forms { IfOk result (λ reply. Formed B.blocks (stream_form (streams.XGroupDestroy key.now name.now)) keyspace.old keyspace.new) }
 {
     let alloc = keyspace.alloc();

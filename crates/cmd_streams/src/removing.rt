@@ -7,7 +7,7 @@ ghost use Rattle.plain_model.specs.StreamSteps.{trimmed, without, without_all};
 ghost use Rattle.plain_model.specs.declared.stream_command.StreamCommand.TheVariants as streams;
 ghost use Rattle.keyspace.specs.Scopes.{one_key};
 ghost use Rattle.keyspace.specs.Forms.{Formed, stream_form};
-ghost use Rattle.keyspace.specs.Commands.{Ready, Kept};
+ghost use Rattle.keyspace.specs.Commands.{Ready, KeepsOrRefuses};
 ghost use Rattle.cmd_streams.specs.Found.{Gives};
 ghost use Rattle.cmd_streams.specs.Removed.{Removes};
 
@@ -137,7 +137,7 @@ pub fn xdel<B: BlockStore>(
 ) -> Result<Reply, Memory>
     requires ready { Ready B.blocks keyspace.old at.now }
     ensures gives { Gives B.blocks keyspace.old keyspace.new at.now (streams.XDel key.now ids.now) result }
-    ensures kept { Kept B.blocks B.step (one_key at.now.db key.now) keyspace.old keyspace.new result }
+    ensures kept { KeepsOrRefuses B.blocks B.step (one_key at.now.db key.now) keyspace.old keyspace.new result }
     ensures forms { IfOk result (λ reply. Formed B.blocks (stream_form (streams.XDel key.now ids.now)) keyspace.old keyspace.new) }
 {
     let alloc = keyspace.alloc();
@@ -162,7 +162,7 @@ pub fn xtrim<B: BlockStore>(
 ) -> Result<Reply, Memory>
     requires ready { Ready B.blocks keyspace.old at.now }
     ensures gives { Gives B.blocks keyspace.old keyspace.new at.now (streams.XTrim key.now trim) result }
-    ensures kept { Kept B.blocks B.step (one_key at.now.db key.now) keyspace.old keyspace.new result }
+    ensures kept { KeepsOrRefuses B.blocks B.step (one_key at.now.db key.now) keyspace.old keyspace.new result }
     ensures forms { IfOk result (λ reply. Formed B.blocks (stream_form (streams.XTrim key.now trim)) keyspace.old keyspace.new) }
 {
     let alloc = keyspace.alloc();

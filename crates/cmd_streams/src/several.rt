@@ -10,7 +10,7 @@ ghost use Rattle.plain_world.specs.Streams.{StreamEntry};
 ghost use Rattle.plain_world.specs.Worlds.{look};
 ghost use Rattle.plain_model.specs.StreamSteps.{all_listed, from_id, is_later, some_listed, up_to};
 ghost use Rattle.plain_model.specs.declared.stream_command.StreamCommand.TheVariants as streams;
-ghost use Rattle.keyspace.specs.Commands.{Ready, sight};
+ghost use Rattle.keyspace.specs.Commands.{Ready, visible};
 ghost use Rattle.cmd_streams.specs.Found.{Gives};
 ghost use Rattle.cmd_streams.specs.Several.{read_parts, Gathers, IsReadAt};
 
@@ -80,7 +80,7 @@ fn read_at<B: BlockStore>(
     limit: Option<u64>,
 ) -> Result<Option<Vec<Owned>>, Memory>
     requires ready { Ready B.blocks keyspace.now at.now }
-    ensures { IfOk result (λ found. IsReadAt (look (sight B.blocks keyspace.now at.now) key.now) limit from (option_map (λ own. map taken own.items) found)) }
+    ensures { IfOk result (λ found. IsReadAt (look (visible B.blocks keyspace.now at.now) key.now) limit from (option_map (λ own. map taken own.items) found)) }
 {
     let alloc = keyspace.alloc();
     match stream_at(keyspace, at, key) {
@@ -118,7 +118,7 @@ fn gather<'a, B: BlockStore>(
     found: &mut Vec<KeyRead<'a>>,
 ) -> Result<bool, Memory>
     requires ready { Ready B.blocks keyspace.now at.now }
-    ensures { IfOk result (λ all. Gathers (sight B.blocks keyspace.now at.now) limit asked.now all (map read_parts found.old.items) (map read_parts found.new.items)) }
+    ensures { IfOk result (λ all. Gathers (visible B.blocks keyspace.now at.now) limit asked.now all (map read_parts found.old.items) (map read_parts found.new.items)) }
 {
     for one in asked {
         let key = one.0.as_slice();

@@ -1,6 +1,6 @@
 //! The stream of an item number.
 
-ghost use Rattle.keyspace.specs.Commands.{Ready, sight};
+ghost use Rattle.keyspace.specs.Commands.{Ready, visible};
 ghost use Rattle.cmd_streams.specs.Found.{FoundStream};
 ghost use Rattle.cmd_streams.specs.Changed.{StreamItem};
 
@@ -17,8 +17,8 @@ pub fn stream_there<'a, B: BlockStore>(
     item: usize,
 ) -> &'a Stream
     requires ready { Ready B.blocks keyspace.now at.now }
-    requires there { StreamItem (sight B.blocks keyspace.now at.now) keyspace.now.bases (B.blocks keyspace.now.store) at.now.db key.now at.now.moment item }
-    ensures { FoundStream (sight B.blocks keyspace.now at.now) (B.blocks keyspace.now.store) key.now result.now }
+    requires there { StreamItem (visible B.blocks keyspace.now at.now) keyspace.now.bases (B.blocks keyspace.now.store) at.now.db key.now at.now.moment item }
+    ensures { FoundStream (visible B.blocks keyspace.now at.now) (B.blocks keyspace.now.store) key.now result.now }
 {
     // the item number tells the key
     let _ = key;

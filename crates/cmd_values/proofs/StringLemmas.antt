@@ -27,7 +27,7 @@ use Rattle.plain_model.specs.declared.command.StringCommand.TheVariants as strin
 use Rattle.keyspace.specs.Sound.{Sound}
 use Rattle.keyspace.specs.Databases.{Keyspace}
 use Rattle.keyspace.specs.Scopes.{string_scope, scope_of}
-use Rattle.keyspace.specs.Commands.{seen, sight, Ready, Kept, Runs}
+use Rattle.keyspace.specs.Commands.{seen, visible, Ready, KeepsOrRefuses, Runs}
 use Rattle.std.specs.Prelude.{ℤ, pos, max, nat_le, ◌==◌, true, false, if◌then◌else◌, FitsSigned}
 use Rattle.std.specs.Int.{w64}
 use Rattle.std.proofs.lemmas.Bool.{le-leb, ne_eqb}
@@ -342,32 +342,32 @@ overflowed old key n next (Err x) at large is = tt
 
 -- a command on strings ran
 pub ran_strings : {S E : Type 0} (blocks : S → Blocks) (step : S → S → Type 0) (old new : Keyspace S) (at : Ctx) (command : Command) (own same : StringCommand) (result : Result (List Part) E)
-    → command ≡ Strings own → own ≡ same → Gives blocks old new at same result → Kept blocks step (string_scope at.db same) old new result
-    → IfOk result (λ reply. Formed blocks (string_form (sight blocks old at) same) old new) → Runs blocks step old new at command result
+    → command ≡ Strings own → own ≡ same → Gives blocks old new at same result → KeepsOrRefuses blocks step (string_scope at.db same) old new result
+    → IfOk result (λ reply. Formed blocks (string_form (visible blocks old at) same) old new) → Runs blocks step old new at command result
 ran_strings blocks step old new at command own same result e f given kept forms =
     record {
-      answers = step_of old.bases.seed at.moment (sight blocks old at) (sight blocks new at) command own same result e f given;
-      kept = subst (λ x. Kept blocks step (scope_of at.db x) old new result) (sym e) (subst (λ x. Kept blocks step (string_scope at.db x) old new result) (sym f) kept);
+      answers = step_of old.bases.seed at.moment (visible blocks old at) (visible blocks new at) command own same result e f given;
+      kept = subst (λ x. KeepsOrRefuses blocks step (scope_of at.db x) old new result) (sym e) (subst (λ x. KeepsOrRefuses blocks step (string_scope at.db x) old new result) (sym f) kept);
       shows = subst (λ x. IfOk result (λ reply. Shows blocks old new at x reply)) (sym e) (nothing_shown result);
-      forms = subst (λ x. IfOk result (λ reply. Formed blocks (form_of at.db (sight blocks old at) x) old new)) (sym e)
-          (subst (λ x. IfOk result (λ reply. Formed blocks (string_form (sight blocks old at) x) old new)) (sym f) forms);
+      forms = subst (λ x. IfOk result (λ reply. Formed blocks (form_of at.db (visible blocks old at) x) old new)) (sym e)
+          (subst (λ x. IfOk result (λ reply. Formed blocks (string_form (visible blocks old at) x) old new)) (sym f) forms);
     }
 
 -- a command on strings that writes none
 pub removed_strings : {S E : Type 0} (blocks : S → Blocks) (step : S → S → Type 0) (old new : Keyspace S) (at : Ctx) (command : Command) (own same : StringCommand) (result : Result (List Part) E)
     → ((db : ℕ) (key : List ℕ) → (string_scope at.db same).writes db key → ⊥) → command ≡ Strings own → own ≡ same → Gives blocks old new at same result
-    → Kept blocks step (string_scope at.db same) old new result → Runs blocks step old new at command result
+    → KeepsOrRefuses blocks step (string_scope at.db same) old new result → Runs blocks step old new at command result
 removed_strings blocks step old new at command own same result none e f given kept =
     ran_strings blocks step old new at command own same result e f given kept
-    (formed_ok blocks (string_form (sight blocks old at) same) old new result
-    (formed_scope (string_form (sight blocks old at) same) (string_scope at.db same) none old.bases new.bases (blocks old.store) (blocks new.store) kept.held.within))
+    (formed_ok blocks (string_form (visible blocks old at) same) old new result
+    (formed_scope (string_form (visible blocks old at) same) (string_scope at.db same) none old.bases new.bases (blocks old.store) (blocks new.store) kept.held.within))
 
 -- a command on strings only looked
 pub looked_strings : {S E : Type 0} (blocks : S → Blocks) (step : S → S → Type 0) (keyspace : Keyspace S) (at : Ctx) (command : Command) (own same : StringCommand) (result : Result (List Part) E)
     → command ≡ Strings own → own ≡ same → Gives blocks keyspace keyspace at same result → Ready blocks keyspace at → Runs blocks step keyspace keyspace at command result
 looked_strings blocks step keyspace at command own same result e f given ready =
     ran_strings blocks step keyspace keyspace at command own same result e f given (unchanged blocks step (string_scope at.db same) keyspace result ready.sound)
-    (unformed blocks (string_form (sight blocks keyspace at) same) keyspace result)
+    (unformed blocks (string_form (visible blocks keyspace at) same) keyspace result)
 
 -- what was put stands there
 pub put_there : (old mid : World) (key bytes : List ℕ) → mid ≡ replace old key bytes → IsThere mid key bytes

@@ -8,7 +8,7 @@ use Rattle.plain_world.specs.Worlds.{Str, World, Value, Entry, look}
 use Rattle.plain_model.specs.Outcomes.{Outcome, leaves, refused}
 use Rattle.plain_model.specs.declared.ctx.Ctx.{Ctx}
 use Rattle.keyspace.specs.Databases.{Keyspace}
-use Rattle.keyspace.specs.Commands.{sight}
+use Rattle.keyspace.specs.Commands.{visible}
 use Rattle.plain_model.specs.StringSteps.{string_outcome, on_string, or_null, string_or_null, number_at, change, ok}
 use Rattle.plain_model.specs.StringSteps.{with_lifetime}
 use Rattle.plain_model.specs.declared.times.Lifetime.{Lifetime}
@@ -99,7 +99,7 @@ GivesIn moment old command new result = IfOk result (λ reply. string_outcome mo
 -- from what the old keyspace means the command gives this reply, and leaves what the new one means
 abbrev pub Gives : {S E : Type 0} → (S → Blocks) → Keyspace S → Keyspace S → Ctx → StringCommand
     → Result (List Part) E → Type 0
-Gives blocks old new at command result = GivesIn at.moment (sight blocks old at) command (sight blocks new at) result
+Gives blocks old new at command result = GivesIn at.moment (visible blocks old at) command (visible blocks new at) result
 
 -- the reply of SET: the old value where it is asked for, else OK, or null where nothing is written; none where the old
 -- value is asked for and is no string

@@ -25,7 +25,7 @@ use Rattle.keyspace.specs.Values.{value_refs, encoding_of}
 use Rattle.keyspace.specs.Databases.{Keyspace}
 use Rattle.keyspace.specs.Scopes.{one_key, no_key}
 use Rattle.keyspace.specs.Forms.{IsNewZset, IsSourceForm}
-use Rattle.keyspace.specs.Commands.{Held, sight}
+use Rattle.keyspace.specs.Commands.{KeepsTo, visible}
 use Rattle.keyspace.proofs.Absent.{look_removed}
 use Rattle.keyspace.proofs.Running.{held_then}
 use Rattle.cmd_zsets.specs.Changed.{IsBefore, ZsetChanged}
@@ -133,17 +133,17 @@ all_of None = refl
 all_of (Some v) = refl
 
 module _ {S : Type 0} (blocks : S → Blocks) (old mid new : Keyspace S) (at : Ctx) (key : List ℕ) (all : Scores)
-    (gone : sight blocks mid at ≡ remove (sight blocks old at) key)
+    (gone : visible blocks mid at ≡ remove (visible blocks old at) key)
     (p : ZsetChanged (λ limits scores from now form. Fills all limits scores from now form) keep_zset blocks mid new at key) where
   nothing : p.before ≡ None
-  nothing = none_before (sight blocks mid at) key p.before (ap (λ (w : World). look w key) gone ∙ look_removed (sight blocks old at) key) p.stands
+  nothing = none_before (visible blocks mid at) key p.before (ap (λ (w : World). look w key) gone ∙ look_removed (visible blocks old at) key) p.stands
 
   put_is : p.now ≡ all
   put_is = maps_alike _ _ (λ q.
       p.made.is q ∙ ap (λ (b : Option Scores). or_else (get all q) (get (or_no_scores b) q)) nothing ∙ ap (or_else (get all q)) (get-empty (slice_cmp nat_cmp) q) ∙ all_of (get all q))
 
-  pub put_world : sight blocks new at ≡ store_zset (sight blocks old at) key all
-  put_world = p.world ∙ ap (λ (w : World). keep_zset w key p.now) gone ∙ kept_again (sight blocks old at) key p.now ∙ ap (store_zset (sight blocks old at) key) put_is
+  pub put_world : visible blocks new at ≡ store_zset (visible blocks old at) key all
+  put_world = p.world ∙ ap (λ (w : World). keep_zset w key p.now) gone ∙ kept_again (visible blocks old at) key p.now ∙ ap (store_zset (visible blocks old at) key) put_is
 
   pub put_form : mid.bases.limits ≡ old.bases.limits → AllAt (IsNewZset (get all) old.bases) new.bases (blocks new.store) at.db key
   put_form same number e found bytes =
@@ -159,8 +159,8 @@ module _ {S : Type 0} (blocks : S → Blocks) (old mid new : Keyspace S) (at : C
       }
 
 -- a key is removed, and then it changes
-pub held_anew : {S : Type 0} (blocks : S → Blocks) (step : S → S → Type 0) (db : ℕ) (key : List ℕ) (old mid new : Keyspace S) → Held blocks step (no_key db) old mid
-    → Held blocks step (one_key db key) mid new → Held blocks step (one_key db key) old new
+pub held_anew : {S : Type 0} (blocks : S → Blocks) (step : S → S → Type 0) (db : ℕ) (key : List ℕ) (old mid new : Keyspace S) → KeepsTo blocks step (no_key db) old mid
+    → KeepsTo blocks step (one_key db key) mid new → KeepsTo blocks step (one_key db key) old new
 held_anew blocks step db key old mid new p q =
     held_then blocks step (one_key db key) old mid new
     (record {

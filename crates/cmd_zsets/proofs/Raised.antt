@@ -17,7 +17,7 @@ use Rattle.plain_model.specs.declared.zset_command.ZsetCommand.TheVariants as zs
 use Rattle.plain_model.specs.declared.zset_command.ScoreRules.{ScoreRules}
 use Rattle.keyspace.specs.Databases.{Keyspace}
 use Rattle.keyspace.specs.Scopes.{Scope}
-use Rattle.keyspace.specs.Commands.{Held, Kept}
+use Rattle.keyspace.specs.Commands.{KeepsTo, KeepsOrRefuses}
 use Rattle.keyspace.proofs.Running.{calm}
 use Rattle.keyspace.specs.Forms.{Formed, zset_at, zset_to}
 use Rattle.cmd_zsets.specs.Changed.{IsBefore}
@@ -122,7 +122,7 @@ module _ (old : World) (key member : List ℕ) (rules : ScoreRules) (by : ℤ) (
 
 -- the text of a score is no refusal
 pub text_calm : {S X : Type 0} (blocks : S → Blocks) (step : S → S → Type 0) (scope : Scope) (old new : Keyspace S) (sum : ℤ) (result : Result (List Part) X)
-    → IfOk result (λ reply. reply ≡ Bulk (canonical sum) ∷ []) → Held blocks step scope old new
-    → Kept blocks step scope old new result
+    → IfOk result (λ reply. reply ≡ Bulk (canonical sum) ∷ []) → KeepsTo blocks step scope old new
+    → KeepsOrRefuses blocks step scope old new result
 text_calm blocks step scope old new sum (Err e) told held = calm blocks step scope old new (Err e) tt held
 text_calm blocks step scope old new sum (Ok reply) told held = calm blocks step scope old new (Ok reply) (λ refused. subst IsRefusal told refused) held

@@ -22,7 +22,7 @@ use Rattle.keyspace.specs.Values.{OfForm, value_refs}
 use Rattle.keyspace.specs.Databases.{Keyspace}
 use Rattle.keyspace.specs.Scopes.{Scope, one_key}
 use Rattle.keyspace.specs.Forms.{AsAt, HasForm, Formed, IsZsetRisen, IsSourceForm, RisesUnder, zset_of, zset_at, zset_to}
-use Rattle.keyspace.specs.Commands.{Held, Kept, sight}
+use Rattle.keyspace.specs.Commands.{KeepsTo, KeepsOrRefuses, visible}
 use Rattle.keyspace.proofs.Running.{calm}
 use Rattle.cmd_zsets.specs.Changed.{HasZset, IsBefore, Made, ZsetChanged}
 use Rattle.cmd_zsets.specs.Written.{IsAdded, IsScoreOf, Removes}
@@ -179,14 +179,14 @@ popped_told old new key from n most told before scores was now form many stands 
 
 -- an array is no refusal
 pub popped_calm : {S X : Type 0} (blocks : S → Blocks) (step : S → S → Type 0) (scope : Scope) (old new : Keyspace S) (list : List Scored) (told : Option (List Part))
-    → told ≡ Some (listed true list) → (result : Result (List Part) X) → IfOk result (λ reply. told ≡ Some reply) → Held blocks step scope old new
-    → Kept blocks step scope old new result
+    → told ≡ Some (listed true list) → (result : Result (List Part) X) → IfOk result (λ reply. told ≡ Some reply) → KeepsTo blocks step scope old new
+    → KeepsOrRefuses blocks step scope old new result
 popped_calm blocks step scope old new list told was (Err x) is held = calm blocks step scope old new (Err x) tt held
 popped_calm blocks step scope old new list told was (Ok reply) is held = calm blocks step scope old new (Ok reply) (λ refused. subst IsRefusal (told_one _ _ (sym is ∙ was)) refused) held
 
 -- nor is a number
 pub counted_calm : {S X : Type 0} (blocks : S → Blocks) (step : S → S → Type 0) (scope : Scope) (old new : Keyspace S) (n : ℤ) (result : Result (List Part) X)
-    → IfOk result (λ reply. reply ≡ Number n ∷ []) → Held blocks step scope old new → Kept blocks step scope old new result
+    → IfOk result (λ reply. reply ≡ Number n ∷ []) → KeepsTo blocks step scope old new → KeepsOrRefuses blocks step scope old new result
 counted_calm blocks step scope old new n (Err x) told held = calm blocks step scope old new (Err x) tt held
 counted_calm blocks step scope old new n (Ok reply) told held = calm blocks step scope old new (Ok reply) (λ refused. subst IsRefusal told refused) held
 
@@ -198,12 +198,12 @@ or_one_is (Some n) = refl
 -- ---- forms
 
 module _ {S : Type 0} (own : Made) (blocks : S → Blocks) (step : S → S → Type 0) (old new : Keyspace S) (at : Ctx) (key : List ℕ) (p : ZsetChanged own keep_zset blocks old new at key)
-    (held : Held blocks step (one_key at.db key) old new) where
+    (held : KeepsTo blocks step (one_key at.db key) old new) where
   -- the sorted set that was written has risen
   pub formed_risen : (rules : ScoreRules) (pairs : List Scored) → RisesUnder rules old.bases.limits p.from (or_no_scores p.before) pairs p.form
-      → Formed blocks (zset_to at.db (sight blocks old at) key rules pairs) old new
+      → Formed blocks (zset_to at.db (visible blocks old at) key rules pairs) old new
   formed_risen rules pairs risen =
-      let world = sight blocks old at in
+      let world = visible blocks old at in
       written_key value_refs (IsZsetRisen (is_some (look world key)) rules (zset_at world key) pairs at.db key old.bases (blocks old.store)) at.db key p.value
       (record {
         from = p.from;

@@ -13,7 +13,7 @@ use Rattle.plain_model.specs.ZsetSteps.{Scores, zset_outcome}
 use Rattle.plain_model.specs.declared.ctx.Ctx.{Ctx}
 use Rattle.plain_model.specs.declared.zset_command.ZsetCommand.{ZsetCommand}
 use Rattle.keyspace.specs.Databases.{Keyspace}
-use Rattle.keyspace.specs.Commands.{sight}
+use Rattle.keyspace.specs.Commands.{visible}
 
 -- the sorted set stands at the key, and is sound
 pub record FoundZset (world : World) (blocks : Blocks) (key : List ℕ) (zset : kept.Scored) : Type 0 where
@@ -36,4 +36,4 @@ scores_in blocks (Some zset) = object.scores blocks zset.now
 abbrev pub Gives : {S E : Type 0} → (S → Blocks) → Keyspace S → Keyspace S → Ctx → ZsetCommand
     → Result (List Part) E → Type 0
 Gives blocks old new at command result =
-    IfOk result (λ reply. zset_outcome (sight blocks old at) command ≡ leaves reply (sight blocks new at))
+    IfOk result (λ reply. zset_outcome (visible blocks old at) command ≡ leaves reply (visible blocks new at))

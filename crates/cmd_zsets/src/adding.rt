@@ -10,7 +10,7 @@ ghost use Rattle.plain_model.specs.ZsetSteps as model;
 ghost use Rattle.plain_model.specs.declared.zset_command.ZsetCommand.TheVariants as zsets;
 ghost use Rattle.keyspace.specs.Scopes.{one_key};
 ghost use Rattle.keyspace.specs.Forms.{Formed, RisesScored, RisesUnder, zset_form, zset_to};
-ghost use Rattle.keyspace.specs.Commands.{Ready, Held, Kept, sight};
+ghost use Rattle.keyspace.specs.Commands.{Ready, KeepsTo, KeepsOrRefuses, visible};
 ghost use Rattle.cmd_zsets.specs.Found.{Gives};
 ghost use Rattle.cmd_zsets.specs.Changed.{IsZsetThere};
 ghost use Rattle.cmd_zsets.specs.Written.{Adds, IsAdded};
@@ -157,10 +157,10 @@ pub fn add_at<B: BlockStore>(
 ) -> Result<usize, Memory>
     requires ready { Ready B.blocks keyspace.old at.now }
     requires seeks { Seeks keyspace.old.bases (B.blocks keyspace.old.store) at.now.db key.now sought }
-    requires there { IsZsetThere (sight B.blocks keyspace.old at.now) keyspace.old.bases (B.blocks keyspace.old.store) at.now.db key.now at.now.moment there }
-    ensures added { IfOk result (λ count. IsAdded (sight B.blocks keyspace.old at.now) key.now rules ch pairs.now count (sight B.blocks keyspace.new at.now)) }
-    ensures held { Held B.blocks B.step (one_key at.now.db key.now) keyspace.old keyspace.new }
-    ensures forms { IfOk result (λ count. Formed B.blocks (zset_to at.now.db (sight B.blocks keyspace.old at.now) key.now rules pairs.now) keyspace.old keyspace.new) }
+    requires there { IsZsetThere (visible B.blocks keyspace.old at.now) keyspace.old.bases (B.blocks keyspace.old.store) at.now.db key.now at.now.moment there }
+    ensures added { IfOk result (λ count. IsAdded (visible B.blocks keyspace.old at.now) key.now rules ch pairs.now count (visible B.blocks keyspace.new at.now)) }
+    ensures held { KeepsTo B.blocks B.step (one_key at.now.db key.now) keyspace.old keyspace.new }
+    ensures forms { IfOk result (λ count. Formed B.blocks (zset_to at.now.db (visible B.blocks keyspace.old at.now) key.now rules pairs.now) keyspace.old keyspace.new) }
 {
     let add = AddAll {
         rules,
@@ -185,10 +185,10 @@ fn add_where<B: BlockStore>(
 ) -> Result<Reply, Memory>
     requires ready { Ready B.blocks keyspace.old at.now }
     requires seeks { Seeks keyspace.old.bases (B.blocks keyspace.old.store) at.now.db key.now sought }
-    requires there { IsZsetThere (sight B.blocks keyspace.old at.now) keyspace.old.bases (B.blocks keyspace.old.store) at.now.db key.now at.now.moment there }
+    requires there { IsZsetThere (visible B.blocks keyspace.old at.now) keyspace.old.bases (B.blocks keyspace.old.store) at.now.db key.now at.now.moment there }
     ensures gives { Gives B.blocks keyspace.old keyspace.new at.now (zsets.ZAdd key.now rules ch pairs.now) result }
-    ensures kept { Kept B.blocks B.step (one_key at.now.db key.now) keyspace.old keyspace.new result }
-    ensures forms { IfOk result (λ reply. Formed B.blocks (zset_form at.now.db (sight B.blocks keyspace.old at.now) (zsets.ZAdd key.now rules ch pairs.now)) keyspace.old keyspace.new) }
+    ensures kept { KeepsOrRefuses B.blocks B.step (one_key at.now.db key.now) keyspace.old keyspace.new result }
+    ensures forms { IfOk result (λ reply. Formed B.blocks (zset_form at.now.db (visible B.blocks keyspace.old at.now) (zsets.ZAdd key.now rules ch pairs.now)) keyspace.old keyspace.new) }
 {
     let alloc = keyspace.alloc();
     if rules.xx && there.is_none() {
@@ -210,8 +210,8 @@ pub fn zadd<B: BlockStore>(
 ) -> Result<Reply, Memory>
     requires ready { Ready B.blocks keyspace.old at.now }
     ensures gives { Gives B.blocks keyspace.old keyspace.new at.now (zsets.ZAdd key.now rules ch pairs.now) result }
-    ensures kept { Kept B.blocks B.step (one_key at.now.db key.now) keyspace.old keyspace.new result }
-    ensures forms { IfOk result (λ reply. Formed B.blocks (zset_form at.now.db (sight B.blocks keyspace.old at.now) (zsets.ZAdd key.now rules ch pairs.now)) keyspace.old keyspace.new) }
+    ensures kept { KeepsOrRefuses B.blocks B.step (one_key at.now.db key.now) keyspace.old keyspace.new result }
+    ensures forms { IfOk result (λ reply. Formed B.blocks (zset_form at.now.db (visible B.blocks keyspace.old at.now) (zsets.ZAdd key.now rules ch pairs.now)) keyspace.old keyspace.new) }
 {
     let alloc = keyspace.alloc();
     let found = seek(keyspace, at, key);

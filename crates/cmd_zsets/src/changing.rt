@@ -8,7 +8,7 @@ ghost use Rattle.held.specs.Calls.{Seeks};
 ghost use Rattle.keyspace.specs.Looks.{IsLook};
 ghost use Rattle.keyspace.specs.Scopes.{one_key};
 ghost use Rattle.keyspace.specs.Seeking.{Sees};
-ghost use Rattle.keyspace.specs.Commands.{Ready, Held, sight};
+ghost use Rattle.keyspace.specs.Commands.{Ready, KeepsTo, visible};
 ghost use Rattle.cmd_zsets.specs.Found.{FoundOther};
 ghost use Rattle.cmd_zsets.specs.Changed.{ZsetItem, IsBefore, IsZsetThere, Counting, ZsetChanged, keep_any};
 
@@ -27,8 +27,8 @@ pub fn zset_sought<B: BlockStore>(
 ) -> Look<usize>
     requires ready { Ready B.blocks keyspace.now at.now }
     requires sees { Sees B.blocks keyspace.now at.now key.now found }
-    ensures { IsLook (look (sight B.blocks keyspace.now at.now) key.now ≡ None) (FoundOther (sight B.blocks keyspace.now at.now) key.now)
-        (ZsetItem (sight B.blocks keyspace.now at.now) keyspace.now.bases (B.blocks keyspace.now.store) at.now.db key.now at.now.moment) result }
+    ensures { IsLook (look (visible B.blocks keyspace.now at.now) key.now ≡ None) (FoundOther (visible B.blocks keyspace.now at.now) key.now)
+        (ZsetItem (visible B.blocks keyspace.now at.now) keyspace.now.bases (B.blocks keyspace.now.store) at.now.db key.now at.now.moment) result }
 {
     // what was found tells the key
     let _ = key;
@@ -55,10 +55,10 @@ fn edit_zset<E: ZsetEdit, B: BlockStore>(
 ) -> Result<(), Memory>
     requires ready { Ready B.blocks keyspace.old at.now }
     requires seeks { Seeks keyspace.old.bases (B.blocks keyspace.old.store) at.now.db key.now sought }
-    requires there { IsZsetThere (sight B.blocks keyspace.old at.now) keyspace.old.bases (B.blocks keyspace.old.store) at.now.db key.now at.now.moment there }
-    requires takes { (before : Option model.Scores) → IsBefore (sight B.blocks keyspace.old at.now) key.now before → E.takes on.old.edit (or_no_scores before) }
+    requires there { IsZsetThere (visible B.blocks keyspace.old at.now) keyspace.old.bases (B.blocks keyspace.old.store) at.now.db key.now at.now.moment there }
+    requires takes { (before : Option model.Scores) → IsBefore (visible B.blocks keyspace.old at.now) key.now before → E.takes on.old.edit (or_no_scores before) }
     ensures edited { OnOk result (ZsetChanged (Counting (E.makes on.old.edit on.new.edit) on.new.left) keep_any B.blocks keyspace.old keyspace.new at.now key.now) }
-    ensures held { Held B.blocks B.step (one_key at.now.db key.now) keyspace.old keyspace.new }
+    ensures held { KeepsTo B.blocks B.step (one_key at.now.db key.now) keyspace.old keyspace.new }
 {
     match there {
         None => {
@@ -83,10 +83,10 @@ pub fn change_zset<E: ZsetEdit, B: BlockStore>(
 ) -> Result<E, Memory>
     requires ready { Ready B.blocks keyspace.old at.now }
     requires seeks { Seeks keyspace.old.bases (B.blocks keyspace.old.store) at.now.db key.now sought }
-    requires there { IsZsetThere (sight B.blocks keyspace.old at.now) keyspace.old.bases (B.blocks keyspace.old.store) at.now.db key.now at.now.moment there }
-    requires takes { (before : Option model.Scores) → IsBefore (sight B.blocks keyspace.old at.now) key.now before → E.takes edit (or_no_scores before) }
+    requires there { IsZsetThere (visible B.blocks keyspace.old at.now) keyspace.old.bases (B.blocks keyspace.old.store) at.now.db key.now at.now.moment there }
+    requires takes { (before : Option model.Scores) → IsBefore (visible B.blocks keyspace.old at.now) key.now before → E.takes edit (or_no_scores before) }
     ensures changed { IfOk result (λ last. ZsetChanged (E.makes edit last) keep_zset B.blocks keyspace.old keyspace.new at.now key.now) }
-    ensures held { Held B.blocks B.step (one_key at.now.db key.now) keyspace.old keyspace.new }
+    ensures held { KeepsTo B.blocks B.step (one_key at.now.db key.now) keyspace.old keyspace.new }
 {
     let mut on = OnZset { edit, left: 0 };
     edit_zset(keyspace, at, key, sought, there, &mut on)?;

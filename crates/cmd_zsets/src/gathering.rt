@@ -6,7 +6,7 @@ ghost use Rattle.listpack.specs.Element.{element_text};
 ghost use Rattle.set_object.specs.Members.{IsMembers, members};
 ghost use Rattle.zset_object.specs.Scored.{IsScored, scores};
 ghost use Rattle.plain_model.specs.ZsetSteps.{aggregated, one_each, weighted};
-ghost use Rattle.keyspace.specs.Commands.{Ready, sight};
+ghost use Rattle.keyspace.specs.Commands.{Ready, visible};
 ghost use Rattle.cmd_zsets.specs.Joined.{IsFresh, asked_of, gathered, met_with, put_if, scores_at};
 
 use crate::look::{set_at, zset_at};
@@ -197,7 +197,7 @@ pub fn add_at<B: BlockStore>(
     requires ready { Ready B.blocks keyspace.now at.now }
     ensures { OnOk result
         ((member : List ℕ) → get (gathered all.new) member ≡ met_with meeting.join meeting.how (get (gathered all.old) member)
-        (weighted meeting.weight (get (scores_at (sight B.blocks keyspace.now at.now) key.now) member))) }
+        (weighted meeting.weight (get (scores_at (visible B.blocks keyspace.now at.now) key.now) member))) }
 {
     let alloc = keyspace.alloc();
     let before = begin(alloc, meeting.join, all);

@@ -5,7 +5,7 @@ ghost use Rattle.std.specs.FinMap.{empty, get};
 ghost use Rattle.plain_world.specs.Worlds.{look};
 ghost use Rattle.plain_model.specs.OfType.{source};
 ghost use Rattle.plain_model.specs.ZsetSteps.{IsJoin, scores_in, weights_of, zsets_at};
-ghost use Rattle.keyspace.specs.Commands.{Ready, sight};
+ghost use Rattle.keyspace.specs.Commands.{Ready, visible};
 ghost use Rattle.cmd_zsets.specs.Joined.{gathered, met_each, scores_here};
 
 use crate::gathering::{Meeting, Sums, add_at};
@@ -17,7 +17,7 @@ use plain_model::{Aggregate, Ctx, Memory, ScoreJoin, Word};
 // Whether a sorted set or a set stands at a key, or nothing.
 fn is_source<B: BlockStore>(keyspace: &Keyspace<B>, at: &Ctx, key: &[u8]) -> bool
     requires ready { Ready B.blocks keyspace.now at.now }
-    ensures { result ≡ is_some (source scores_in empty (look (sight B.blocks keyspace.now at.now) key.now)) }
+    ensures { result ≡ is_some (source scores_in empty (look (visible B.blocks keyspace.now at.now) key.now)) }
 {
     match zset_at(keyspace, at, key) {
         Look::Missing => true,
@@ -37,7 +37,7 @@ pub fn are_sources<B: BlockStore>(
     keys: &[(i64, Word<'_>)],
 ) -> bool
     requires ready { Ready B.blocks keyspace.now at.now }
-    ensures { result ≡ is_some (zsets_at (sight B.blocks keyspace.now at.now) keys.now) }
+    ensures { result ≡ is_some (zsets_at (visible B.blocks keyspace.now at.now) keys.now) }
 {
     for key in keys {
         if !is_source(keyspace, at, key.1.as_slice()) {
@@ -59,7 +59,7 @@ fn add_each<B: BlockStore>(
     requires ready { Ready B.blocks keyspace.now at.now }
     ensures { OnOk result
         ((member : List ℕ) → get (gathered all.new) member ≡ met_each join how (get (gathered all.old) member) (weights_of keys.now)
-        (scores_here (sight B.blocks keyspace.now at.now) keys.now) member) }
+        (scores_here (visible B.blocks keyspace.now at.now) keys.now) member) }
 {
     for key in keys {
         let meeting = Meeting {
@@ -81,7 +81,7 @@ pub fn join_scores<B: BlockStore>(
     keys: &[(i64, Word<'_>)],
 ) -> Result<Sums, Memory>
     requires ready { Ready B.blocks keyspace.now at.now }
-    ensures { IfOk result (λ sums. IsJoin join how (weights_of keys.now) (scores_here (sight B.blocks keyspace.now at.now) keys.now) (gathered sums)) }
+    ensures { IfOk result (λ sums. IsJoin join how (weights_of keys.now) (scores_here (visible B.blocks keyspace.now at.now) keys.now) (gathered sums)) }
 {
     let mut all = Sums::new(keyspace.alloc());
     match keys.split_first() {

@@ -2,7 +2,7 @@
 
 ghost use Rattle.std.specs.Prelude.{◌≡◌, None};
 ghost use Rattle.plain_world.specs.Worlds.{look};
-ghost use Rattle.keyspace.specs.Commands.{Ready, sight};
+ghost use Rattle.keyspace.specs.Commands.{Ready, visible};
 ghost use Rattle.keyspace.specs.Looks.{IsLook};
 ghost use Rattle.cmd_zsets.specs.Found.{FoundZset, FoundOther};
 ghost use Rattle.cmd_zsets.specs.Joined.{FoundSet, FoundNoSet};
@@ -20,8 +20,8 @@ pub fn zset_at<'a, B: BlockStore>(
     key: &[u8],
 ) -> Look<&'a Scored>
     requires ready { Ready B.blocks keyspace.now at.now }
-    ensures { IsLook (look (sight B.blocks keyspace.now at.now) key.now ≡ None) (FoundOther (sight B.blocks keyspace.now at.now) key.now)
-        (λ scores. FoundZset (sight B.blocks keyspace.now at.now) (B.blocks keyspace.now.store) key.now scores.now) result }
+    ensures { IsLook (look (visible B.blocks keyspace.now at.now) key.now ≡ None) (FoundOther (visible B.blocks keyspace.now at.now) key.now)
+        (λ scores. FoundZset (visible B.blocks keyspace.now at.now) (B.blocks keyspace.now.store) key.now scores.now) result }
 {
     match keyspace.look(at.db, key, at.moment) {
         None => Look::Missing,
@@ -40,8 +40,8 @@ pub fn set_at<'a, B: BlockStore>(
     key: &[u8],
 ) -> Look<&'a Members>
     requires ready { Ready B.blocks keyspace.now at.now }
-    ensures { IsLook (look (sight B.blocks keyspace.now at.now) key.now ≡ None) (FoundNoSet (sight B.blocks keyspace.now at.now) key.now)
-        (λ set. FoundSet (sight B.blocks keyspace.now at.now) (B.blocks keyspace.now.store) key.now set.now) result }
+    ensures { IsLook (look (visible B.blocks keyspace.now at.now) key.now ≡ None) (FoundNoSet (visible B.blocks keyspace.now at.now) key.now)
+        (λ set. FoundSet (visible B.blocks keyspace.now at.now) (B.blocks keyspace.now.store) key.now set.now) result }
 {
     match keyspace.look(at.db, key, at.moment) {
         None => Look::Missing,

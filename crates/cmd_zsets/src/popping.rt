@@ -10,7 +10,7 @@ ghost use Rattle.plain_model.specs.ZsetSteps.{members_of, within, without_member
 ghost use Rattle.plain_model.specs.declared.zset_command.ZsetCommand.TheVariants as zsets;
 ghost use Rattle.keyspace.specs.Scopes.{one_key};
 ghost use Rattle.keyspace.specs.Forms.{Formed, zset_form};
-ghost use Rattle.keyspace.specs.Commands.{Ready, Kept, sight};
+ghost use Rattle.keyspace.specs.Commands.{Ready, KeepsOrRefuses, visible};
 ghost use Rattle.cmd_zsets.specs.Found.{Gives};
 ghost use Rattle.cmd_zsets.specs.Spans.{in_span};
 ghost use Rattle.cmd_zsets.specs.Popped.{TakesMet, PopsMany, DropsPart};
@@ -187,8 +187,8 @@ pub fn zpop<B: BlockStore>(
 ) -> Result<Reply, Memory>
     requires ready { Ready B.blocks keyspace.old at.now }
     ensures gives { Gives B.blocks keyspace.old keyspace.new at.now (zsets.ZPop key.now from most) result }
-    ensures kept { Kept B.blocks B.step (one_key at.now.db key.now) keyspace.old keyspace.new result }
-    ensures forms { IfOk result (λ reply. Formed B.blocks (zset_form at.now.db (sight B.blocks keyspace.old at.now) (zsets.ZPop key.now from most)) keyspace.old keyspace.new) }
+    ensures kept { KeepsOrRefuses B.blocks B.step (one_key at.now.db key.now) keyspace.old keyspace.new result }
+    ensures forms { IfOk result (λ reply. Formed B.blocks (zset_form at.now.db (visible B.blocks keyspace.old at.now) (zsets.ZPop key.now from most)) keyspace.old keyspace.new) }
 {
     let alloc = keyspace.alloc();
     let found = seek(keyspace, at, key);
@@ -218,8 +218,8 @@ pub fn zremrangebyrank<B: BlockStore>(
 ) -> Result<Reply, Memory>
     requires ready { Ready B.blocks keyspace.old at.now }
     ensures gives { Gives B.blocks keyspace.old keyspace.new at.now (zsets.ZRemRangeByRank key.now a b) result }
-    ensures kept { Kept B.blocks B.step (one_key at.now.db key.now) keyspace.old keyspace.new result }
-    ensures forms { IfOk result (λ reply. Formed B.blocks (zset_form at.now.db (sight B.blocks keyspace.old at.now) (zsets.ZRemRangeByRank key.now a b)) keyspace.old keyspace.new) }
+    ensures kept { KeepsOrRefuses B.blocks B.step (one_key at.now.db key.now) keyspace.old keyspace.new result }
+    ensures forms { IfOk result (λ reply. Formed B.blocks (zset_form at.now.db (visible B.blocks keyspace.old at.now) (zsets.ZRemRangeByRank key.now a b)) keyspace.old keyspace.new) }
 {
     let alloc = keyspace.alloc();
     let found = seek(keyspace, at, key);
@@ -249,8 +249,8 @@ pub fn zremrangebyscore<B: BlockStore>(
 ) -> Result<Reply, Memory>
     requires ready { Ready B.blocks keyspace.old at.now }
     ensures gives { Gives B.blocks keyspace.old keyspace.new at.now (zsets.ZRemRangeByScore key.now min max) result }
-    ensures kept { Kept B.blocks B.step (one_key at.now.db key.now) keyspace.old keyspace.new result }
-    ensures forms { IfOk result (λ reply. Formed B.blocks (zset_form at.now.db (sight B.blocks keyspace.old at.now) (zsets.ZRemRangeByScore key.now min max)) keyspace.old keyspace.new) }
+    ensures kept { KeepsOrRefuses B.blocks B.step (one_key at.now.db key.now) keyspace.old keyspace.new result }
+    ensures forms { IfOk result (λ reply. Formed B.blocks (zset_form at.now.db (visible B.blocks keyspace.old at.now) (zsets.ZRemRangeByScore key.now min max)) keyspace.old keyspace.new) }
 {
     let alloc = keyspace.alloc();
     let found = seek(keyspace, at, key);

@@ -6,7 +6,7 @@ ghost use Rattle.zset_object.specs.Scored.{IsScored, scores};
 ghost use Rattle.zset_object.specs.Items.{pair_at};
 ghost use Rattle.plain_model.specs.ZsetSteps.{PicksMembers, listed, may_zsets};
 ghost use Rattle.plain_model.specs.declared.zset_command.ZsetCommand.TheVariants as zsets;
-ghost use Rattle.keyspace.specs.Commands.{Ready, sight};
+ghost use Rattle.keyspace.specs.Commands.{Ready, visible};
 ghost use Rattle.cmd_zsets.specs.Spans.{told_all};
 ghost use Rattle.cmd_zsets.specs.Picked.{pairs_of, first_told};
 
@@ -125,7 +125,7 @@ pub fn zrandmember<B: BlockStore>(
     dice: &mut Pcg32,
 ) -> Result<Reply, Memory>
     requires ready { Ready B.blocks keyspace.now at.now }
-    ensures gives { IfOk result (λ reply. may_zsets keyspace.now.bases.seed (sight B.blocks keyspace.now at.now) (zsets.ZRandMember key.now n with_scores) reply (sight B.blocks keyspace.now at.now)) }
+    ensures gives { IfOk result (λ reply. may_zsets keyspace.now.bases.seed (visible B.blocks keyspace.now at.now) (zsets.ZRandMember key.now n with_scores) reply (visible B.blocks keyspace.now at.now)) }
 {
     let alloc = keyspace.alloc();
     match zset_at(keyspace, at, key) {

@@ -8,7 +8,7 @@ ghost use Rattle.plain_model.specs.ListSteps.{range_start, range_end, list_range
 ghost use Rattle.plain_model.specs.ZsetSteps.{met, ranked, listed, is_above, is_below, within, behind, at_most, limited};
 ghost use Rattle.plain_model.specs.ZsetSteps as model;
 ghost use Rattle.plain_model.specs.declared.zset_command.ZsetCommand.TheVariants as zsets;
-ghost use Rattle.keyspace.specs.Commands.{Ready, sight};
+ghost use Rattle.keyspace.specs.Commands.{Ready, visible};
 ghost use Rattle.cmd_zsets.specs.Found.{Gives};
 ghost use Rattle.cmd_zsets.specs.Spans.{in_span, start_of, EachUpTo};
 

@@ -6,7 +6,7 @@ ghost use Rattle.zset_object.specs.Scored.{IsScored, scores};
 ghost use Rattle.plain_world.specs.declared.reply.Part.TheVariants as replies;
 ghost use Rattle.plain_model.specs.ZsetSteps.{met, ranked, place_from, tell_place};
 ghost use Rattle.plain_model.specs.declared.zset_command.ZsetCommand.TheVariants as zsets;
-ghost use Rattle.keyspace.specs.Commands.{Ready, sight};
+ghost use Rattle.keyspace.specs.Commands.{Ready, visible};
 ghost use Rattle.cmd_zsets.specs.Found.{Gives};
 
 use crate::look::zset_at;

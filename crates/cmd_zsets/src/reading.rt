@@ -7,7 +7,7 @@ ghost use Rattle.zset_object.specs.Scored.{IsScored, scores};
 ghost use Rattle.plain_world.specs.declared.reply.Part.TheVariants as replies;
 ghost use Rattle.plain_model.specs.ZsetSteps.{score_or_null};
 ghost use Rattle.plain_model.specs.declared.zset_command.ZsetCommand.TheVariants as zsets;
-ghost use Rattle.keyspace.specs.Commands.{Ready, sight};
+ghost use Rattle.keyspace.specs.Commands.{Ready, visible};
 ghost use Rattle.cmd_zsets.specs.Found.{Gives, scores_in};
 ghost use Rattle.cmd_zsets.specs.Spans.{scores_told};
 

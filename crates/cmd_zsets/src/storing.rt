@@ -10,7 +10,7 @@ ghost use Rattle.plain_model.specs.ZsetSteps.{are_scores, is_score, may_zsets, s
 ghost use Rattle.plain_model.specs.declared.zset_command.ZsetCommand.TheVariants as zsets;
 ghost use Rattle.keyspace.specs.Scopes.{one_key};
 ghost use Rattle.keyspace.specs.Forms.{Formed, IsNewZset, zset_form};
-ghost use Rattle.keyspace.specs.Commands.{Ready, Held, Kept, sight};
+ghost use Rattle.keyspace.specs.Commands.{Ready, KeepsTo, KeepsOrRefuses, visible};
 ghost use Rattle.cmd_zsets.specs.Joined.{Fills, entry_of, gathered};
 
 use crate::changing::change_zset;
@@ -117,10 +117,10 @@ fn put_sums<B: BlockStore>(
 ) -> Result<usize, Memory>
     requires ready { Ready B.blocks keyspace.old at.now }
     requires range { are_scores (entries (gathered sums)) ≡ true }
-    ensures world { OnOk result (sight B.blocks keyspace.new at.now ≡ store_zset (sight B.blocks keyspace.old at.now) key.now (gathered sums)) }
+    ensures world { OnOk result (visible B.blocks keyspace.new at.now ≡ store_zset (visible B.blocks keyspace.old at.now) key.now (gathered sums)) }
     ensures counted { IfOk result (λ count. count ≡ len (gathered sums)) }
     ensures new { OnOk result (AllAt (IsNewZset (get (gathered sums)) keyspace.old.bases) keyspace.new.bases (B.blocks keyspace.new.store) at.now.db key.now) }
-    ensures held { Held B.blocks B.step (one_key at.now.db key.now) keyspace.old keyspace.new }
+    ensures held { KeepsTo B.blocks B.step (one_key at.now.db key.now) keyspace.old keyspace.new }
 {
     let count = sums.len();
     let gone = seek(keyspace, at, key);
@@ -144,9 +144,9 @@ pub fn zjoin_store<B: BlockStore>(
 ) -> Result<Reply, Memory>
     requires ready { Ready B.blocks keyspace.old at.now }
     ensures gives { IfOk result
-        (λ reply. may_zsets keyspace.old.bases.seed (sight B.blocks keyspace.old at.now) (zsets.ZJoinStore join to.now keys.now how) reply (sight B.blocks keyspace.new at.now)) }
-    ensures kept { Kept B.blocks B.step (one_key at.now.db to.now) keyspace.old keyspace.new result }
-    ensures forms { IfOk result (λ reply. Formed B.blocks (zset_form at.now.db (sight B.blocks keyspace.old at.now) (zsets.ZJoinStore join to.now keys.now how)) keyspace.old keyspace.new) }
+        (λ reply. may_zsets keyspace.old.bases.seed (visible B.blocks keyspace.old at.now) (zsets.ZJoinStore join to.now keys.now how) reply (visible B.blocks keyspace.new at.now)) }
+    ensures kept { KeepsOrRefuses B.blocks B.step (one_key at.now.db to.now) keyspace.old keyspace.new result }
+    ensures forms { IfOk result (λ reply. Formed B.blocks (zset_form at.now.db (visible B.blocks keyspace.old at.now) (zsets.ZJoinStore join to.now keys.now how)) keyspace.old keyspace.new) }
 {
     let alloc = keyspace.alloc();
     if !are_sources(keyspace, at, keys) {

@@ -1,7 +1,7 @@
 //! The scores of a sorted set that was sought.
 
 ghost use Rattle.std.specs.Prelude.{◌≡◌};
-ghost use Rattle.keyspace.specs.Commands.{Ready, sight};
+ghost use Rattle.keyspace.specs.Commands.{Ready, visible};
 ghost use Rattle.cmd_zsets.specs.Found.{FoundZset};
 ghost use Rattle.cmd_zsets.specs.Changed.{ZsetItem, IsZsetThere};
 ghost use Rattle.cmd_zsets.specs.Written.{IsScoreOf};
@@ -19,8 +19,8 @@ fn zset_there<'a, B: BlockStore>(
     item: usize,
 ) -> &'a Scored
     requires ready { Ready B.blocks keyspace.now at.now }
-    requires there { ZsetItem (sight B.blocks keyspace.now at.now) keyspace.now.bases (B.blocks keyspace.now.store) at.now.db key.now at.now.moment item }
-    ensures { FoundZset (sight B.blocks keyspace.now at.now) (B.blocks keyspace.now.store) key.now result.now }
+    requires there { ZsetItem (visible B.blocks keyspace.now at.now) keyspace.now.bases (B.blocks keyspace.now.store) at.now.db key.now at.now.moment item }
+    ensures { FoundZset (visible B.blocks keyspace.now at.now) (B.blocks keyspace.now.store) key.now result.now }
 {
     // the item number tells the key
     let _ = key;
@@ -40,8 +40,8 @@ pub fn score_there<B: BlockStore>(
     member: &[u8],
 ) -> Option<i64>
     requires ready { Ready B.blocks keyspace.now at.now }
-    requires there { IsZsetThere (sight B.blocks keyspace.now at.now) keyspace.now.bases (B.blocks keyspace.now.store) at.now.db key.now at.now.moment there }
-    ensures { IsScoreOf (sight B.blocks keyspace.now at.now) key.now member.now result }
+    requires there { IsZsetThere (visible B.blocks keyspace.now at.now) keyspace.now.bases (B.blocks keyspace.now.store) at.now.db key.now at.now.moment there }
+    ensures { IsScoreOf (visible B.blocks keyspace.now at.now) key.now member.now result }
 {
     match there {
         None => None,

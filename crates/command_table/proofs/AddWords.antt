@@ -18,7 +18,7 @@ use Rattle.plain_world.specs.declared.refusal.Refusal.{Refusal}
 use Rattle.plain_world.specs.declared.refusal.Refusal.TheVariants.{WrongNumberOfArguments, Syntax}
 use Rattle.command_table.specs.declared.fault.ReadingFault.{ReadingFault}
 use Rattle.command_table.specs.declared.fault.ReadingFault.TheVariants.{Refused, Memory}
-use Rattle.command_table.specs.Readings.{at, keeps_list, front_options, scored, ReadsZset, Gathers, Passes, Tells}
+use Rattle.command_table.specs.Readings.{word_at, keeps_list, front_options, scored, ReadsZset, Gathers, Passes, Tells}
 use Rattle.command_table.proofs.Shapes.{from_place}
 
 -- ---- options in front
@@ -98,10 +98,10 @@ front_says before words = options_read add_options before 0 (take (options_in_fr
 
 -- an option more
 pub front_step : (before after : AddOptions) (own : ℕ) (words : Words) (i : ℕ) → i < length words
-    → read_option before (option_of add_options (in_lower_case (at words i))) (drop (i + 1) words) ≡ Ok (after, own)
+    → read_option before (option_of add_options (in_lower_case (word_at words i))) (drop (i + 1) words) ≡ Ok (after, own)
     → (front_says before (drop i words) ≡ front_says after (drop (i + 1) words)) × (options_in_front (drop i words) ≡ suc (options_in_front (drop (i + 1) words)))
 front_step before after own words i within e =
-    let word = at words i in
+    let word = word_at words i in
     let rest = drop (i + 1) words in
     let lower = in_lower_case word in
     let here : drop i words ≡ word ∷ rest = from_place words i within in
@@ -116,10 +116,10 @@ front_step before after own words i within e =
 
 -- no option more
 pub front_end : (before : AddOptions) (words : Words) (i : ℕ) (refusal : Refusal) → i < length words
-    → read_option before (option_of add_options (in_lower_case (at words i))) (drop (i + 1) words) ≡ Err refusal → (front_says before (drop i words) ≡ Ok before)
+    → read_option before (option_of add_options (in_lower_case (word_at words i))) (drop (i + 1) words) ≡ Err refusal → (front_says before (drop i words) ≡ Ok before)
     × (options_in_front (drop i words) ≡ 0)
 front_end before words i refusal within e =
-    let word = at words i in
+    let word = word_at words i in
     let rest = drop (i + 1) words in
     let here : drop i words ≡ word ∷ rest = from_place words i within in
     let other : is_some (option_of add_options (in_lower_case word)) ≡ false = refused_is_none add_options before (in_lower_case word) rest refusal wordless e in
@@ -127,7 +127,7 @@ front_end before words i refusal within e =
     (ap (λ n. options_read add_options before 0 (take n (drop i words))) count, count)
 
 pub front_stops : (before : AddOptions) (words : Words) (i : ℕ) (fault : ReadingFault) → i < length words
-    → Tells (read_option before (option_of add_options (in_lower_case (at words i))) (drop (i + 1) words)) (Err fault) → (front_says before (drop i words) ≡ Ok before)
+    → Tells (read_option before (option_of add_options (in_lower_case (word_at words i))) (drop (i + 1) words)) (Err fault) → (front_says before (drop i words) ≡ Ok before)
     × (options_in_front (drop i words) ≡ 0)
 front_stops before words i (Refused refusal) within e = front_end before words i refusal within e
 front_stops before words i Memory within e = absurd e
@@ -150,17 +150,17 @@ shift : (pairs : List (ℤ × List ℕ)) (pair : ℤ × List ℕ) (r : Result (L
 shift pairs pair (Ok rest) = ap Ok (sym (append_assoc pairs (pair ∷ []) rest))
 shift pairs pair (Err refusal) = refl
 
-two_places : (words : Words) (i : ℕ) → i + 1 < length words → drop i words ≡ at words i ∷ at words (i + 1) ∷ drop (i + 2) words
+two_places : (words : Words) (i : ℕ) → i + 1 < length words → drop i words ≡ word_at words i ∷ word_at words (i + 1) ∷ drop (i + 2) words
 two_places words i within =
     let next : i + 1 + 1 ≡ i + 2 = omega arith in
-    from_place words i (omega (arith, within)) ∙ ap (λ l. at words i ∷ l) (from_place words (i + 1) within) ∙ ap (λ n. at words i ∷ at words (i + 1) ∷ drop n words) next
+    from_place words i (omega (arith, within)) ∙ ap (λ l. word_at words i ∷ l) (from_place words (i + 1) within) ∙ ap (λ n. word_at words i ∷ word_at words (i + 1) ∷ drop n words) next
 
 -- a score with its member more
-pub pair_step : (pairs : List (ℤ × List ℕ)) (words : Words) (i : ℕ) (n : ℤ) → i + 1 < length words → told Score (at words i) ≡ Ok n
-    → behind_pairs pairs (drop i words) ≡ behind_pairs (pairs ++ (n, at words (i + 1)) ∷ []) (drop (i + 2) words)
+pub pair_step : (pairs : List (ℤ × List ℕ)) (words : Words) (i : ℕ) (n : ℤ) → i + 1 < length words → told Score (word_at words i) ≡ Ok n
+    → behind_pairs pairs (drop i words) ≡ behind_pairs (pairs ++ (n, word_at words (i + 1)) ∷ []) (drop (i + 2) words)
 pair_step pairs words i n within e =
     let rest = drop (i + 2) words in
-    let member = at words (i + 1) in
+    let member = word_at words (i + 1) in
     ap (behind_pairs pairs) (two_places words i within)
     ∙ ap (λ r. and_then (and_then r (λ score. and_then (scores_read rest) (λ more. Ok ((score, member) ∷ more)))) (λ rest. Ok (pairs ++ rest))) e
     ∙ shift pairs (n, member) (scores_read rest)
@@ -170,12 +170,12 @@ first_refused [] word refusal e = ap (λ r. and_then r (λ score. Err Syntax)) e
 first_refused (member ∷ words) word refusal e = ap (λ r. and_then r (λ score. and_then (scores_read words) (λ pairs. Ok ((score, member) ∷ pairs)))) e
 
 -- a word that is no score
-pub score_refused : (pairs : List (ℤ × List ℕ)) (words : Words) (i : ℕ) (refusal : Refusal) → i < length words → told Score (at words i) ≡ Err refusal → behind_pairs pairs (drop i words) ≡ Err refusal
+pub score_refused : (pairs : List (ℤ × List ℕ)) (words : Words) (i : ℕ) (refusal : Refusal) → i < length words → told Score (word_at words i) ≡ Err refusal → behind_pairs pairs (drop i words) ≡ Err refusal
 score_refused pairs words i refusal within e =
-    ap (behind_pairs pairs) (from_place words i within) ∙ ap (λ r. and_then r (λ rest. Ok (pairs ++ rest))) (first_refused (drop (i + 1) words) (at words i) refusal e)
+    ap (behind_pairs pairs) (from_place words i within) ∙ ap (λ r. and_then r (λ rest. Ok (pairs ++ rest))) (first_refused (drop (i + 1) words) (word_at words i) refusal e)
 
 pub score_fails : (pairs : List (ℤ × List ℕ)) (words : Words) (i : ℕ) (fault : ReadingFault) (means : Result (List (ℤ × List ℕ)) Refusal) → means ≡ behind_pairs pairs (drop i words)
-    → i < length words → Tells (told Score (at words i)) (Err fault) → Tells means (Err fault)
+    → i < length words → Tells (told Score (word_at words i)) (Err fault) → Tells means (Err fault)
 score_fails pairs words i (Refused refusal) means h within e = h ∙ score_refused pairs words i refusal within e
 score_fails pairs words i Memory means h within e = absurd e
 
@@ -192,10 +192,10 @@ passes_gathers means (Refused refusal) h = h
 passes_gathers means Memory h = absurd h
 
 -- a last score without a member
-pub lone_score : (pairs : List (ℤ × List ℕ)) (words : Words) (i : ℕ) (n : ℤ) → i < length words → length words - i < 2 → told Score (at words i) ≡ Ok n → behind_pairs pairs (drop i words) ≡ Err Syntax
+pub lone_score : (pairs : List (ℤ × List ℕ)) (words : Words) (i : ℕ) (n : ℤ) → i < length words → length words - i < 2 → told Score (word_at words i) ≡ Ok n → behind_pairs pairs (drop i words) ≡ Err Syntax
 lone_score pairs words i n within last e =
     let none : drop (i + 1) words ≡ [] = drop_all (i + 1) words (omega (arith, within, last)) in
-    ap (behind_pairs pairs) (from_place words i within ∙ ap (λ l. at words i ∷ l) none) ∙ ap (λ r. and_then (and_then r (λ score. Err Syntax)) (λ rest. Ok (pairs ++ rest))) e
+    ap (behind_pairs pairs) (from_place words i within ∙ ap (λ l. word_at words i ∷ l) none) ∙ ap (λ r. and_then (and_then r (λ score. Err Syntax)) (λ rest. Ok (pairs ++ rest))) e
 
 append_none : {A : Type 0} (l : List A) → l ++ [] ≡ l
 append_none [] = refl
@@ -268,12 +268,12 @@ increment_breaks key options words pairs incr e many =
 
 -- INCR with one pair
 pub increment_made : (key : List ℕ) (options : AddOptions) (words : Words) (from : ℕ) (n : ℤ) → options.incr ≡ true → clash options.rules ≡ false → length words - from ≡ 2
-    → told Score (at words from) ≡ Ok n → scored key options (drop from words) ≡ Ok (zsets.ZIncr key options.rules n (at words (from + 1)))
+    → told Score (word_at words from) ≡ Ok n → scored key options (drop from words) ≡ Ok (zsets.ZIncr key options.rules n (word_at words (from + 1)))
 increment_made key options words from n incr allowed two e =
     let none : drop (from + 2) words ≡ [] = drop_all (from + 2) words (omega (arith, two)) in
-    let places = two_places words from (omega (arith, two)) ∙ ap (λ l. at words from ∷ at words (from + 1) ∷ l) none in
+    let places = two_places words from (omega (arith, two)) ∙ ap (λ l. word_at words from ∷ word_at words (from + 1) ∷ l) none in
     ap (scored key options) places
-    ∙ ap (λ r. and_then (and_then r (λ score. Ok ((score, at words (from + 1)) ∷ []))) (add_of key options)) e ∙ rw (allowed, incr) refl
+    ∙ ap (λ r. and_then (and_then r (λ score. Ok ((score, word_at words (from + 1)) ∷ []))) (add_of key options)) e ∙ rw (allowed, incr) refl
 
 made_of : (key : List ℕ) (options : AddOptions) (pairs : List (ℤ × List ℕ)) → clash options.rules ≡ false → options.incr ≡ false → length pairs ≢ 0
     → add_of key options pairs ≡ Ok (zsets.ZAdd key options.rules options.ch pairs)
@@ -299,17 +299,17 @@ pairs_missing key options words Memory allowed plain some h = subst (λ r. IsOkA
 
 -- the words behind a name
 pub add_then : (words : Words) (options : AddOptions) (from : ℕ) → 4 ≤ length words → front_options (drop 2 words) ≡ Ok options → from ≡ options_in_front (drop 2 words) + 2
-    → add_words (drop 1 words) ≡ scored (at words 1) options (drop from words)
+    → add_words (drop 1 words) ≡ scored (word_at words 1) options (drop from words)
 add_then words options from many e count =
     let rest = drop 2 words in
     let front = options_in_front rest in
-    let here : drop 1 words ≡ at words 1 ∷ rest = from_place words 1 (omega (arith, many)) in
+    let here : drop 1 words ≡ word_at words 1 ∷ rest = from_place words 1 (omega (arith, many)) in
     let test : nat_le 2 (length rest) ≡ true = le-leb 2 (length rest) (omega (arith, many, length-drop 2 words)) in
     let place : drop front rest ≡ drop from words = drop-drop front 2 words ∙ ap (λ n. drop n words) (omega (arith, count)) in
     ap add_words here
-    ∙ ap (λ b. if b then and_then (front_options rest) (λ options. and_then (scores_read (drop front rest)) (add_of (at words 1) options)) else Err WrongNumberOfArguments) test
-    ∙ ap (λ r. and_then r (λ options. and_then (scores_read (drop front rest)) (add_of (at words 1) options))) e
-    ∙ ap (scored (at words 1) options) place
+    ∙ ap (λ b. if b then and_then (front_options rest) (λ options. and_then (scores_read (drop front rest)) (add_of (word_at words 1) options)) else Err WrongNumberOfArguments) test
+    ∙ ap (λ r. and_then r (λ options. and_then (scores_read (drop front rest)) (add_of (word_at words 1) options))) e
+    ∙ ap (scored (word_at words 1) options) place
 
 too_few : (own : Words) → length own < 3 → add_words own ≡ Err WrongNumberOfArguments
 too_few [] few = refl

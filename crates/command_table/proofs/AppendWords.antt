@@ -17,7 +17,7 @@ use Rattle.plain_model.specs.declared.stream_command.Trim.TheVariants.{MaxLen, M
 use Rattle.plain_world.specs.declared.refusal.Refusal.{Refusal}
 use Rattle.command_table.specs.declared.fault.ReadingFault.{ReadingFault}
 use Rattle.command_table.specs.declared.fault.ReadingFault.TheVariants.{Refused, Memory}
-use Rattle.command_table.specs.Readings.{at, Tells}
+use Rattle.command_table.specs.Readings.{word_at, Tells}
 use Rattle.command_table.proofs.Shapes.{from_place}
 
 -- ---- a bound that a mark may stand before
@@ -65,13 +65,13 @@ module _ (name : List ℕ) (words : Words) where
       ap (λ own. chosen_of own max min) none ∙ none_chosen max min
 
   module _ (all : Words) (at_bound : ℕ) (within : at_bound < length all) (is : unmarked words ≡ drop at_bound all) where
-    first : unmarked words ≡ at all at_bound ∷ drop (at_bound + 1) all
+    first : unmarked words ≡ word_at all at_bound ∷ drop (at_bound + 1) all
     first = is ∙ from_place all at_bound within
 
-    pub longest_is : bytes_eq name (codes "maxlen") ≡ true → trim_of name words ≡ and_then (told Amount (at all at_bound)) (λ n. Ok (MaxLen n))
+    pub longest_is : bytes_eq name (codes "maxlen") ≡ true → trim_of name words ≡ and_then (told Amount (word_at all at_bound)) (λ n. Ok (MaxLen n))
     longest_is e = ap (λ b. chosen b (bytes_eq name (codes "minid"))) e ∙ ap (λ own. chosen_of own true (bytes_eq name (codes "minid"))) first
 
-    pub least_is : bytes_eq name (codes "maxlen") ≡ false → bytes_eq name (codes "minid") ≡ true → trim_of name words ≡ and_then (told EntryId (at all at_bound)) (λ id. Ok (MinId id))
+    pub least_is : bytes_eq name (codes "maxlen") ≡ false → bytes_eq name (codes "minid") ≡ true → trim_of name words ≡ and_then (told EntryId (word_at all at_bound)) (λ id. Ok (MinId id))
     least_is e f = ap (λ b. chosen b (bytes_eq name (codes "minid"))) e ∙ ap (chosen false) f ∙ ap (λ own. chosen_of own false true) first
 
 pub told_fails : {A B : Type 0} (first : Result A Refusal) (make : A → B) (fault : ReadingFault) (means : Result B Refusal) → means ≡ and_then first (λ a. Ok (make a))
@@ -94,7 +94,7 @@ options_skip before (suc n) (word ∷ words) = options_skip before n words
 
 module _ (words : Words) (i : ℕ) (within : i < length words) where
   abbrev here : List ℕ
-  here = at words i
+  here = word_at words i
 
   abbrev rest : Words
   rest = drop (i + 1) words
@@ -178,8 +178,8 @@ pairs_words (field ∷ value ∷ words) even =
     omega (arith, own, first, second, pairs_words words (omega (arith, even)))
 
 -- the bytes of words from a place on: those of the word there, and of those behind it
-pub bytes_on : (words : Words) (i : ℕ) → i < length words → sum_by length (drop i words) ≡ length (at words i) + sum_by length (drop (i + 1) words)
-bytes_on words i within = ap (sum_by length) (from_place words i within) ∙ sum_by-cons length (at words i) (drop (i + 1) words)
+pub bytes_on : (words : Words) (i : ℕ) → i < length words → sum_by length (drop i words) ≡ length (word_at words i) + sum_by length (drop (i + 1) words)
+bytes_on words i within = ap (sum_by length) (from_place words i within) ∙ sum_by-cons length (word_at words i) (drop (i + 1) words)
 
 pub no_bytes : (words : Words) (i : ℕ) → length words ≤ i → sum_by length (drop i words) ≡ 0
 no_bytes words i over = ap (sum_by length) (drop_all i words over)

@@ -8,7 +8,7 @@ use Rattle.plain_model.specs.StreamWords.{each_told, keyed}
 use Rattle.plain_world.specs.declared.refusal.Refusal.{Refusal}
 use Rattle.command_table.specs.declared.fault.ReadingFault.{ReadingFault}
 use Rattle.command_table.specs.declared.fault.ReadingFault.TheVariants.{Refused, Memory}
-use Rattle.command_table.specs.Readings.{at, Gathers, HasMore, Tells}
+use Rattle.command_table.specs.Readings.{word_at, Gathers, HasMore, Tells}
 use Rattle.command_table.proofs.Shapes.{from_place}
 
 module _ {A : Type 0} where
@@ -44,17 +44,17 @@ module _ {A : Type 0} where
 -- ---- words of one kind
 
 module _ (kind : Kind) (words : Words) where
-  pub each_on : (list : List (Told kind)) (i : ℕ) (a : Told kind) → i < length words → told kind (at words i) ≡ Ok a
+  pub each_on : (list : List (Told kind)) (i : ℕ) (a : Told kind) → i < length words → told kind (word_at words i) ≡ Ok a
       → in_front list (each_told kind (drop i words)) ≡ in_front (list ++ a ∷ []) (each_told kind (drop (i + 1) words))
   each_on list i a within e =
-      ap (λ w. in_front list (each_told kind w)) (from_place words i within) ∙ one_in_front list (told kind (at words i)) (λ t. t) a (each_told kind (drop (i + 1) words)) e
+      ap (λ w. in_front list (each_told kind w)) (from_place words i within) ∙ one_in_front list (told kind (word_at words i)) (λ t. t) a (each_told kind (drop (i + 1) words)) e
 
-  each_refused : (list : List (Told kind)) (i : ℕ) (refusal : Refusal) → i < length words → told kind (at words i) ≡ Err refusal → in_front list (each_told kind (drop i words)) ≡ Err refusal
+  each_refused : (list : List (Told kind)) (i : ℕ) (refusal : Refusal) → i < length words → told kind (word_at words i) ≡ Err refusal → in_front list (each_told kind (drop i words)) ≡ Err refusal
   each_refused list i refusal within e =
-      ap (λ w. in_front list (each_told kind w)) (from_place words i within) ∙ refused_in_front list (told kind (at words i)) (λ t. t) (each_told kind (drop (i + 1) words)) refusal e
+      ap (λ w. in_front list (each_told kind w)) (from_place words i within) ∙ refused_in_front list (told kind (word_at words i)) (λ t. t) (each_told kind (drop (i + 1) words)) refusal e
 
   pub each_fails : (list : List (Told kind)) (i : ℕ) (fault : ReadingFault) (means : Result (List (Told kind)) Refusal) → means ≡ in_front list (each_told kind (drop i words))
-      → i < length words → Tells (told kind (at words i)) (Err fault) → Gathers means (Err fault)
+      → i < length words → Tells (told kind (word_at words i)) (Err fault) → Gathers means (Err fault)
   each_fails list i (Refused refusal) means h within e = h ∙ each_refused list i refusal within e
   each_fails list i Memory means h within e = absurd e
 
@@ -64,22 +64,22 @@ module _ (kind : Kind) (words : Words) where
 -- ---- ids, each with its key
 
 module _ (sign : List ℕ) (words : Words) where
-  pub keyed_on : (list : List (List ℕ × Option (ℕ × ℕ))) (i j : ℕ) (id : Option (ℕ × ℕ)) → i < length words → j < length words → told (IdOr sign) (at words j) ≡ Ok id
-      → in_front list (keyed sign (drop i words) (drop j words)) ≡ in_front (list ++ (at words i, id) ∷ []) (keyed sign (drop (i + 1) words) (drop (j + 1) words))
+  pub keyed_on : (list : List (List ℕ × Option (ℕ × ℕ))) (i j : ℕ) (id : Option (ℕ × ℕ)) → i < length words → j < length words → told (IdOr sign) (word_at words j) ≡ Ok id
+      → in_front list (keyed sign (drop i words) (drop j words)) ≡ in_front (list ++ (word_at words i, id) ∷ []) (keyed sign (drop (i + 1) words) (drop (j + 1) words))
   keyed_on list i j id key within e =
       ap (λ k. in_front list (keyed sign k (drop j words))) (from_place words i key)
-      ∙ ap (λ w. in_front list (keyed sign (at words i ∷ drop (i + 1) words) w)) (from_place words j within)
-      ∙ one_in_front list (told (IdOr sign) (at words j)) (λ t. (at words i, t)) id (keyed sign (drop (i + 1) words) (drop (j + 1) words)) e
+      ∙ ap (λ w. in_front list (keyed sign (word_at words i ∷ drop (i + 1) words) w)) (from_place words j within)
+      ∙ one_in_front list (told (IdOr sign) (word_at words j)) (λ t. (word_at words i, t)) id (keyed sign (drop (i + 1) words) (drop (j + 1) words)) e
 
-  keyed_refused : (list : List (List ℕ × Option (ℕ × ℕ))) (i j : ℕ) (refusal : Refusal) → i < length words → j < length words → told (IdOr sign) (at words j) ≡ Err refusal
+  keyed_refused : (list : List (List ℕ × Option (ℕ × ℕ))) (i j : ℕ) (refusal : Refusal) → i < length words → j < length words → told (IdOr sign) (word_at words j) ≡ Err refusal
       → in_front list (keyed sign (drop i words) (drop j words)) ≡ Err refusal
   keyed_refused list i j refusal key within e =
       ap (λ k. in_front list (keyed sign k (drop j words))) (from_place words i key)
-      ∙ ap (λ w. in_front list (keyed sign (at words i ∷ drop (i + 1) words) w)) (from_place words j within)
-      ∙ refused_in_front list (told (IdOr sign) (at words j)) (λ t. (at words i, t)) (keyed sign (drop (i + 1) words) (drop (j + 1) words)) refusal e
+      ∙ ap (λ w. in_front list (keyed sign (word_at words i ∷ drop (i + 1) words) w)) (from_place words j within)
+      ∙ refused_in_front list (told (IdOr sign) (word_at words j)) (λ t. (word_at words i, t)) (keyed sign (drop (i + 1) words) (drop (j + 1) words)) refusal e
 
   pub keyed_fails : (list : List (List ℕ × Option (ℕ × ℕ))) (i j : ℕ) (fault : ReadingFault) (means : Result (List (List ℕ × Option (ℕ × ℕ))) Refusal)
-      → means ≡ in_front list (keyed sign (drop i words) (drop j words)) → i < length words → j < length words → Tells (told (IdOr sign) (at words j)) (Err fault)
+      → means ≡ in_front list (keyed sign (drop i words) (drop j words)) → i < length words → j < length words → Tells (told (IdOr sign) (word_at words j)) (Err fault)
       → Gathers means (Err fault)
   keyed_fails list i j (Refused refusal) means h key within e = h ∙ keyed_refused list i j refusal key within e
   keyed_fails list i j Memory means h key within e = absurd e

@@ -19,7 +19,7 @@ use Rattle.plain_world.specs.declared.refusal.Refusal.TheVariants.{WrongNumberOf
 use Rattle.command_table.specs.declared.fault.ReadingFault.{ReadingFault}
 use Rattle.command_table.specs.declared.fault.ReadingFault.TheVariants.{Refused, Memory}
 use Rattle.command_table.specs.declared.joins.JoinOptions.{JoinOptions}
-use Rattle.command_table.specs.Readings.{at, Gathers, ReadsSet, ReadsZset, Tells}
+use Rattle.command_table.specs.Readings.{word_at, Gathers, ReadsSet, ReadsZset, Tells}
 use Rattle.command_table.specs.Joins.{JoinSays, all_join_options, key_count, weighed_keys}
 use Rattle.command_table.proofs.Arms.{lifted}
 use Rattle.command_table.proofs.Shapes.{from_place}
@@ -64,11 +64,11 @@ module _ (words : Words) (many : 3 ≤ length words) where
   card_then : card ≡ and_then (key_count words 1) card_rest
   card_then =
       let rest = drop 2 words in
-      let here : drop 1 words ≡ at words 1 ∷ rest = from_place words 1 (omega (arith, many)) in
+      let here : drop 1 words ≡ word_at words 1 ∷ rest = from_place words 1 (omega (arith, many)) in
       let test : nat_le 1 (length rest) ≡ true = le-leb 1 (length rest) (omega (arith, many, length-drop 2 words)) in
       ap inter_card_words here
-      ∙ ap (λ b. if b then and_then (told Keys (at words 1)) (λ n. counted inter_card_of n rest) else Err WrongNumberOfArguments) test
-      ∙ count_then (λ n. inter_card_of) rest (told Keys (at words 1))
+      ∙ ap (λ b. if b then and_then (told Keys (word_at words 1)) (λ n. counted inter_card_of n rest) else Err WrongNumberOfArguments) test
+      ∙ count_then (λ n. inter_card_of) rest (told Keys (word_at words 1))
 
   pub card_count_refused : (fault : ReadingFault) → Tells (key_count words 1) (Err fault) → ReadsSet card (Err fault)
   card_count_refused fault h = lifted Sets card (Err fault) (subst (λ r. Tells r (Err fault)) (sym card_then) (refused (key_count words 1) card_rest fault h))
@@ -114,17 +114,17 @@ module _ (join : ScoreJoin) (words : Words) (many : 4 ≤ length words) where
   joined = join_words join (drop 1 words)
 
   abbrev join_rest : ℕ → Result ZsetCommand Refusal
-  join_rest n = join_of join (at words 1) n (take n (drop 3 words)) (drop n (drop 3 words))
+  join_rest n = join_of join (word_at words 1) n (take n (drop 3 words)) (drop n (drop 3 words))
 
   join_then : joined ≡ and_then (key_count words 2) join_rest
   join_then =
       let rest = drop 3 words in
-      let next : drop 2 words ≡ at words 2 ∷ rest = from_place words 2 (omega (arith, many)) in
-      let here : drop 1 words ≡ at words 1 ∷ at words 2 ∷ rest = from_place words 1 (omega (arith, many)) ∙ ap (λ l. at words 1 ∷ l) next in
+      let next : drop 2 words ≡ word_at words 2 ∷ rest = from_place words 2 (omega (arith, many)) in
+      let here : drop 1 words ≡ word_at words 1 ∷ word_at words 2 ∷ rest = from_place words 1 (omega (arith, many)) ∙ ap (λ l. word_at words 1 ∷ l) next in
       let test : nat_le 1 (length rest) ≡ true = le-leb 1 (length rest) (omega (arith, many, length-drop 3 words)) in
       ap (join_words join) here
-      ∙ ap (λ b. if b then and_then (told Keys (at words 2)) (λ n. counted (join_of join (at words 1) n) n rest) else Err WrongNumberOfArguments) test
-      ∙ count_then (join_of join (at words 1)) rest (told Keys (at words 2))
+      ∙ ap (λ b. if b then and_then (told Keys (word_at words 2)) (λ n. counted (join_of join (word_at words 1) n) n rest) else Err WrongNumberOfArguments) test
+      ∙ count_then (join_of join (word_at words 1)) rest (told Keys (word_at words 2))
 
   pub join_count_refused : (fault : ReadingFault) → Tells (key_count words 2) (Err fault) → ReadsZset joined (Err fault)
   join_count_refused fault h = lifted Zsets joined (Err fault) (subst (λ r. Tells r (Err fault)) (sym join_then) (refused (key_count words 2) join_rest fault h))
@@ -134,7 +134,7 @@ module _ (join : ScoreJoin) (words : Words) (many : 4 ≤ length words) where
     said = all_join_options n (drop (3 + n) words)
 
     abbrev join_made_of : List ℤ × Aggregate → Result ZsetCommand Refusal
-    join_made_of read = Ok (zsets.ZJoinStore join (at words 1) (weighed read.0 (take n (drop 3 words))) read.1)
+    join_made_of read = Ok (zsets.ZJoinStore join (word_at words 1) (weighed read.0 (take n (drop 3 words))) read.1)
 
     join_counted : joined ≡ and_then said join_made_of
     join_counted = join_then ∙ ap (λ r. and_then r join_rest) e ∙ ap (λ own. and_then (all_join_options n own) join_made_of) (drop-drop n 3 words)
@@ -157,8 +157,8 @@ module _ (join : ScoreJoin) (words : Words) (many : 4 ≤ length words) where
       join_keys_missing (Refused refusal) g = absurd (cc (sym keys_are ∙ g))
       join_keys_missing Memory g = subst (λ r. ReadsZset r (Err Memory)) (sym join_is) refl
 
-      pub join_made : (keys : List (ℤ × List ℕ)) → Gathers (weighed_keys words n options.weights) (Ok keys) → joined ≡ Ok (zsets.ZJoinStore join (at words 1) keys options.aggregate)
+      pub join_made : (keys : List (ℤ × List ℕ)) → Gathers (weighed_keys words n options.weights) (Ok keys) → joined ≡ Ok (zsets.ZJoinStore join (word_at words 1) keys options.aggregate)
       join_made keys g =
           let both : ◌≡◌ {A = Result (List (ℤ × List ℕ)) Refusal} (Ok (weighed says.0 (take n (drop 3 words)))) (Ok keys) = sym keys_are ∙ g in
           let same : weighed says.0 (take n (drop 3 words)) ≡ keys = cc in
-          join_is ∙ ap (λ l. Ok (zsets.ZJoinStore join (at words 1) l options.aggregate)) same
+          join_is ∙ ap (λ l. Ok (zsets.ZJoinStore join (word_at words 1) l options.aggregate)) same

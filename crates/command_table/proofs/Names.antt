@@ -8,7 +8,7 @@ use Rattle.plain_model.specs.Meant.{rows, read_by, meant, IsAsked}
 use Rattle.plain_model.specs.declared.command.Command.{Command}
 use Rattle.plain_world.specs.declared.refusal.Refusal.{Refusal}
 use Rattle.command_table.specs.declared.fault.ReadingFault.{ReadingFault}
-use Rattle.command_table.specs.Readings.{at, ReadsAs, ReadsCommand}
+use Rattle.command_table.specs.Readings.{word_at, ReadsAs, ReadsCommand}
 use Rattle.command_table.proofs.Shapes.{from_place}
 
 lower_twice : (word : List ℕ) → in_lower_case (in_lower_case word) ≡ in_lower_case word
@@ -16,12 +16,12 @@ lower_twice [] = refl
 lower_twice (c ∷ word) = ap (λ d. d ∷ in_lower_case (in_lower_case word)) (lowercase-lowercase c) ∙ ap (λ l. to_ascii_lowercase c ∷ l) (lower_twice word)
 
 -- a request means what the row of its name says
-pub by_name : (words : Words) (name : List ℕ) → 0 < length words → in_lower_case (at words 0) ≡ name → meant words ≡ meant (name ∷ drop 1 words)
+pub by_name : (words : Words) (name : List ℕ) → 0 < length words → in_lower_case (word_at words 0) ≡ name → meant words ≡ meant (name ∷ drop 1 words)
 by_name words name some e =
-    let twice : in_lower_case (at words 0) ≡ in_lower_case name = sym (lower_twice (at words 0)) ∙ ap in_lower_case e in
+    let twice : in_lower_case (word_at words 0) ≡ in_lower_case name = sym (lower_twice (word_at words 0)) ∙ ap in_lower_case e in
     ap meant (from_place words 0 some) ∙ ap (λ l. read_by rows l (drop 1 words)) twice
 
-pub reads_by_name : (words : Words) (name : List ℕ) (answer : Result Command ReadingFault) → 0 < length words → in_lower_case (at words 0) ≡ name
+pub reads_by_name : (words : Words) (name : List ℕ) (answer : Result Command ReadingFault) → 0 < length words → in_lower_case (word_at words 0) ≡ name
     → ReadsCommand (name ∷ drop 1 words) answer → ReadsCommand words answer
 reads_by_name words name answer some e h =
     let P : Result Command Refusal → Type 0 = λ means. ReadsAs (λ command. command) means answer in

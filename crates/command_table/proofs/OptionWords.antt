@@ -9,7 +9,7 @@ use Rattle.plain_world.specs.declared.refusal.Refusal.{Refusal}
 use Rattle.plain_world.specs.declared.refusal.Refusal.TheVariants.{Syntax}
 use Rattle.command_table.specs.declared.fault.ReadingFault.{ReadingFault}
 use Rattle.command_table.specs.declared.fault.ReadingFault.TheVariants.{Refused, Memory}
-use Rattle.command_table.specs.Readings.{Tells, at, own_word}
+use Rattle.command_table.specs.Readings.{Tells, word_at, own_word}
 use Rattle.command_table.proofs.Shapes.{from_place}
 
 module _ {A : Type 0} (named : List (NamedOption A)) where
@@ -21,7 +21,7 @@ module _ {A : Type 0} (named : List (NamedOption A)) where
 
   -- an option is read
   pub options_read_on : (before after : A) (own : ℕ) (words : Words) (i : ℕ) → i < length words
-      → read_option before (option_of named (in_lower_case (at words i))) (drop (i + 1) words) ≡ Ok (after, own)
+      → read_option before (option_of named (in_lower_case (word_at words i))) (drop (i + 1) words) ≡ Ok (after, own)
       → options_read named before 0 (drop i words) ≡ options_read named after 0 (drop (i + 1 + own) words)
   options_read_on before after own words i h e =
       let rest = drop (i + 1) words in
@@ -50,9 +50,9 @@ module _ {A : Type 0} (named : List (NamedOption A)) where
         | false ↦ λ t f. cc
       ] refl e
 
-  pub own_within : (before after : A) (own : ℕ) (words : Words) (i : ℕ) → read_option before (option_of named (in_lower_case (at words i))) (drop (i + 1) words) ≡ Ok (after, own)
+  pub own_within : (before after : A) (own : ℕ) (words : Words) (i : ℕ) → read_option before (option_of named (in_lower_case (word_at words i))) (drop (i + 1) words) ≡ Ok (after, own)
       → own ≤ length (drop (i + 1) words)
-  own_within before after own words i e = read_option_within before after own (option_of named (in_lower_case (at words i))) (drop (i + 1) words) e
+  own_within before after own words i e = read_option_within before after own (option_of named (in_lower_case (word_at words i))) (drop (i + 1) words) e
 
 -- an option whose one word is refused is refused
 module _ {A : Type 0} (before : A) (kind : Kind) (sets : AllTold (kind ∷ []) → A → A) where

@@ -11,7 +11,7 @@ use Rattle.plain_world.specs.declared.refusal.Refusal.{Refusal}
 use Rattle.plain_world.specs.declared.refusal.Refusal.TheVariants.{Syntax}
 use Rattle.command_table.specs.declared.fault.ReadingFault.{ReadingFault}
 use Rattle.command_table.specs.declared.fault.ReadingFault.TheVariants.{Refused, Memory}
-use Rattle.command_table.specs.Readings.{Tells, at, own_limit}
+use Rattle.command_table.specs.Readings.{Tells, word_at, own_limit}
 use Rattle.command_table.proofs.Shapes.{all_told_at}
 
 abbrev made : AllTold (Whole ∷ Whole ∷ []) → Result Limit Refusal
@@ -26,25 +26,25 @@ by_parts (Ok a) (Ok b) = refl
 by_parts (Ok a) (Err refusal) = refl
 by_parts (Err refusal) s = refl
 
-pub limit_at : (words : Words) (i : ℕ) → i + 3 ≤ length words → own_limit (drop (i + 1) words) ≡ limit_of (told Whole (at words (i + 1))) (told Whole (at words (i + 2)))
+pub limit_at : (words : Words) (i : ℕ) → i + 3 ≤ length words → own_limit (drop (i + 1) words) ≡ limit_of (told Whole (word_at words (i + 1))) (told Whole (word_at words (i + 2)))
 limit_at words i many =
     let own = drop (i + 1) words in
     let test : nat_le 2 (length own) ≡ true = le-leb 2 (length own) (omega (arith, many, length-drop (i + 1) words)) in
     let next : i + 1 + 1 ≡ i + 2 = omega arith in
     ap (λ b. if b then and_then (all_told (Whole ∷ Whole ∷ []) own) made else Err Syntax) test
     ∙ ap (λ r. and_then r made) (all_told_at (Whole ∷ Whole ∷ []) words (i + 1) (omega (arith, many, length-drop (i + 1) words)))
-    ∙ by_parts (told Whole (at words (i + 1))) (told Whole (at words (i + 1 + 1)))
-    ∙ ap (λ n. limit_of (told Whole (at words (i + 1))) (told Whole (at words n))) next
+    ∙ by_parts (told Whole (word_at words (i + 1))) (told Whole (word_at words (i + 1 + 1)))
+    ∙ ap (λ n. limit_of (told Whole (word_at words (i + 1))) (told Whole (word_at words n))) next
 
-pub limit_made : (words : Words) (i : ℕ) (a b : ℤ) → i + 3 ≤ length words → told Whole (at words (i + 1)) ≡ Ok a → told Whole (at words (i + 2)) ≡ Ok b
+pub limit_made : (words : Words) (i : ℕ) (a b : ℤ) → i + 3 ≤ length words → told Whole (word_at words (i + 1)) ≡ Ok a → told Whole (word_at words (i + 2)) ≡ Ok b
     → own_limit (drop (i + 1) words) ≡ Ok (record { offset = a; count = b })
 limit_made words i a b many e f =
-    limit_at words i many ∙ ap (λ r. limit_of r (told Whole (at words (i + 2)))) e ∙ ap (limit_of (Ok a)) f
+    limit_at words i many ∙ ap (λ r. limit_of r (told Whole (word_at words (i + 2)))) e ∙ ap (limit_of (Ok a)) f
 
-pub limit_count_refused : (words : Words) (i : ℕ) (a : ℤ) (fault : ReadingFault) → i + 3 ≤ length words → told Whole (at words (i + 1)) ≡ Ok a
-    → Tells (told Whole (at words (i + 2))) (Err fault) → Tells (own_limit (drop (i + 1) words)) (Err fault)
+pub limit_count_refused : (words : Words) (i : ℕ) (a : ℤ) (fault : ReadingFault) → i + 3 ≤ length words → told Whole (word_at words (i + 1)) ≡ Ok a
+    → Tells (told Whole (word_at words (i + 2))) (Err fault) → Tells (own_limit (drop (i + 1) words)) (Err fault)
 limit_count_refused words i a (Refused refusal) many e h =
-    limit_at words i many ∙ ap (λ r. limit_of r (told Whole (at words (i + 2)))) e ∙ ap (limit_of (Ok a)) h
+    limit_at words i many ∙ ap (λ r. limit_of r (told Whole (word_at words (i + 2)))) e ∙ ap (limit_of (Ok a)) h
 limit_count_refused words i a Memory many e h = absurd h
 
 fails : (before : RangeOptions) (b : Bool) (x : Result (AllTold (Whole ∷ Whole ∷ [])) Refusal) (refusal : Refusal) → (if b then and_then x made else Err Syntax) ≡ Err refusal

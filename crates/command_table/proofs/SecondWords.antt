@@ -11,7 +11,7 @@ use Rattle.plain_world.specs.declared.refusal.Refusal.{Refusal}
 use Rattle.plain_world.specs.declared.refusal.Refusal.TheVariants.{WrongNumberOfArguments, Syntax}
 use Rattle.command_table.specs.declared.fault.ReadingFault.{ReadingFault}
 use Rattle.command_table.specs.declared.fault.ReadingFault.TheVariants.{Refused, Memory}
-use Rattle.command_table.specs.Readings.{at, Tells, TellsAs}
+use Rattle.command_table.specs.Readings.{word_at, Tells, TellsAs}
 use Rattle.command_table.proofs.Arms.{fixed_then}
 use Rattle.command_table.proofs.Shapes.{from_place}
 
@@ -28,13 +28,13 @@ module _ (words : Words) (many : 3 ≤ length words) where
       else (if other then fixed (Steps ∷ []) defrag (drop 2 words) else Err Syntax)
 
   abbrev lower : List ℕ
-  lower = in_lower_case (at words 1)
+  lower = in_lower_case (word_at words 1)
 
   second_is : by_second 2 debug_rows (drop 1 words) ≡ second (bytes_eq lower (codes "rehash")) (bytes_eq lower (codes "defrag"))
   second_is =
       ap (by_second 2 debug_rows) (from_place words 1 (omega (arith, many)))
-      ∙ ap (λ b. if b then second_read debug_rows (at words 1) (drop 2 words) else Err WrongNumberOfArguments)
-      (le-leb 2 (length (at words 1 ∷ drop 2 words)) (omega (arith, many, length-drop 2 words)))
+      ∙ ap (λ b. if b then second_read debug_rows (word_at words 1) (drop 2 words) else Err WrongNumberOfArguments)
+      (le-leb 2 (length (word_at words 1 ∷ drop 2 words)) (omega (arith, many, length-drop 2 words)))
 
   -- the number of steps of DEBUG DEFRAG is refused
   pub defrag_refused : (fault : ReadingFault) → bytes_eq lower (codes "rehash") ≡ false → bytes_eq lower (codes "defrag") ≡ true

@@ -10,24 +10,24 @@ use Rattle.plain_model.specs.Shapes.{Kind, Plain, AllTold, told, all_told, and_t
 use Rattle.plain_world.specs.declared.refusal.Refusal.{Refusal}
 use Rattle.plain_world.specs.declared.refusal.Refusal.TheVariants.{WrongNumberOfArguments}
 use Rattle.plain_model.specs.StringWords.{pairs_of}
-use Rattle.command_table.specs.Readings.{at, one_and_pairs, one_and_some, some_words, some_pairs}
+use Rattle.command_table.specs.Readings.{word_at, one_and_pairs, one_and_some, some_words, some_pairs}
 
 -- the words from a place on: the one there, and those behind it
-pub from_place : (words : Words) (i : ℕ) → i < length words → drop i words ≡ at words i ∷ drop (i + 1) words
+pub from_place : (words : Words) (i : ℕ) → i < length words → drop i words ≡ word_at words i ∷ drop (i + 1) words
 from_place words i h = rw (add-one, drop-cons words i []) refl
 
 -- what words of these kinds tell that stand from this place on
 abbrev pub told_at : (kinds : List Kind) → Words → ℕ → Result (AllTold kinds) Refusal
 told_at [] words i = Ok tt
 told_at (kind ∷ kinds) words i =
-    and_then (told kind (at words i)) (λ a. and_then (told_at kinds words (i + 1)) (λ rest. Ok (a, rest)))
+    and_then (told kind (word_at words i)) (λ a. and_then (told_at kinds words (i + 1)) (λ rest. Ok (a, rest)))
 
 pub all_told_at : (kinds : List Kind) (words : Words) (i : ℕ) → length kinds ≤ length (drop i words) → all_told kinds (drop i words) ≡ told_at kinds words i
 all_told_at [] words i h = refl
 all_told_at (kind ∷ kinds) words i h =
     let within : i < length words = omega (arith, length-drop i words) in
     ap (all_told (kind ∷ kinds)) (from_place words i within)
-    ∙ ap (λ r. and_then (told kind (at words i)) (λ a. and_then r (λ rest. Ok (a, rest)))) (all_told_at kinds words (i + 1) (omega (arith, length-drop i words, length-drop (i + 1) words)))
+    ∙ ap (λ r. and_then (told kind (word_at words i)) (λ a. and_then r (λ rest. Ok (a, rest)))) (all_told_at kinds words (i + 1) (omega (arith, length-drop i words, length-drop (i + 1) words)))
 
 both : (a b : Bool) → (a && b) ≡ true → a ≡ true
 both true b e = refl
@@ -66,14 +66,14 @@ pairs_kept words many odd =
     rw (lt-ltb 0 own some, eq-eqb ((own - 0) % 2) 0 even) refl
 
 -- a word behind the name, and one or more behind it
-pub one_and_words_kept : (words : Words) → 3 ≤ length words → one_and_some words ≡ Ok (at words 1, drop 2 words)
+pub one_and_words_kept : (words : Words) → 3 ≤ length words → one_and_some words ≡ Ok (word_at words 1, drop 2 words)
 one_and_words_kept words many =
     let own = length (drop 1 words) in
     let some : 1 < own = omega (arith, many, length-drop 1 words) in
     rw (lt-ltb 1 own some, eq-eqb ((own - 1) % 1) 0 (mod-one (own - 1)), all_told_at (Plain ∷ []) words 1 (omega (arith, some)), drop-drop 1 1 words) refl
 
 -- a word behind the name, and one or more pairs behind it
-pub one_and_pairs_kept : (words : Words) → 4 ≤ length words → length words % 2 ≢ 1 → one_and_pairs words ≡ Ok (at words 1, pairs_of (drop 2 words))
+pub one_and_pairs_kept : (words : Words) → 4 ≤ length words → length words % 2 ≢ 1 → one_and_pairs words ≡ Ok (word_at words 1, pairs_of (drop 2 words))
 one_and_pairs_kept words many odd =
     let own = length (drop 1 words) in
     let some : 1 < own = omega (arith, many, length-drop 1 words) in

@@ -10,7 +10,7 @@ use Rattle.plain_world.specs.declared.refusal.Refusal.{Refusal}
 use Rattle.plain_world.specs.declared.refusal.Refusal.TheVariants.{Syntax}
 use Rattle.command_table.specs.declared.fault.ReadingFault.{ReadingFault}
 use Rattle.command_table.specs.declared.fault.ReadingFault.TheVariants.{Refused, Memory}
-use Rattle.command_table.specs.Readings.{at, Gathers, Tells}
+use Rattle.command_table.specs.Readings.{word_at, Gathers, Tells}
 use Rattle.command_table.proofs.Shapes.{from_place}
 
 abbrev pub Streams : Type 0
@@ -18,10 +18,10 @@ Streams = Option ℕ × List (List ℕ × Option (ℕ × ℕ))
 
 module _ (sign : List ℕ) (limit : Option ℕ) (words : Words) (i : ℕ) where
   abbrev word : List ℕ
-  word = in_lower_case (at words i)
+  word = in_lower_case (word_at words i)
 
   abbrev next : List ℕ
-  next = at words (i + 1)
+  next = word_at words (i + 1)
 
   abbrev rest : Words
   rest = drop (i + 2) words
@@ -34,10 +34,10 @@ module _ (sign : List ℕ) (limit : Option ℕ) (words : Words) (i : ℕ) where
   counted = and_then (told Whole next) (λ n. streams_read sign (at_most_or_all n) rest)
 
   module _ (within : i + 1 < length words) where
-    places : drop i words ≡ at words i ∷ next ∷ rest
+    places : drop i words ≡ word_at words i ∷ next ∷ rest
     places =
         let on : i + 1 + 1 ≡ i + 2 = omega arith in
-        from_place words i (omega (arith, within)) ∙ ap (λ l. at words i ∷ l) (from_place words (i + 1) within) ∙ ap (λ n. at words i ∷ next ∷ drop n words) on
+        from_place words i (omega (arith, within)) ∙ ap (λ l. word_at words i ∷ l) (from_place words (i + 1) within) ∙ ap (λ n. word_at words i ∷ next ∷ drop n words) on
 
     behind : next ∷ rest ≡ drop (i + 1) words
     behind =

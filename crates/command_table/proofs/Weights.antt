@@ -12,7 +12,7 @@ use Rattle.plain_world.specs.declared.refusal.Refusal.TheVariants.{Syntax}
 use Rattle.command_table.specs.declared.fault.ReadingFault.{ReadingFault}
 use Rattle.command_table.specs.declared.fault.ReadingFault.TheVariants.{Refused, Memory}
 use Rattle.command_table.specs.declared.joins.JoinOptions.{JoinOptions}
-use Rattle.command_table.specs.Readings.{at, Passes, Tells}
+use Rattle.command_table.specs.Readings.{word_at, Passes, Tells}
 use Rattle.command_table.specs.Joins.{AreWeights, JoinSays, OptionSays, Said, Within, join_option, own_weights, scores_at, weight_of, weighed_keys, weights_at}
 use Rattle.command_table.proofs.OptionWords.{options_read_on}
 use Rattle.command_table.proofs.Shapes.{from_place}
@@ -46,7 +46,7 @@ no_words : (n : ℕ) (own : List ℤ) → scores_at (suc n) [] ≢ Ok own
 no_words n own e = cc
 
 -- one score more
-pub scores_more : (n : ℕ) (words : Words) (own : List ℤ) (a : ℤ) → n < length words → scores_at n words ≡ Ok own → told Score (at words n) ≡ Ok a → scores_at (suc n) words ≡ Ok (own ++ a ∷ [])
+pub scores_more : (n : ℕ) (words : Words) (own : List ℤ) (a : ℤ) → n < length words → scores_at n words ≡ Ok own → told Score (word_at words n) ≡ Ok a → scores_at (suc n) words ≡ Ok (own ++ a ∷ [])
 scores_more n [] own a h e f = absurd (omega (arith, h))
 scores_more zero (word ∷ words) own a h e f =
     let none : ◌≡◌ {A = List ℤ} [] own = cc in
@@ -60,7 +60,7 @@ scores_more (suc n) (word ∷ words) own a h e f =
     ∙ ap (λ (l : List ℤ). Ok (l ++ a ∷ [])) (sym p.4)
 
 -- a word among them that is no score
-pub scores_stop : (n m : ℕ) (words : Words) (own : List ℤ) (refusal : Refusal) → n < length words → n < m → scores_at n words ≡ Ok own → told Score (at words n) ≡ Err refusal
+pub scores_stop : (n m : ℕ) (words : Words) (own : List ℤ) (refusal : Refusal) → n < length words → n < m → scores_at n words ≡ Ok own → told Score (word_at words n) ≡ Err refusal
     → scores_at m words ≡ Err refusal
 scores_stop n m [] own refusal h l e f = absurd (omega (arith, h))
 scores_stop n zero (word ∷ words) own refusal h l e f = absurd (omega (arith, l))
@@ -72,11 +72,11 @@ scores_stop (suc n) (suc m) (word ∷ words) own refusal h l e f =
     ∙ ap (λ r. and_then r (λ a. and_then (scores_at m words) (λ rest. Ok (a ∷ rest)))) p.2
     ∙ ap (λ r. and_then r (λ rest. Ok (p.0 ∷ rest))) rest
 
-at_behind : (words : Words) (place i : ℕ) → at (drop place words) i ≡ at words (place + i)
+at_behind : (words : Words) (place i : ℕ) → word_at (drop place words) i ≡ word_at words (place + i)
 at_behind words place i = get_or-drop place words i []
 
 -- the same of words behind a place
-pub scores_step : (words : Words) (from i : ℕ) (own : List ℤ) (a : ℤ) → from + i < length words → scores_at i (drop from words) ≡ Ok own → told Score (at words (from + i)) ≡ Ok a
+pub scores_step : (words : Words) (from i : ℕ) (own : List ℤ) (a : ℤ) → from + i < length words → scores_at i (drop from words) ≡ Ok own → told Score (word_at words (from + i)) ≡ Ok a
     → scores_at (i + 1) (drop from words) ≡ Ok (own ++ a ∷ [])
 scores_step words from i own a within e f =
     ap (λ n. scores_at n (drop from words)) (add-one i) ∙ scores_more i (drop from words) own a (omega (arith, within, length-drop from words)) e (ap (told Score) (at_behind words from i) ∙ f)
@@ -85,7 +85,7 @@ weights_by_test : (words : Words) (n : ℕ) → n ≤ length words → own_weigh
 weights_by_test words n many = ap (λ b. if b then scores_at n words else Err Syntax) (le-leb n (length words) many)
 
 pub scores_fail : (words : Words) (from i n : ℕ) (own : List ℤ) (fault : ReadingFault) → from + n ≤ length words → i < n → scores_at i (drop from words) ≡ Ok own
-    → Tells (told Score (at words (from + i))) (Err fault) → Passes (own_weights n (drop from words)) (Err fault)
+    → Tells (told Score (word_at words (from + i))) (Err fault) → Passes (own_weights n (drop from words)) (Err fault)
 scores_fail words from i n own (Refused refusal) within l e f =
     weights_by_test (drop from words) n (omega (arith, within, length-drop from words))
     ∙ scores_stop i n (drop from words) own refusal (omega (arith, within, l, length-drop from words)) l e (ap (told Score) (at_behind words from i) ∙ f)
@@ -102,7 +102,7 @@ module _ (r : Result ℤ Refusal) (own : List ℤ) (i : ℕ) where
   abbrev pub StandsAt : Type 0
   StandsAt = (a : ℤ) × (r ≡ Ok a) × (drop i own ≡ a ∷ drop (suc i) own)
 
-score_in : (n : ℕ) (words : Words) (own : List ℤ) (i : ℕ) → i < n → scores_at n words ≡ Ok own → StandsAt (told Score (at words i)) own i
+score_in : (n : ℕ) (words : Words) (own : List ℤ) (i : ℕ) → i < n → scores_at n words ≡ Ok own → StandsAt (told Score (word_at words i)) own i
 score_in zero words own i l e = absurd (omega (arith, l))
 score_in (suc n) [] own i l e = absurd (no_words n own e)
 score_in (suc n) (word ∷ words) own zero l e =
@@ -136,15 +136,15 @@ weights_within words n (Some place) i l are = omega (arith, l, scores_within n (
 abbrev pub keys_of : Words → ℕ → Words
 keys_of words n = take n (drop 3 words)
 
-key_in : (words : Words) (n i : ℕ) → i < n → 3 + n ≤ length words → drop i (keys_of words n) ≡ at words (3 + i) ∷ drop (suc i) (keys_of words n)
+key_in : (words : Words) (n i : ℕ) → i < n → 3 + n ≤ length words → drop i (keys_of words n) ≡ word_at words (3 + i) ∷ drop (suc i) (keys_of words n)
 key_in words n i l many =
     let count : length (keys_of words n) ≡ n = length-take-le n (drop 3 words) (omega (arith, many, length-drop 3 words)) in
-    let key : at (keys_of words n) i ≡ at words (3 + i) = get_or-take n (drop 3 words) i [] l ∙ at_behind words 3 i in
-    from_place (keys_of words n) i (omega (arith, count, l)) ∙ ap (λ k. k ∷ drop (i + 1) (keys_of words n)) key ∙ ap (λ m. at words (3 + i) ∷ drop m (keys_of words n)) (add-one i)
+    let key : word_at (keys_of words n) i ≡ word_at words (3 + i) = get_or-take n (drop 3 words) i [] l ∙ at_behind words 3 i in
+    from_place (keys_of words n) i (omega (arith, count, l)) ∙ ap (λ k. k ∷ drop (i + 1) (keys_of words n)) key ∙ ap (λ m. word_at words (3 + i) ∷ drop m (keys_of words n)) (add-one i)
 
 -- a key with its weight more
 pub weigh_step : (words : Words) (n : ℕ) (weights : Option ℕ) (own : List ℤ) (list : List (ℤ × List ℕ)) (i : ℕ) (a : ℤ) → i < n → 3 + n ≤ length words → weights_at words n weights ≡ Ok own
-    → weight_of words weights i ≡ Ok a → list ++ weighed (drop i own) (drop i (keys_of words n)) ≡ (list ++ (a, at words (3 + i)) ∷ [])
+    → weight_of words weights i ≡ Ok a → list ++ weighed (drop i own) (drop i (keys_of words n)) ≡ (list ++ (a, word_at words (3 + i)) ∷ [])
     ++ weighed (drop (i + 1) own) (drop (i + 1) (keys_of words n))
 weigh_step words n weights own list i a l many e f =
     let stands = weight_in words n weights own i l e in
@@ -153,8 +153,8 @@ weigh_step words n weights own list i a l many e f =
     let rest = weighed (drop (suc i) own) (drop (suc i) (keys_of words n)) in
     ap (λ m. list ++ weighed m (drop i (keys_of words n))) (stands.2 ∙ ap (λ b. b ∷ drop (suc i) own) same)
     ∙ ap (λ m. list ++ weighed (a ∷ drop (suc i) own) m) (key_in words n i l many)
-    ∙ sym (append_assoc list ((a, at words (3 + i)) ∷ []) rest)
-    ∙ ap (λ m. (list ++ (a, at words (3 + i)) ∷ []) ++ weighed (drop m own) (drop m (keys_of words n))) (sym (add-one i))
+    ∙ sym (append_assoc list ((a, word_at words (3 + i)) ∷ []) rest)
+    ∙ ap (λ m. (list ++ (a, word_at words (3 + i)) ∷ []) ++ weighed (drop m own) (drop m (keys_of words n))) (sym (add-one i))
 
 none_weighed : (own : List ℤ) → weighed own [] ≡ []
 none_weighed [] = refl
@@ -216,7 +216,7 @@ weights_read n before words =
 
 module _ (words : Words) (n : ℕ) (options : JoinOptions) (i : ℕ) (are : AreWeights words n options.weights) where
   abbrev lower : List ℕ
-  lower = in_lower_case (at words i)
+  lower = in_lower_case (word_at words i)
 
   abbrev behind : Words
   behind = drop (i + 1) words

@@ -9,11 +9,11 @@ use Rattle.plain_model.specs.declared.zset_command.Aggregate.{Aggregate}
 use Rattle.command_table.specs.declared.joins.JoinOptions.{JoinOptions}
 use Rattle.command_table.specs.declared.fault.ReadingFault.{ReadingFault}
 use Rattle.command_table.specs.declared.fault.ReadingFault.TheVariants.{Refused, Memory}
-use Rattle.command_table.specs.Readings.{at}
+use Rattle.command_table.specs.Readings.{word_at}
 
 -- how many keys stand behind the number at this place, where so many words do
 abbrev pub key_count : Words → ℕ → Result ℕ Refusal
-key_count words i = and_then (told Keys (at words i)) (λ n. counted (λ keys behind. Ok n) n (drop (i + 1) words))
+key_count words i = and_then (told Keys (word_at words i)) (λ n. counted (λ keys behind. Ok n) n (drop (i + 1) words))
 
 -- the first words as so many scores
 abbrev pub scores_at : ℕ → Words → Result (List ℤ) Refusal
@@ -34,7 +34,7 @@ AreWeights words n weights = (own : List ℤ) × (weights_at words n weights ≡
 -- one of the weights, by its place among them
 abbrev pub weight_of : Words → Option ℕ → ℕ → Result ℤ Refusal
 weight_of words None i = Ok (pos 1)
-weight_of words (Some place) i = told Score (at words (place + i))
+weight_of words (Some place) i = told Score (word_at words (place + i))
 
 abbrev pub Within : Words → Option ℕ → ℕ → Type 0
 Within words None i = Unit {0}
@@ -56,7 +56,7 @@ all_join_options n words = options_read (join_options n) (no_join_options n) 0 w
 abbrev pub join_option : Words → ℕ → JoinOptions → ℕ → Result (Said × ℕ) Refusal
 join_option words n options i =
     and_then (weights_at words n options.weights)
-    (λ own. read_option (own, options.aggregate) (option_of (join_options n) (in_lower_case (at words i)))
+    (λ own. read_option (own, options.aggregate) (option_of (join_options n) (in_lower_case (word_at words i)))
     (drop (i + 1) words))
 
 -- The answer is what the options say by these words, or their refusal. No memory is asked for.

@@ -42,8 +42,8 @@ use Rattle.command_table.specs.declared.fault.ReadingFault.{ReadingFault}
 use Rattle.command_table.specs.declared.fault.ReadingFault.TheVariants.{Refused, Memory}
 
 -- the word at this place
-abbrev pub at : Words → ℕ → List ℕ
-at words i = slice_index_or words i []
+abbrev pub word_at : Words → ℕ → List ℕ
+word_at words i = slice_index_or words i []
 
 -- The answer is what the words mean, as the caller wraps it: a refusal is that of the words. No memory is asked for.
 abbrev pub TellsAs : {A B : Type 0} → (A → B) → Result B Refusal → Result A ReadingFault → Type 0

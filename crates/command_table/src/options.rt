@@ -3,7 +3,7 @@
 ghost use Rattle.std.specs.Prelude.{◌≡◌, ◌<◌, ◌≤◌, ◌+◌, List, length, drop};
 ghost use Rattle.plain_world.specs.Words.{in_lower_case};
 ghost use Rattle.plain_model.specs.Shapes.{Plain, Span, Database, Count, Amount, Rank, NamedOption, option_of, read_option, options_read};
-ghost use Rattle.command_table.specs.Readings.{Tells, at, own_word};
+ghost use Rattle.command_table.specs.Readings.{Tells, word_at, own_word};
 
 use crate::ReadingFault;
 use crate::words::{amount, count, database, plain, rank, span};
@@ -22,7 +22,7 @@ pub trait Options<'r>: Drop {
         index: usize,
     ) -> Result<(Self, usize), ReadingFault>
         requires { index < length request.now }
-        ensures { Tells (read_option self (option_of named (in_lower_case (at request.now index))) (drop (index + 1) request.now)) result };
+        ensures { Tells (read_option self (option_of named (in_lower_case (word_at request.now index))) (drop (index + 1) request.now)) result };
 }
 
 /// Reads the options from a place on.

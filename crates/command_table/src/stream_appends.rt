@@ -5,7 +5,7 @@ ghost use Rattle.plain_world.specs.Words.{in_lower_case};
 ghost use Rattle.plain_model.specs.StringWords.{pairs_of};
 ghost use Rattle.plain_model.specs.StreamWords.{append_option, append_options, append_words, behind_options, entry_words, is_mark, is_option, is_trim, no_append_options, own_of};
 ghost use Rattle.plain_model.specs.StreamWords.{own_words, pairs_len, trim_of, trim_words, unmarked};
-ghost use Rattle.command_table.specs.Readings.{Gathers, ReadsStream, Tells, at};
+ghost use Rattle.command_table.specs.Readings.{Gathers, ReadsStream, Tells, word_at};
 
 use crate::ReadingFault;
 use crate::kinds::WRONG_NUMBER;
@@ -57,7 +57,7 @@ fn bound_at(request: &Request<'_>, from: usize) -> Option<usize>
 // MAXLEN or MINID at a place, with its bound.
 fn trim_at(request: &Request<'_>, index: usize) -> Result<Trim, ReadingFault>
     requires { index < length request.now }
-    ensures { Tells (trim_of (in_lower_case (at request.now index)) (drop (index + 1) request.now)) result }
+    ensures { Tells (trim_of (in_lower_case (word_at request.now index)) (drop (index + 1) request.now)) result }
 {
     let word = request.word(index);
     prove!(index < request.len());
@@ -107,7 +107,7 @@ fn is_option(word: &[u8]) -> bool
 // How many words behind an option are its own.
 fn own_of(request: &Request<'_>, index: usize) -> usize
     requires { index < length request.now }
-    ensures same { result ≡ own_of (at request.now index) (drop (index + 1) request.now) }
+    ensures same { result ≡ own_of (word_at request.now index) (drop (index + 1) request.now) }
     ensures few { result ≤ 2 }
 {
     prove!(index < request.len());
@@ -137,7 +137,7 @@ fn append_option(
     before: AppendOptions,
 ) -> Result<AppendOptions, ReadingFault>
     requires { index < length request.now }
-    ensures { Tells (append_option before (at request.now index) (drop (index + 1) request.now)) result }
+    ensures { Tells (append_option before (word_at request.now index) (drop (index + 1) request.now)) result }
 {
     if !is_trim(request.word(index)) {
         return Ok(AppendOptions {
@@ -211,7 +211,7 @@ fn entry<'r>(
     requires few { 1 < length request.now }
     requires there { index < length request.now }
     requires odd { (length request.now) % 2 ≡ (index + 1) % 2 }
-    ensures { ReadsStream (entry_words (at request.now 1) (drop index request.now) options) result }
+    ensures { ReadsStream (entry_words (word_at request.now 1) (drop index request.now) options) result }
 {
     prove!(index < request.len());
     let id = new_id(request, index)?;

@@ -4,7 +4,7 @@ ghost use Rattle.std.specs.Prelude.{◌≡◌, ◌<◌, ◌^◌, ◌-◌, ◌∷
 ghost use Rattle.std.specs.Option.{option_copied};
 ghost use Rattle.plain_model.specs.IdTexts.{above, before_dash, behind_dash, below, first_in, id_in, id_part, is_open, last_in, next_id, or_invalid};
 ghost use Rattle.plain_model.specs.Shapes.{EntryId, FirstId, ForEntry, IdOr, LastId, told};
-ghost use Rattle.command_table.specs.Readings.{Tells, at};
+ghost use Rattle.command_table.specs.Readings.{Tells, word_at};
 
 use crate::ReadingFault;
 use int_text::read_u64;
@@ -63,7 +63,7 @@ fn valid(id: Option<EntryId>) -> Result<EntryId, ReadingFault>
 /// A word as an id; where its second number is missing it is 0.
 pub fn entry_id(request: &Request<'_>, index: usize) -> Result<EntryId, ReadingFault>
     requires { index < length request.now }
-    ensures { Tells (told EntryId (at request.now index)) result }
+    ensures { Tells (told EntryId (word_at request.now index)) result }
 {
     valid(id_in(request.word(index), 0))
 }
@@ -75,7 +75,7 @@ pub fn id_or(
     sign: &[u8],
 ) -> Result<Option<EntryId>, ReadingFault>
     requires { index < length request.now }
-    ensures { Tells (told (IdOr sign.now) (at request.now index)) result }
+    ensures { Tells (told (IdOr sign.now) (word_at request.now index)) result }
 {
     if request.word(index) == sign {
         return Ok(None);
@@ -97,7 +97,7 @@ fn is_open(behind: Option<&[u8]>) -> bool
 /// A word as the id of a new entry: `*`, an id, or milliseconds with `-*` behind them.
 pub fn new_id(request: &Request<'_>, index: usize) -> Result<NewId, ReadingFault>
     requires { index < length request.now }
-    ensures { Tells (told ForEntry (at request.now index)) result }
+    ensures { Tells (told ForEntry (word_at request.now index)) result }
 {
     let word = request.word(index);
     if word == b"*".as_slice() {
@@ -165,7 +165,7 @@ fn last_in(text: &[u8]) -> Option<EntryId>
 /// A word as the first id of a range: `-`, `+`, an id, or `(` and an id.
 pub fn first_id(request: &Request<'_>, index: usize) -> Result<EntryId, ReadingFault>
     requires { index < length request.now }
-    ensures { Tells (told FirstId (at request.now index)) result }
+    ensures { Tells (told FirstId (word_at request.now index)) result }
 {
     let word = request.word(index);
     if word == b"-".as_slice() {
@@ -180,7 +180,7 @@ pub fn first_id(request: &Request<'_>, index: usize) -> Result<EntryId, ReadingF
 /// A word as the last id of a range.
 pub fn last_id(request: &Request<'_>, index: usize) -> Result<EntryId, ReadingFault>
     requires { index < length request.now }
-    ensures { Tells (told LastId (at request.now index)) result }
+    ensures { Tells (told LastId (word_at request.now index)) result }
 {
     let word = request.word(index);
     if word == b"-".as_slice() {

@@ -4,7 +4,7 @@ ghost use Rattle.std.specs.Prelude.{◌≡◌, ◌<◌, length, bytes_eq, Err};
 ghost use Rattle.plain_world.specs.Words.{in_lower_case};
 ghost use Rattle.plain_model.specs.Shapes.{Whole, Offset, Span, Database, Count, Steps, Cursor, Amount, Rank, OnSide, AtEnd, Score, Bound, Picks, Keys, Aggregated, score, score_bound, told};
 ghost use Rattle.plain_model.specs.ScoreTexts.{score_of};
-ghost use Rattle.command_table.specs.Readings.{Tells, at, included};
+ghost use Rattle.command_table.specs.Readings.{Tells, word_at, included};
 
 use crate::ReadingFault;
 use int_text::{ScoreFault, read_i64, read_score, read_u64};
@@ -21,7 +21,7 @@ pub fn is_word(word: &[u8], name: &[u8]) -> bool
 /// A word as it stands.
 pub fn plain<'r>(request: &'r Request<'_>, index: usize) -> Word<'r>
     requires { index < length request.now }
-    ensures { result ≡ at request.now index }
+    ensures { result ≡ word_at request.now index }
 {
     Word::new(request.word(index))
 }
@@ -29,7 +29,7 @@ pub fn plain<'r>(request: &'r Request<'_>, index: usize) -> Word<'r>
 /// A word as a whole number of 64 bits with a sign.
 pub fn number(request: &Request<'_>, index: usize) -> Result<i64, ReadingFault>
     requires { index < length request.now }
-    ensures { Tells (told Whole (at request.now index)) result }
+    ensures { Tells (told Whole (word_at request.now index)) result }
 {
     match read_i64(request.word(index)) {
         Some(n) => Ok(n),
@@ -40,7 +40,7 @@ pub fn number(request: &Request<'_>, index: usize) -> Result<i64, ReadingFault>
 /// A word as such a number from 0 on.
 pub fn offset(request: &Request<'_>, index: usize) -> Result<u64, ReadingFault>
     requires { index < length request.now }
-    ensures { Tells (told Offset (at request.now index)) result }
+    ensures { Tells (told Offset (word_at request.now index)) result }
 {
     let n = number(request, index)?;
     match u64::try_from(n) {
@@ -52,7 +52,7 @@ pub fn offset(request: &Request<'_>, index: usize) -> Result<u64, ReadingFault>
 /// A word as such a number above 0, which is a time.
 pub fn span(request: &Request<'_>, index: usize) -> Result<i64, ReadingFault>
     requires { index < length request.now }
-    ensures { Tells (told Span (at request.now index)) result }
+    ensures { Tells (told Span (word_at request.now index)) result }
 {
     let n = number(request, index)?;
     if n > 0 {
@@ -64,7 +64,7 @@ pub fn span(request: &Request<'_>, index: usize) -> Result<i64, ReadingFault>
 /// A word as such a number from 0 to 15, which is a database.
 pub fn database(request: &Request<'_>, index: usize) -> Result<usize, ReadingFault>
     requires { index < length request.now }
-    ensures { Tells (told Database (at request.now index)) result }
+    ensures { Tells (told Database (word_at request.now index)) result }
 {
     let n = number(request, index)?;
     match usize::try_from(n) {
@@ -76,7 +76,7 @@ pub fn database(request: &Request<'_>, index: usize) -> Result<usize, ReadingFau
 /// A word as such a number above 0, which is how many are to be met.
 pub fn count(request: &Request<'_>, index: usize) -> Result<u64, ReadingFault>
     requires { index < length request.now }
-    ensures { Tells (told Count (at request.now index)) result }
+    ensures { Tells (told Count (word_at request.now index)) result }
 {
     let n = number(request, index)?;
     match u64::try_from(n) {
@@ -88,7 +88,7 @@ pub fn count(request: &Request<'_>, index: usize) -> Result<u64, ReadingFault>
 /// A word as such a number from 0 to 1,000,000, which is how many steps are to be made.
 pub fn steps(request: &Request<'_>, index: usize) -> Result<u32, ReadingFault>
     requires { index < length request.now }
-    ensures { Tells (told Steps (at request.now index)) result }
+    ensures { Tells (told Steps (word_at request.now index)) result }
 {
     let n = number(request, index)?;
     match u32::try_from(n) {
@@ -100,7 +100,7 @@ pub fn steps(request: &Request<'_>, index: usize) -> Result<u32, ReadingFault>
 /// A word as a cursor: decimal digits, leading zeros too, of a number of 64 bits.
 pub fn cursor(request: &Request<'_>, index: usize) -> Result<u64, ReadingFault>
     requires { index < length request.now }
-    ensures { Tells (told Cursor (at request.now index)) result }
+    ensures { Tells (told Cursor (word_at request.now index)) result }
 {
     match read_u64(request.word(index)) {
         Some(cursor) => Ok(cursor),
@@ -111,7 +111,7 @@ pub fn cursor(request: &Request<'_>, index: usize) -> Result<u64, ReadingFault>
 /// A word as a whole number from 0 on, which is how many are asked for.
 pub fn amount(request: &Request<'_>, index: usize) -> Result<u64, ReadingFault>
     requires { index < length request.now }
-    ensures { Tells (told Amount (at request.now index)) result }
+    ensures { Tells (told Amount (word_at request.now index)) result }
 {
     let n = number(request, index)?;
     match u64::try_from(n) {
@@ -123,7 +123,7 @@ pub fn amount(request: &Request<'_>, index: usize) -> Result<u64, ReadingFault>
 /// A word as a whole number that isn't 0 and has an opposite one, which is the rank of a match.
 pub fn rank(request: &Request<'_>, index: usize) -> Result<i64, ReadingFault>
     requires { index < length request.now }
-    ensures { Tells (told Rank (at request.now index)) result }
+    ensures { Tells (told Rank (word_at request.now index)) result }
 {
     let n = number(request, index)?;
     if n == 0 || n == i64::MIN {
@@ -135,7 +135,7 @@ pub fn rank(request: &Request<'_>, index: usize) -> Result<i64, ReadingFault>
 /// A word as a side, BEFORE or AFTER.
 pub fn side(request: &Request<'_>, index: usize) -> Result<Side, ReadingFault>
     requires { index < length request.now }
-    ensures { Tells (told OnSide (at request.now index)) result }
+    ensures { Tells (told OnSide (word_at request.now index)) result }
 {
     let word = request.word(index);
     if is_word(word, b"before") {
@@ -150,7 +150,7 @@ pub fn side(request: &Request<'_>, index: usize) -> Result<Side, ReadingFault>
 /// A word as an end of a list, LEFT or RIGHT.
 pub fn end(request: &Request<'_>, index: usize) -> Result<ListEnd, ReadingFault>
     requires { index < length request.now }
-    ensures { Tells (told AtEnd (at request.now index)) result }
+    ensures { Tells (told AtEnd (word_at request.now index)) result }
 {
     let word = request.word(index);
     if is_word(word, b"left") {
@@ -186,7 +186,7 @@ fn score_text(text: &[u8]) -> Result<i64, ReadingFault>
 /// A word as a score.
 pub fn score(request: &Request<'_>, index: usize) -> Result<i64, ReadingFault>
     requires { index < length request.now }
-    ensures { Tells (told Score (at request.now index)) result }
+    ensures { Tells (told Score (word_at request.now index)) result }
 {
     score_text(request.word(index))
 }
@@ -215,7 +215,7 @@ fn score_bound(text: &[u8]) -> Result<ScoreBound, ReadingFault>
 /// A word as an end of a range of scores: an infinity, or a score that may stand behind a `(`.
 pub fn bound(request: &Request<'_>, index: usize) -> Result<ScoreBound, ReadingFault>
     requires { index < length request.now }
-    ensures { Tells (told Bound (at request.now index)) result }
+    ensures { Tells (told Bound (word_at request.now index)) result }
 {
     let word = request.word(index);
     if is_word(word, b"-inf") {
@@ -230,7 +230,7 @@ pub fn bound(request: &Request<'_>, index: usize) -> Result<ScoreBound, ReadingF
 /// A word as a whole number from -1,048,576 on, which is how many are picked; below 0 with repeats.
 pub fn picks(request: &Request<'_>, index: usize) -> Result<i64, ReadingFault>
     requires { index < length request.now }
-    ensures { Tells (told Picks (at request.now index)) result }
+    ensures { Tells (told Picks (word_at request.now index)) result }
 {
     let n = number(request, index)?;
     if n >= -1_048_576 {
@@ -242,7 +242,7 @@ pub fn picks(request: &Request<'_>, index: usize) -> Result<i64, ReadingFault>
 /// A word as a whole number above 0, which is how many keys stand behind it.
 pub fn keys(request: &Request<'_>, index: usize) -> Result<usize, ReadingFault>
     requires { index < length request.now }
-    ensures { Tells (told Keys (at request.now index)) result }
+    ensures { Tells (told Keys (word_at request.now index)) result }
 {
     let n = number(request, index)?;
     match usize::try_from(n) {
@@ -254,7 +254,7 @@ pub fn keys(request: &Request<'_>, index: usize) -> Result<usize, ReadingFault>
 /// A word as what is made of scores, SUM, MIN or MAX.
 pub fn aggregate(request: &Request<'_>, index: usize) -> Result<Aggregate, ReadingFault>
     requires { index < length request.now }
-    ensures { Tells (told Aggregated (at request.now index)) result }
+    ensures { Tells (told Aggregated (word_at request.now index)) result }
 {
     let word = request.word(index);
     if is_word(word, b"sum") {

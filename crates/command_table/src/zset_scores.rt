@@ -2,7 +2,7 @@
 
 ghost use Rattle.std.specs.Prelude.{◌≡◌, ◌<◌, ◌≤◌, ◌+◌, ◌-◌, length, drop, false, true, Ok};
 ghost use Rattle.plain_model.specs.ZsetWords.{add_words, clash, options_in_front, scores_read};
-ghost use Rattle.command_table.specs.Readings.{Gathers, Passes, ReadsZset, Tells, at, front_options, scored};
+ghost use Rattle.command_table.specs.Readings.{Gathers, Passes, ReadsZset, Tells, word_at, front_options, scored};
 
 use crate::ReadingFault;
 use crate::kinds::WRONG_NUMBER;
@@ -88,7 +88,7 @@ fn increment<'r>(
     requires from { from < length request.now }
     requires incr { options.incr ≡ true }
     requires allowed { clash options.rules ≡ false }
-    ensures { Tells (scored (at request.now 1) options (drop from request.now)) result }
+    ensures { Tells (scored (word_at request.now 1) options (drop from request.now)) result }
 {
     if request.len() - from != 2 {
         check_scores(request, from)?;
@@ -112,7 +112,7 @@ fn scored<'r>(
 ) -> Result<ZsetCommand<'r>, ReadingFault>
     requires some { 2 ≤ length request.now }
     requires from { from ≤ length request.now }
-    ensures { ReadsZset (scored (at request.now 1) options (drop from request.now)) result }
+    ensures { ReadsZset (scored (word_at request.now 1) options (drop from request.now)) result }
 {
     if clash(options.rules) || from == request.len() {
         check_scores(request, from)?;

@@ -8,7 +8,7 @@ use Rattle.std.proofs.lemmas.Str.Parse.{digit_from_value}
 use Rattle.std.proofs.Math.Nat.{eq_of_mul-eq-mul_right}
 use Rattle.int_text.specs.declared.score.ScoreFault.{ScoreFault}
 use Rattle.int_text.specs.declared.score.ScoreFault.TheVariants.{Malformed, NotWhole, TooLarge}
-use Rattle.int_text.specs.Score.{IsSign, no_sign, plus, minus, Number, IsNumber, IsFraction, no_point, point, IsExponent, no_exponent, exponent, IsWhole, IsInfinityWord, IsInfinity}
+use Rattle.int_text.specs.Score.{IsSign, no_sign, plus, minus, Number, IsNumber, IsFraction, no_point, point, IsExponent, no_exponent, exponent, IsInteger, IsInfinityWord, IsInfinity}
 use Rattle.int_text.specs.Score.{IsScoreText, IsScoreOf}
 use Rattle.int_text.proofs.Numbers.{prefix_one, exponent_stops, fraction_stops, with_point, without_point}
 use Rattle.int_text.proofs.Scores.{IsUnsigned, number_unsigned, word_unsigned}
@@ -77,7 +77,7 @@ score_text_one text x y m n a b =
     let one = sign_one a.sign b.sign a.body b.body x y a.is_sign b.is_sign (number_unsigned a.body m a.is_number) (number_unsigned b.body n b.is_number) (sym a.text_is ∙ b.text_is) in
     (one.0, number_one b.body m n (subst (λ l. IsNumber l m) one.1 a.is_number) b.is_number)
 
-whole_one : (number : Number) (m n : ℕ) → IsWhole number m → IsWhole number n → m ≡ n
+whole_one : (number : Number) (m n : ℕ) → IsInteger number m → IsInteger number n → m ≡ n
 whole_one number m n a b =
     let below = length number.fraction + (if number.divides then number.power else 0) in
     eq_of_mul-eq-mul_right (10 ^ below) (ten_pos below) m n (sym a ∙ b)
@@ -104,13 +104,13 @@ no_infinity text x number s i =
     let one = sign_one s.sign i.sign s.body i.word x i.negative s.is_sign i.is_sign (number_unsigned s.body number s.is_number) (word_unsigned i.word i.is_word) (sym s.text_is ∙ i.text_is) in
     no_word i.word number i.is_word (subst (λ l. IsNumber l number) one.1 s.is_number)
 
-same_whole : (text : List ℕ) (x y : Bool) (a b : Number) (m n : ℕ) → IsScoreText text x a → IsScoreText text y b → IsWhole a m → IsWhole b n → (x ≡ y) × (m ≡ n)
+same_whole : (text : List ℕ) (x y : Bool) (a b : Number) (m n : ℕ) → IsScoreText text x a → IsScoreText text y b → IsInteger a m → IsInteger b n → (x ≡ y) × (m ≡ n)
 same_whole text x y a b m n s t v w =
     let one = score_text_one text x y a b s t in
-    (one.0, whole_one b m n (subst (λ k. IsWhole k m) one.1 v) w)
+    (one.0, whole_one b m n (subst (λ k. IsInteger k m) one.1 v) w)
 
-no_whole : (text : List ℕ) (x y : Bool) (a b : Number) (n : ℕ) → IsScoreText text x a → IsScoreText text y b → ((k : ℕ) → ¬ (IsWhole a k)) → ¬ (IsWhole b n)
-no_whole text x y a b n s t none w = none n (subst (λ k. IsWhole k n) (sym (score_text_one text x y a b s t).1) w)
+no_whole : (text : List ℕ) (x y : Bool) (a b : Number) (n : ℕ) → IsScoreText text x a → IsScoreText text y b → ((k : ℕ) → ¬ (IsInteger a k)) → ¬ (IsInteger b n)
+no_whole text x y a b n s t none w = none n (subst (λ k. IsInteger k n) (sym (score_text_one text x y a b s t).1) w)
 
 pub score_one : (text : List ℕ) (r s : Result ℤ ScoreFault) → IsScoreOf text r → IsScoreOf text s → r ≡ s
 score_one text (Ok y) (Ok z) a b =

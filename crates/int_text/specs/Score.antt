@@ -43,17 +43,17 @@ pub record IsNumber (body : List ℕ) (number : Number) : Type 0 where
 
 -- The value is the number n: the digits, as one number, times the power of ten, over a power for each digit of the
 -- fraction.
-abbrev pub IsWhole : Number → ℕ → Type 0
-IsWhole number n =
+abbrev pub IsInteger : Number → ℕ → Type 0
+IsInteger number n =
     digits_value 10 (number.whole ++ number.fraction) * 10 ^ (if number.divides then 0 else number.power)
     ≡ n * 10 ^ (length number.fraction + (if number.divides then number.power else 0))
 
 -- what is found of a number without a sign
 abbrev pub IsValue : Number → Result ℕ ScoreFault → Type 0
-IsValue number (Ok n) = IsWhole number n × (n ≤ 2 ^ 53)
+IsValue number (Ok n) = IsInteger number n × (n ≤ 2 ^ 53)
 IsValue number (Err Malformed) = ⊥
-IsValue number (Err NotWhole) = (n : ℕ) → ¬ (IsWhole number n)
-IsValue number (Err TooLarge) = (n : ℕ) × IsWhole number n × (2 ^ 53 < n)
+IsValue number (Err NotWhole) = (n : ℕ) → ¬ (IsInteger number n)
+IsValue number (Err TooLarge) = (n : ℕ) × IsInteger number n × (2 ^ 53 < n)
 
 -- A score text is a sign that may stand and a number.
 pub record IsScoreText (text : List ℕ) (negative : Bool) (number : Number) : Type 0 where
@@ -80,15 +80,15 @@ pub record IsInfinity (text : List ℕ) : Type 0 where
 -- whole value above 2^53 in magnitude, or an infinity.
 abbrev pub IsScoreOf : List ℕ → Result ℤ ScoreFault → Type 0
 IsScoreOf text (Ok z) =
-    (negative : Bool) × (number : Number) × (n : ℕ) × IsScoreText text negative number × IsWhole number n × (n ≤ 2 ^ 53)
+    (negative : Bool) × (number : Number) × (n : ℕ) × IsScoreText text negative number × IsInteger number n × (n ≤ 2 ^ 53)
     × (z ≡ (if negative then neg_ℤ (pos n) else pos n))
 IsScoreOf text (Err Malformed) =
     ((negative : Bool) (number : Number) → ¬ (IsScoreText text negative number)) × ¬ (IsInfinity text)
 IsScoreOf text (Err NotWhole) =
-    (negative : Bool) × (number : Number) × IsScoreText text negative number × ((n : ℕ) → ¬ (IsWhole number n))
+    (negative : Bool) × (number : Number) × IsScoreText text negative number × ((n : ℕ) → ¬ (IsInteger number n))
 IsScoreOf text (Err TooLarge) =
     IsInfinity text
-    ⊎ ((negative : Bool) × (number : Number) × (n : ℕ) × IsScoreText text negative number × IsWhole number n
+    ⊎ ((negative : Bool) × (number : Number) × (n : ℕ) × IsScoreText text negative number × IsInteger number n
     × (2 ^ 53 < n))
 
 -- a text has one score, or one fault

@@ -17,20 +17,20 @@ use Rattle.held.specs.Table.{item}
 use Rattle.keyspace.specs.Databases.{Bases, Keyspace, means, table_at}
 use Rattle.keyspace.specs.Sound.{IsArranged}
 use Rattle.keyspace.specs.Scopes.{Scope, one_key, Within}
-use Rattle.keyspace.specs.Values.{value_of, value_refs, value_own, IsWhole, IsLike}
-use Rattle.keyspace.specs.Forms.{AreWhole, Form, Unwritten, Whole, AsAt, HasForm, Forms, Formed}
+use Rattle.keyspace.specs.Values.{value_of, value_refs, value_own, IsWrittenWhole, IsLike}
+use Rattle.keyspace.specs.Forms.{AreWhole, FormRule, Unwritten, Whole, AsAt, HasForm, Forms, Formed}
 
 -- what was whole stays so, and so is what is written
-whole_on : (old new : Bases) (m after : Blocks) → held.Written value_refs IsWhole old new m after → AreWhole old → AreWhole new
+whole_on : (old new : Bases) (m after : Blocks) → held.Written value_refs IsWrittenWhole old new m after → AreWhole old → AreWhole new
 whole_on old new m after written whole db at e found = elim (written db at e found) [
   | inl stayed ↦ whole db at e stayed.stood
   | inr is ↦ is
 ]
 
 -- a whole value is put
-pub put_whole : {E : Type 0} (db : ℕ) (key : List ℕ) (value : Value) → IsWhole value → (old new : Bases) (m after : Blocks) → Within (one_key db key) old new m after → IsArranged new after
+pub put_whole : {E : Type 0} (db : ℕ) (key : List ℕ) (value : Value) → IsWrittenWhole value → (old new : Bases) (m after : Blocks) → Within (one_key db key) old new m after → IsArranged new after
     → (result : Result (Unit {0}) E) → OnOk result (HasOnly new after db key value) → OnOk result (AreWhole old → AreWhole new)
-put_whole db key value is old new m after within arranged (Ok u) only = whole_on old new m after (written_key value_refs IsWhole db key value is old new m after within arranged only)
+put_whole db key value is old new m after within arranged (Ok u) only = whole_on old new m after (written_key value_refs IsWrittenWhole db key value is old new m after within arranged only)
 put_whole db key value is old new m after within arranged (Err e) only = tt
 
 -- where no key is, each is whole
@@ -44,23 +44,23 @@ none_whole bases m arranged empty db at e found =
 -- ---- commands
 
 -- nothing changes
-pub formed_none : {S : Type 0} (blocks : S → Blocks) (form : Form) (keyspace : Keyspace S) → Formed blocks form keyspace keyspace
+pub formed_none : {S : Type 0} (blocks : S → Blocks) (form : FormRule) (keyspace : Keyspace S) → Formed blocks form keyspace keyspace
 formed_none blocks form keyspace = written_none value_refs (HasForm form keyspace.bases (blocks keyspace.store)) keyspace.bases (blocks keyspace.store)
 
 -- no key is written
-pub formed_scope : (form : Form) (scope : Scope) → ((db : ℕ) (key : List ℕ) → scope.writes db key → ⊥) → (old new : Bases) (m after : Blocks) → Within scope old new m after
+pub formed_scope : (form : FormRule) (scope : Scope) → ((db : ℕ) (key : List ℕ) → scope.writes db key → ⊥) → (old new : Bases) (m after : Blocks) → Within scope old new m after
     → Forms form old new m after
 formed_scope form scope none old new m after within = written_within value_refs (HasForm form old m) scope none old new m after within
 
 -- what stands at the one key that may be written has the form
-pub formed_key : (form : Form) (db : ℕ) (key : List ℕ) (old new : Bases) (m after : Blocks) → Within (one_key db key) old new m after → IsArranged new after
+pub formed_key : (form : FormRule) (db : ℕ) (key : List ℕ) (old new : Bases) (m after : Blocks) → Within (one_key db key) old new m after → IsArranged new after
     → AllAt (HasForm form old m) new after db key → Forms form old new m after
 formed_key form db key old new m after within arranged all =
     written_named value_refs (HasForm form old m) (one_key db key) (one_settled db key) old new m after within arranged
     (λ number at e other found bytes named. all at e (subst (λ n. item (table_at new n) at ≡ Some e) named.0 found) (bytes ∙ ap Some named.1))
 
 -- a value is put that has the form
-pub formed_put : {E : Type 0} (form : Form) (db : ℕ) (key : List ℕ) (value : Value) (old new : Bases) (m after : Blocks) → HasForm form old m value
+pub formed_put : {E : Type 0} (form : FormRule) (db : ℕ) (key : List ℕ) (value : Value) (old new : Bases) (m after : Blocks) → HasForm form old m value
     → Within (one_key db key) old new m after → IsArranged new after
     → (result : Result (Unit {0}) E) → OnOk result (HasOnly new after db key value) → OnOk result (Forms form old new m after)
 formed_put form db key value old new m after is within arranged (Ok u) only = written_key value_refs (HasForm form old m) db key value is old new m after within arranged only
@@ -68,14 +68,14 @@ formed_put form db key value old new m after is within arranged (Err e) only = t
 
 -- one value after another is written whole
 pub formed_then : {S : Type 0} (blocks : S → Blocks) (a b c : Keyspace S) → Formed blocks Whole a b → Formed blocks Whole b c → Formed blocks Whole a c
-formed_then blocks a b c p q = written_then value_refs IsWhole a.bases b.bases c.bases (blocks a.store) (blocks b.store) (blocks c.store) p q
+formed_then blocks a b c p q = written_then value_refs IsWrittenWhole a.bases b.bases c.bases (blocks a.store) (blocks b.store) (blocks c.store) p q
 
 -- whatever is answered
-pub formed_ok : {A S E : Type 0} (blocks : S → Blocks) (form : Form) (old new : Keyspace S) (result : Result A E) → Formed blocks form old new → IfOk result (λ reply. Formed blocks form old new)
+pub formed_ok : {A S E : Type 0} (blocks : S → Blocks) (form : FormRule) (old new : Keyspace S) (result : Result A E) → Formed blocks form old new → IfOk result (λ reply. Formed blocks form old new)
 formed_ok blocks form old new (Ok reply) formed = formed
 formed_ok blocks form old new (Err e) formed = tt
 
-pub unformed : {A S E : Type 0} (blocks : S → Blocks) (form : Form) (keyspace : Keyspace S) (result : Result A E) → IfOk result (λ reply. Formed blocks form keyspace keyspace)
+pub unformed : {A S E : Type 0} (blocks : S → Blocks) (form : FormRule) (keyspace : Keyspace S) (result : Result A E) → IfOk result (λ reply. Formed blocks form keyspace keyspace)
 unformed blocks form keyspace result = formed_ok blocks form keyspace keyspace result (formed_none blocks form keyspace)
 
 -- a value is encoded like itself
@@ -90,7 +90,7 @@ formed_moved db key old new m after written number at e found = elim (written nu
 ]
 
 -- a value that was made is put at another key
-pub formed_copied : {E : Type 0} (form : Form) (db : ℕ) (key : List ℕ) (value : Value) (old mid new : Bases) (m own after : Blocks) → HasForm form old m value → Forms form old mid m own
+pub formed_copied : {E : Type 0} (form : FormRule) (db : ℕ) (key : List ℕ) (value : Value) (old mid new : Bases) (m own after : Blocks) → HasForm form old m value → Forms form old mid m own
     → Within (one_key db key) mid new own after → IsArranged new after
     → (result : Result (Unit {0}) E) → OnOk result (HasOnly new after db key value) → OnOk result (Forms form old new m after)
 formed_copied form db key value old mid new m own after is made within arranged (Ok u) only =
@@ -104,7 +104,7 @@ formed_items blocks old new items same db at e found = inl
     (record { stood = ap (λ list. at_item list at) (sym (items db)) ∙ found; bytes = λ r owns. ap (λ s. blocks s r) same; refs = ap (λ s. value_refs (blocks s) e.value) same })
 
 -- and then no key is written
-pub formed_on : {S : Type 0} (blocks : S → Blocks) (form : Form) (scope : Scope) (old mid new : Keyspace S) → ((db : ℕ) (key : List ℕ) → scope.writes db key → ⊥)
+pub formed_on : {S : Type 0} (blocks : S → Blocks) (form : FormRule) (scope : Scope) (old mid new : Keyspace S) → ((db : ℕ) (key : List ℕ) → scope.writes db key → ⊥)
     → Formed blocks form old mid → Within scope mid.bases new.bases (blocks mid.store) (blocks new.store) → Formed blocks form old new
 formed_on blocks form scope old mid new none formed within =
     written_then value_refs (HasForm form old.bases (blocks old.store)) old.bases mid.bases new.bases (blocks old.store) (blocks mid.store) (blocks new.store) formed

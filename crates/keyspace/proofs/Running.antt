@@ -13,7 +13,7 @@ use Rattle.keyspace.specs.Databases.{Keyspace}
 use Rattle.keyspace.specs.Scopes.{Scope, scope_of}
 use Rattle.keyspace.specs.Forms.{Formed, form_of}
 use Rattle.keyspace.specs.Shown.{Shows}
-use Rattle.keyspace.specs.Commands.{Ready, Held, Kept, Runs, sight}
+use Rattle.keyspace.specs.Commands.{Ready, KeepsTo, KeepsOrRefuses, Runs, visible}
 use Rattle.keyspace.proofs.Forming.{unformed}
 use Rattle.blocks.proofs.Serve.{Served-then}
 use Rattle.keyspace.proofs.Serving.{unmoved, further}
@@ -26,17 +26,17 @@ pub same_settings : (bases : Bases) → SameSettings bases bases
 same_settings bases = record { limits = refl; seed = refl; turn = refl }
 
 pub same_held : {S : Type 0} (blocks : S → Blocks) (step : S → S → Type 0) (scope : Scope) (keyspace : Keyspace S) → Sound keyspace.bases (blocks keyspace.store)
-    → Held blocks step scope keyspace keyspace
+    → KeepsTo blocks step scope keyspace keyspace
 same_held blocks step scope keyspace sound = record { sound = sound; served = Served.no_step; settings = same_settings keyspace.bases; within = unmoved scope keyspace.bases (blocks keyspace.store) }
 
 -- nothing is changed
 pub unchanged : {S E : Type 0} (blocks : S → Blocks) (step : S → S → Type 0) (scope : Scope) (keyspace : Keyspace S) (result : Result (List Part) E)
-    → Sound keyspace.bases (blocks keyspace.store) → Kept blocks step scope keyspace keyspace result
+    → Sound keyspace.bases (blocks keyspace.store) → KeepsOrRefuses blocks step scope keyspace keyspace result
 unchanged blocks step scope keyspace (Ok reply) sound = record { refusals = λ refused. refl; held = same_held blocks step scope keyspace sound }
 unchanged blocks step scope keyspace (Err e) sound = record { refusals = tt; held = same_held blocks step scope keyspace sound }
 
 -- one part after another
-pub held_then : {S : Type 0} (blocks : S → Blocks) (step : S → S → Type 0) (scope : Scope) (a b c : Keyspace S) → Held blocks step scope a b → Held blocks step scope b c → Held blocks step scope a c
+pub held_then : {S : Type 0} (blocks : S → Blocks) (step : S → S → Type 0) (scope : Scope) (a b c : Keyspace S) → KeepsTo blocks step scope a b → KeepsTo blocks step scope b c → KeepsTo blocks step scope a c
 held_then blocks step scope a b c p q = record {
   sound = q.sound;
   served = Served-then _ _ _ p.served q.served;
@@ -46,7 +46,7 @@ held_then blocks step scope a b c p q = record {
 
 -- no refusal: what the parts hold is kept
 pub calm : {S E : Type 0} (blocks : S → Blocks) (step : S → S → Type 0) (scope : Scope) (old new : Keyspace S) (result : Result (List Part) E) → IfOk result (λ reply. IsRefusal reply → ⊥)
-    → Held blocks step scope old new → Kept blocks step scope old new result
+    → KeepsTo blocks step scope old new → KeepsOrRefuses blocks step scope old new result
 calm blocks step scope old new (Ok reply) f held = record { refusals = λ refused. absurd (f refused); held = held }
 calm blocks step scope old new (Err e) f held = record { refusals = tt; held = held }
 
@@ -65,16 +65,16 @@ told outcome new (Err e) given = tt
 module _ {S E : Type 0} (blocks : S → Blocks) (step : S → S → Type 0) where
   -- by what the model lets it answer, where the command is this one
   pub ran : (old new : Keyspace S) (at : Ctx) (command same : Command) (result : Result (List Part) E) → command ≡ same
-      → IfOk result (λ reply. may old.bases.seed (sight blocks old at) at.moment same reply (sight blocks new at))
-      → Kept blocks step (scope_of at.db same) old new result → IfOk result (λ reply. Shows blocks old new at same reply)
-      → IfOk result (λ reply. Formed blocks (form_of at.db (sight blocks old at) same) old new) → Runs blocks step old new at command result
+      → IfOk result (λ reply. may old.bases.seed (visible blocks old at) at.moment same reply (visible blocks new at))
+      → KeepsOrRefuses blocks step (scope_of at.db same) old new result → IfOk result (λ reply. Shows blocks old new at same reply)
+      → IfOk result (λ reply. Formed blocks (form_of at.db (visible blocks old at) same) old new) → Runs blocks step old new at command result
   ran old new at command same result is answers kept shows forms =
       subst (λ c. Runs blocks step old new at c result) (sym is) (record { answers = answers; kept = kept; shows = shows; forms = forms })
 
   -- the same of a command that only looked
   pub looked : (keyspace : Keyspace S) (at : Ctx) (command same : Command) (result : Result (List Part) E) → command ≡ same
-      → IfOk result (λ reply. may keyspace.bases.seed (sight blocks keyspace at) at.moment same reply (sight blocks keyspace at))
+      → IfOk result (λ reply. may keyspace.bases.seed (visible blocks keyspace at) at.moment same reply (visible blocks keyspace at))
       → IfOk result (λ reply. Shows blocks keyspace keyspace at same reply) → Ready blocks keyspace at → Runs blocks step keyspace keyspace at command result
   looked keyspace at command same result is answers shows ready =
       ran keyspace keyspace at command same result is answers (unchanged blocks step (scope_of at.db same) keyspace result ready.sound) shows
-      (unformed blocks (form_of at.db (sight blocks keyspace at) same) keyspace result)
+      (unformed blocks (form_of at.db (visible blocks keyspace at) same) keyspace result)

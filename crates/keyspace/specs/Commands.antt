@@ -17,8 +17,8 @@ use Rattle.keyspace.specs.Forms.{Formed, form_of}
 abbrev pub seen : Ctx → Bases → Blocks → World
 seen at bases blocks = live (means at.db bases blocks) at.moment
 
-abbrev pub sight : {S : Type 0} → (S → Blocks) → Keyspace S → Ctx → World
-sight blocks keyspace at = seen at keyspace.bases (blocks keyspace.store)
+abbrev pub visible : {S : Type 0} → (S → Blocks) → Keyspace S → Ctx → World
+visible blocks keyspace at = seen at keyspace.bases (blocks keyspace.store)
 
 -- a command may run: it names one of the 16 databases, and they are sound
 pub record Ready {S : Type 0} (blocks : S → Blocks) (keyspace : Keyspace S) (at : Ctx) : Type 0 where
@@ -27,7 +27,7 @@ pub record Ready {S : Type 0} (blocks : S → Blocks) (keyspace : Keyspace S) (a
 
 -- The keyspace is sound afterwards, also for want of memory, the store was served placings, returns and writes alone,
 -- and nothing changed outside the scope.
-pub record Held {S : Type 0} (blocks : S → Blocks) (step : S → S → Type 0) (scope : Scope) (old new : Keyspace S)
+pub record KeepsTo {S : Type 0} (blocks : S → Blocks) (step : S → S → Type 0) (scope : Scope) (old new : Keyspace S)
     : Type 0 where
   pub sound : Sound new.bases (blocks new.store)
   pub served : Served step old.store new.store
@@ -35,17 +35,17 @@ pub record Held {S : Type 0} (blocks : S → Blocks) (step : S → S → Type 0)
   pub within : Within scope old.bases new.bases (blocks old.store) (blocks new.store)
 
 -- The same, and where the command is refused, keyspace and store stay as they are.
-pub record Kept {S E : Type 0} (blocks : S → Blocks) (step : S → S → Type 0) (scope : Scope) (old new : Keyspace S)
+pub record KeepsOrRefuses {S E : Type 0} (blocks : S → Blocks) (step : S → S → Type 0) (scope : Scope) (old new : Keyspace S)
     (result : Result (List Part) E) : Type 0 where
   pub refusals : IfOk result (λ reply. IsRefusal reply → new ≡ old)
-  pub held : Held blocks step scope old new
+  pub held : KeepsTo blocks step scope old new
 
 -- The command is a step of the model on what the keyspace means, before and after, and what it writes is encoded by its
 -- rule.
 pub record Runs {S E : Type 0} (blocks : S → Blocks) (step : S → S → Type 0) (old new : Keyspace S) (at : Ctx)
     (command : Command) (result : Result (List Part) E) : Type 0 where
   pub answers : IfOk result
-      (λ reply. may old.bases.seed (sight blocks old at) at.moment command reply (sight blocks new at))
-  pub kept : Kept blocks step (scope_of at.db command) old new result
+      (λ reply. may old.bases.seed (visible blocks old at) at.moment command reply (visible blocks new at))
+  pub kept : KeepsOrRefuses blocks step (scope_of at.db command) old new result
   pub shows : IfOk result (λ reply. Shows blocks old new at command reply)
-  pub forms : IfOk result (λ reply. Formed blocks (form_of at.db (sight blocks old at) command) old new)
+  pub forms : IfOk result (λ reply. Formed blocks (form_of at.db (visible blocks old at) command) old new)

@@ -11,7 +11,7 @@ use Rattle.keyspace.specs.declared.value.Value.TheVariants.{Text, Set, Hash, Zse
 use Rattle.keyspace.specs.declared.value.Value.TheVariants as kinds
 use Rattle.keyspace.specs.Values.{Encoding, value_of, encoding_of}
 use Rattle.keyspace.specs.Databases.{Keyspace}
-use Rattle.keyspace.specs.Commands.{sight}
+use Rattle.keyspace.specs.Commands.{visible}
 
 -- the limits that a value was made with, where it keeps them
 abbrev pub limits_of : Value → Option Limits
@@ -38,12 +38,12 @@ pub record Edits {S E : Type 0} (makes : E → E → Shape → Shape → Type 0)
   pub was : Value
   pub now : Value
   pub deadline : Option ℕ
-  pub stands : look (sight blocks old at) key
+  pub stands : look (visible blocks old at) key
       ≡ Some (record { value = value_of (blocks old.store) was; deadline = deadline })
   pub had : HasValue old.bases (blocks old.store) at.db key was
   pub made : makes first last (shape (blocks old.store) was) (shape (blocks new.store) now)
-  pub world : sight blocks new at
-      ≡ put (sight blocks old at) key (record { value = value_of (blocks new.store) now; deadline = deadline })
+  pub world : visible blocks new at
+      ≡ put (visible blocks old at) key (record { value = value_of (blocks new.store) now; deadline = deadline })
   pub only : HasOnly new.bases (blocks new.store) at.db key now
 
 -- A value stands at the key, without a deadline, of this shape at the moment of the edit: it was made of the shape of the
@@ -54,6 +54,6 @@ pub record MakesNew {S E : Type 0} (makes : E → E → Shape → Shape → Type
   pub is : Shape
   pub encoded : encoding_of now ≡ is.encoding
   pub made : makes first last (shape (blocks old.store) fresh) is
-  pub world : sight blocks new at
-      ≡ put (sight blocks old at) key (record { value = is.means; deadline = None })
+  pub world : visible blocks new at
+      ≡ put (visible blocks old at) key (record { value = is.means; deadline = None })
   pub only : HasOnly new.bases (blocks new.store) at.db key now

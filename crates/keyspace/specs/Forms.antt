@@ -40,13 +40,13 @@ use Rattle.held.specs.Calls.{HasValue}
 use Rattle.held.specs.Table.{Element, item}
 use Rattle.held.specs.Written as held
 use Rattle.keyspace.specs.Databases.{Bases, Keyspace, table_at}
-use Rattle.keyspace.specs.Values.{value_refs, encoding_of, OfForm, IsWhole, IsRaw, IsLike}
+use Rattle.keyspace.specs.Values.{value_refs, encoding_of, OfForm, IsWrittenWhole, IsRaw, IsLike}
 use Rattle.keyspace.specs.declared.value.Value.{Value}
 
 -- every value is encoded as one written whole
 abbrev pub AreWhole : Bases → Type 0
 AreWhole bases =
-    (db at : ℕ) (element : Element Value) → item (table_at bases db) at ≡ Some element → IsWhole element.value
+    (db at : ℕ) (element : Element Value) → item (table_at bases db) at ≡ Some element → IsWrittenWhole element.value
 
 -- the form of the list that stands at a key, or of a new one where nothing stands there
 abbrev pub IsFormAt : Bool → Bases → Blocks → ℕ → List ℕ → codec.Form → Type 0
@@ -156,24 +156,24 @@ pub record IsNewZset (score : List ℕ → Option ℤ) (old : Bases) (value : Va
 -- how a value is encoded that a command writes: as one written whole, as one of which a part was changed, as the value
 -- that stood at a key of a database, or as the list, hash, set or sorted set that stood there, or a new one, to which was written; as a
 -- new set or sorted set; as any stream; or in either of two ways; or no value is written
-pub data Form : Type 0 where
-  Unwritten : Form
-  Whole : Form
-  Raw : Form
-  AsAt : ℕ → List ℕ → Form
-  Risen : Bool → ℕ → ℕ → List ℕ → Form
-  HashRisen : Bool → Fields → List (List ℕ × List ℕ) → ℕ → List ℕ → Form
-  SetRisen : Bool → Members → List (List ℕ) → ℕ → List ℕ → Form
-  ZsetRisen : Bool → ScoreRules → Scores → List Scored → ℕ → List ℕ → Form
-  NewSet : (List ℕ → Bool) → Form
-  NewZset : (List ℕ → Option ℤ) → Form
-  Log : Form
-  Either : Form → Form → Form
+pub data FormRule : Type 0 where
+  Unwritten : FormRule
+  Whole : FormRule
+  Raw : FormRule
+  AsAt : ℕ → List ℕ → FormRule
+  Risen : Bool → ℕ → ℕ → List ℕ → FormRule
+  HashRisen : Bool → Fields → List (List ℕ × List ℕ) → ℕ → List ℕ → FormRule
+  SetRisen : Bool → Members → List (List ℕ) → ℕ → List ℕ → FormRule
+  ZsetRisen : Bool → ScoreRules → Scores → List Scored → ℕ → List ℕ → FormRule
+  NewSet : (List ℕ → Bool) → FormRule
+  NewZset : (List ℕ → Option ℤ) → FormRule
+  Log : FormRule
+  Either : FormRule → FormRule → FormRule
 
 -- a value has a form, where these databases stood before
-abbrev pub HasForm : Form → Bases → Blocks → Value → Type 0
+abbrev pub HasForm : FormRule → Bases → Blocks → Value → Type 0
 HasForm Unwritten old m value = ⊥
-HasForm Whole old m value = IsWhole value
+HasForm Whole old m value = IsWrittenWhole value
 HasForm Raw old m value = IsRaw value
 HasForm (AsAt db key) old m value = (source : Value) × HasValue old m db key source × IsLike source value
 HasForm (Risen there long db key) old m value = IsRisenAt there long db key old m value
@@ -186,15 +186,15 @@ HasForm Log old m value = encoding_of value ≡ OfForm forms.Stream
 HasForm (Either form other) old m value = HasForm form old m value ⊎ HasForm other old m value
 
 -- Each element stood there before, with its key and its value as they were, or its value has this form.
-abbrev pub Forms : Form → Bases → Bases → Blocks → Blocks → Type 0
+abbrev pub Forms : FormRule → Bases → Bases → Blocks → Blocks → Type 0
 Forms form old new m after = held.Written value_refs (HasForm form old m) old new m after
 
 -- The same from one keyspace to another.
-abbrev pub Formed : {S : Type 0} → (S → Blocks) → Form → Keyspace S → Keyspace S → Type 0
+abbrev pub Formed : {S : Type 0} → (S → Blocks) → FormRule → Keyspace S → Keyspace S → Type 0
 Formed blocks form old new = Forms form old.bases new.bases (blocks old.store) (blocks new.store)
 
 -- APPEND to a key that is there and SETRANGE change a part; all others that write a string write it whole
-abbrev pub string_form : World → StringCommand → Form
+abbrev pub string_form : World → StringCommand → FormRule
 string_form world (strings.Set key value options) = Whole
 string_form world (strings.SetNx key value) = Whole
 string_form world (strings.SetEx key n value) = Whole
@@ -219,26 +219,26 @@ abbrev pub list_at : World → List ℕ → Elements
 list_at world key = list_of (look world key)
 
 -- the list at a key, or a new one, becomes this one by elements that are written
-abbrev pub risen_to : ℕ → World → List ℕ → Elements → Form
+abbrev pub risen_to : ℕ → World → List ℕ → Elements → FormRule
 risen_to db world key list = Risen (is_some (look world key)) (pack_len list) db key
 
-abbrev pub set_to : ℕ → World → List ℕ → List ℕ → Option ℕ → Form
+abbrev pub set_to : ℕ → World → List ℕ → List ℕ → Option ℕ → FormRule
 set_to db world key element None = Unwritten
 set_to db world key element (Some n) = risen_to db world key (replaced (list_at world key) n element)
 
-abbrev pub inserted_to : ℕ → World → List ℕ → Option Elements → Form
+abbrev pub inserted_to : ℕ → World → List ℕ → Option Elements → FormRule
 inserted_to db world key None = Unwritten
 inserted_to db world key (Some list) = risen_to db world key list
 
 -- an element that was taken off a list is written to another one, or to the same one
-abbrev pub moved_to : ℕ → World → List ℕ → List ℕ → ListEnd → ListEnd → Elements → Form
+abbrev pub moved_to : ℕ → World → List ℕ → List ℕ → ListEnd → ListEnd → Elements → FormRule
 moved_to db world from to end other [] = Unwritten
 moved_to db world from to end other (element ∷ met) =
     let rest = if bytes_eq from to then from_end end met else list_at world to in
     Either (AsAt db from) (risen_to db world to (added other rest (element ∷ [])))
 
 -- what is put into a list is written element by element, and what is left of one keeps its form
-abbrev pub list_form : ℕ → World → ListCommand → Form
+abbrev pub list_form : ℕ → World → ListCommand → FormRule
 list_form db world (lists.LPush key elements) = risen_to db world key (added Head (list_at world key) elements)
 list_form db world (lists.RPush key elements) = risen_to db world key (added Tail (list_at world key) elements)
 list_form db world (lists.LPushX key elements) = risen_to db world key (added Head (list_at world key) elements)
@@ -265,15 +265,15 @@ abbrev pub hash_at : World → List ℕ → Fields
 hash_at world key = hash_of (look world key)
 
 -- the hash at a key, or a new one, becomes another by values that are set
-abbrev pub hash_to : ℕ → World → List ℕ → List (List ℕ × List ℕ) → Form
+abbrev pub hash_to : ℕ → World → List ℕ → List (List ℕ × List ℕ) → FormRule
 hash_to db world key pairs = HashRisen (is_some (look world key)) (hash_at world key) pairs db key
 
-abbrev pub counted_to : ℕ → World → List ℕ → List ℕ → ℤ → Option ℤ → Form
+abbrev pub counted_to : ℕ → World → List ℕ → List ℕ → ℤ → Option ℤ → FormRule
 counted_to db world key field by None = Unwritten
 counted_to db world key field by (Some n) = hash_to db world key ((field, canonical (n +ℤ by)) ∷ [])
 
 -- what is set in a hash is written field by field, and what is left of one keeps its form
-abbrev pub hash_form : ℕ → World → HashCommand → Form
+abbrev pub hash_form : ℕ → World → HashCommand → FormRule
 hash_form db world (hashes.HSet key pairs) = hash_to db world key pairs
 hash_form db world (hashes.HMSet key pairs) = hash_to db world key pairs
 hash_form db world (hashes.HSetNx key field value) = hash_to db world key ((field, value) ∷ [])
@@ -291,11 +291,11 @@ abbrev pub set_at : World → List ℕ → Members
 set_at world key = set_of (look world key)
 
 -- the set at a key, or a new one, becomes another by members that are added
-abbrev pub set_with : ℕ → World → List ℕ → List (List ℕ) → Form
+abbrev pub set_with : ℕ → World → List ℕ → List (List ℕ) → FormRule
 set_with db world key others = SetRisen (is_some (look world key)) (set_at world key) others db key
 
 -- what is added to a set is written member by member, and what is left of one keeps its form
-abbrev pub set_form : ℕ → World → SetCommand → Form
+abbrev pub set_form : ℕ → World → SetCommand → FormRule
 set_form db world (sets.SAdd key others) = set_with db world key others
 set_form db world (sets.SRem key others) = AsAt db key
 set_form db world (sets.SMove from to member) = Either (AsAt db from) (set_with db world to (member ∷ []))
@@ -312,11 +312,11 @@ abbrev pub zset_at : World → List ℕ → Scores
 zset_at world key = zset_of (look world key)
 
 -- the sorted set at a key, or a new one, becomes another by scores that are written
-abbrev pub zset_to : ℕ → World → List ℕ → ScoreRules → List Scored → Form
+abbrev pub zset_to : ℕ → World → List ℕ → ScoreRules → List Scored → FormRule
 zset_to db world key rules pairs = ZsetRisen (is_some (look world key)) rules (zset_at world key) pairs db key
 
 -- what is written to a sorted set is written score by score, and what is left of one keeps its form
-abbrev pub zset_form : ℕ → World → ZsetCommand → Form
+abbrev pub zset_form : ℕ → World → ZsetCommand → FormRule
 zset_form db world (zsets.ZAdd key rules ch pairs) = zset_to db world key rules pairs
 zset_form db world (zsets.ZIncr key rules by member) =
     zset_to db world key rules ((or_zero (get (zset_at world key) member) +ℤ by, member) ∷ [])
@@ -329,7 +329,7 @@ zset_form db world (zsets.ZJoinStore join to keys how) =
 zset_form db world other = Unwritten
 
 -- what is written to a stream is encoded as any stream
-abbrev pub stream_form : StreamCommand → Form
+abbrev pub stream_form : StreamCommand → FormRule
 stream_form (streams.XLen key) = Unwritten
 stream_form (streams.XRange key from to order limit) = Unwritten
 stream_form (streams.XRead limit asked) = Unwritten
@@ -337,7 +337,7 @@ stream_form (streams.XPending key name) = Unwritten
 stream_form other = Log
 
 -- what is copied or moved is encoded as before
-abbrev pub key_form : ℕ → KeyCommand → Form
+abbrev pub key_form : ℕ → KeyCommand → FormRule
 key_form db (keys.Rename from to) = AsAt db from
 key_form db (keys.RenameNx from to) = AsAt db from
 key_form db (keys.Copy from to options) = AsAt db from
@@ -345,7 +345,7 @@ key_form db (keys.MoveKey key number) = AsAt db key
 key_form db other = Unwritten
 
 -- the form of what a command writes in a world, where this database is selected
-abbrev pub form_of : ℕ → World → Command → Form
+abbrev pub form_of : ℕ → World → Command → FormRule
 form_of db world (Strings command) = string_form world command
 form_of db world (Lists command) = list_form db world command
 form_of db world (Sets command) = set_form db world command

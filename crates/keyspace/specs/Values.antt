@@ -115,8 +115,8 @@ IsEncodedAs blocks (Zset b) name = name ≡ form_text (zset.form_of b.value)
 IsEncodedAs blocks (kinds.Stream b) name = name ≡ form_text forms.Stream
 
 -- it is encoded as a string written whole: no part of it was changed
-abbrev pub IsWhole : Value → Type 0
-IsWhole value = encoding_of value ≡ OfText false
+abbrev pub IsWrittenWhole : Value → Type 0
+IsWrittenWhole value = encoding_of value ≡ OfText false
 
 -- it is a string that was made raw by a change of a part
 abbrev pub IsRaw : Value → Type 0

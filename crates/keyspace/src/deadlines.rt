@@ -5,7 +5,7 @@ ghost use Rattle.held.specs.Calls.{IsDeadline};
 ghost use Rattle.plain_world.specs.Worlds.{Entry, look, put, in_time, deadline_of};
 ghost use Rattle.plain_model.specs.Deadlines as model;
 ghost use Rattle.keyspace.specs.Scopes.{no_key};
-ghost use Rattle.keyspace.specs.Commands.{Ready, Held, sight};
+ghost use Rattle.keyspace.specs.Commands.{Ready, KeepsTo, visible};
 ghost use Rattle.keyspace.specs.Seeking.{Sees};
 
 use crate::Keyspace;
@@ -24,7 +24,7 @@ pub fn seek<B: BlockStore>(keyspace: &Keyspace<B>, at: &Ctx, key: &[u8]) -> Soug
 /// The deadline in milliseconds of a key that is there at the moment. `None` where it has none, or isn't there.
 pub fn deadline_at<B: BlockStore>(keyspace: &Keyspace<B>, at: &Ctx, key: &[u8]) -> Option<u64>
     requires ready { Ready B.blocks keyspace.now at.now }
-    ensures value { result ≡ deadline_of (look (sight B.blocks keyspace.now at.now) key.now) }
+    ensures value { result ≡ deadline_of (look (visible B.blocks keyspace.now at.now) key.now) }
     ensures latest { IsDeadline result }
 {
     match keyspace.deadline(at.db, key) {
@@ -51,9 +51,9 @@ fn retime<B: BlockStore>(
     requires latest { IsDeadline to }
     requires late { in_time at.now.moment to ≡ true }
     ensures world { OnOk result
-        ((entry : Entry) → look (sight B.blocks keyspace.old at.now) key.now ≡ Some entry
-        → sight B.blocks keyspace.new at.now ≡ put (sight B.blocks keyspace.old at.now) key.now (record { value = entry.value; deadline = to })) }
-    ensures held { Held B.blocks B.step (no_key at.now.db) keyspace.old keyspace.new }
+        ((entry : Entry) → look (visible B.blocks keyspace.old at.now) key.now ≡ Some entry
+        → visible B.blocks keyspace.new at.now ≡ put (visible B.blocks keyspace.old at.now) key.now (record { value = entry.value; deadline = to })) }
+    ensures held { KeepsTo B.blocks B.step (no_key at.now.db) keyspace.old keyspace.new }
     ensures err { OnErr result ((keyspace.new.bases ≡ keyspace.old.bases) × (keyspace.new.store ≡ keyspace.old.store)) }
 {
     match keyspace.set_sought(at.db, key, found, to) {
@@ -74,8 +74,8 @@ pub fn expire_sought<B: BlockStore>(
 ) -> Result<(), Memory>
     requires ready { Ready B.blocks keyspace.old at.now }
     requires sees { Sees B.blocks keyspace.old at.now key.now found }
-    ensures world { OnOk result (sight B.blocks keyspace.new at.now ≡ model.expire (sight B.blocks keyspace.old at.now) at.now.moment key.now due (look (sight B.blocks keyspace.old at.now) key.now)) }
-    ensures held { Held B.blocks B.step (no_key at.now.db) keyspace.old keyspace.new }
+    ensures world { OnOk result (visible B.blocks keyspace.new at.now ≡ model.expire (visible B.blocks keyspace.old at.now) at.now.moment key.now due (look (visible B.blocks keyspace.old at.now) key.now)) }
+    ensures held { KeepsTo B.blocks B.step (no_key at.now.db) keyspace.old keyspace.new }
     ensures err { OnErr result ((keyspace.new.bases ≡ keyspace.old.bases) × (keyspace.new.store ≡ keyspace.old.store)) }
 {
     match found.there {
@@ -100,9 +100,9 @@ pub fn persist_sought<B: BlockStore>(
 ) -> Result<bool, Memory>
     requires ready { Ready B.blocks keyspace.old at.now }
     requires sees { Sees B.blocks keyspace.old at.now key.now found }
-    ensures answer { IfOk result (λ had. had ≡ is_some (deadline_of (look (sight B.blocks keyspace.old at.now) key.now))) }
-    ensures world { OnOk result (sight B.blocks keyspace.new at.now ≡ model.persist (sight B.blocks keyspace.old at.now) key.now (look (sight B.blocks keyspace.old at.now) key.now)) }
-    ensures held { Held B.blocks B.step (no_key at.now.db) keyspace.old keyspace.new }
+    ensures answer { IfOk result (λ had. had ≡ is_some (deadline_of (look (visible B.blocks keyspace.old at.now) key.now))) }
+    ensures world { OnOk result (visible B.blocks keyspace.new at.now ≡ model.persist (visible B.blocks keyspace.old at.now) key.now (look (visible B.blocks keyspace.old at.now) key.now)) }
+    ensures held { KeepsTo B.blocks B.step (no_key at.now.db) keyspace.old keyspace.new }
     ensures err { OnErr result ((keyspace.new.bases ≡ keyspace.old.bases) × (keyspace.new.store ≡ keyspace.old.store)) }
 {
     match found.there {

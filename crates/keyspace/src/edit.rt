@@ -9,7 +9,7 @@ ghost use Rattle.held.specs.Calls.{AllAt, StandsAt, Seeks};
 ghost use Rattle.rehash_dict.specs.Keyed.{hash_of};
 ghost use Rattle.keyspace.specs.Values.{value_of, value_refs, IsSound};
 ghost use Rattle.keyspace.specs.Scopes.{one_key, no_key};
-ghost use Rattle.keyspace.specs.Commands.{Ready, Held, sight};
+ghost use Rattle.keyspace.specs.Commands.{Ready, KeepsTo, visible};
 ghost use Rattle.keyspace.specs.Edits.{Shape, shape, Edits, MakesNew};
 
 use crate::{Keyspace, Lifted, Value};
@@ -47,9 +47,9 @@ pub fn edit_there<E: Edit, B: BlockStore>(
 ) -> Result<(), Memory>
     requires ready { Ready B.blocks keyspace.old at.now }
     requires there { StandsAt keyspace.old.bases (B.blocks keyspace.old.store) at.now.db key.now at.now.moment item }
-    requires takes { (entry : Entry) → look (sight B.blocks keyspace.old at.now) key.now ≡ Some entry → E.takes edit.old entry.value }
+    requires takes { (entry : Entry) → look (visible B.blocks keyspace.old at.now) key.now ≡ Some entry → E.takes edit.old entry.value }
     ensures edits { OnOk result (Edits E.makes edit.old edit.new B.blocks keyspace.old keyspace.new at.now key.now) }
-    ensures held { Held B.blocks B.step (one_key at.now.db key.now) keyspace.old keyspace.new }
+    ensures held { KeepsTo B.blocks B.step (one_key at.now.db key.now) keyspace.old keyspace.new }
 {
     // the item number tells the key
     let _ = key;
@@ -79,7 +79,7 @@ pub fn edit_new<E: Edit, B: BlockStore>(
     requires sound { IsSound keyspace.old.bases.limits keyspace.old.bases.seed (B.blocks keyspace.old.store) fresh }
     requires takes { E.takes edit.old (value_of (B.blocks keyspace.old.store) fresh) }
     ensures made { OnOk result (MakesNew E.makes edit.old edit.new B.blocks keyspace.old keyspace.new at.now key.now fresh) }
-    ensures held { Held B.blocks B.step (one_key at.now.db key.now) keyspace.old keyspace.new }
+    ensures held { KeepsTo B.blocks B.step (one_key at.now.db key.now) keyspace.old keyspace.new }
 {
     let mut value = fresh;
     match edit.edit(&mut value, &mut keyspace.store) {
@@ -95,9 +95,9 @@ pub fn edit_new<E: Edit, B: BlockStore>(
 pub fn drop_sought<B: BlockStore>(keyspace: &mut Keyspace<B>, at: &Ctx, key: &[u8], hash: u64)
     requires ready { Ready B.blocks keyspace.old at.now }
     requires hashed { hash ≡ hash_of keyspace.old.bases.seed key.now }
-    ensures world { sight B.blocks keyspace.new at.now ≡ remove (sight B.blocks keyspace.old at.now) key.now }
+    ensures world { visible B.blocks keyspace.new at.now ≡ remove (visible B.blocks keyspace.old at.now) key.now }
     ensures gone { AllAt (λ value. ⊥) keyspace.new.bases (B.blocks keyspace.new.store) at.now.db key.now }
-    ensures held { Held B.blocks B.step (no_key at.now.db) keyspace.old keyspace.new }
+    ensures held { KeepsTo B.blocks B.step (no_key at.now.db) keyspace.old keyspace.new }
 {
     let _ = keyspace.drop_hashed(at.db, hash, key);
 }

@@ -12,7 +12,7 @@ use Rattle.int_text.specs.declared.score.ScoreFault.{ScoreFault}
 use Rattle.int_text.specs.declared.score.ScoreFault.TheVariants.{Malformed, NotWhole, TooLarge}
 use Rattle.int_text.specs.Digits.{StopsDigits}
 use Rattle.int_text.specs.Parts.{IsTailRead, IsNumberRead, IsSignedRead}
-use Rattle.int_text.specs.Score.{IsSign, no_sign, plus, minus, Number, IsExponent, no_exponent, exponent, IsWhole, IsValue, IsInfinityWord, IsScoreOf}
+use Rattle.int_text.specs.Score.{IsSign, no_sign, plus, minus, Number, IsExponent, no_exponent, exponent, IsInteger, IsValue, IsInfinityWord, IsScoreOf}
 use Rattle.int_text.proofs.Numbers.{from_point, from_plain}
 use Rattle.int_text.proofs.Ones.{score_one}
 use Rattle.int_text.proofs.Scores.{IsUnsigned, IsOnlyBody, behind_minus, behind_plus, behind_none, from_signed}
@@ -141,7 +141,7 @@ value_test number over under o u true small e f =
     let parts = div-add-mod over under in
     let turned : under * (over / under) ≡ over / under * under = omega arith in
     let times : over ≡ over / under * under = sym parts ∙ ap (λ r. under * (over / under) + r) none ∙ omega (arith, turned) in
-    let is : IsWhole number (over / under) = sym o ∙ times ∙ ap (λ k. over / under * k) u in
+    let is : IsInteger number (over / under) = sym o ∙ times ∙ ap (λ k. over / under * k) u in
     elim small as (λ b. nat_le (over / under) (2 ^ 53) ≡ b → IsValue number (if b then Ok (over / under) else Err TooLarge)) [
       | true ↦ λ g. (is, leb-true (over / under) (2 ^ 53) g)
       | false ↦ λ g. (over / under, is, not_le (over / under) (2 ^ 53) g)

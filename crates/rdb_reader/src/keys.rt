@@ -22,7 +22,7 @@ use string_object::Text;
 // Makes a string of the file over the blocks of a store. For want of memory no block changes.
 fn make_text<B: BlockStore>(store: &mut B, value: &Chunk<'_>) -> Result<Value, Memory>
     ensures means { IfOk result (λ made. values.value_of (B.blocks store.new) made ≡ Str (text_of value.now)) }
-    ensures whole { IfOk result (λ made. values.IsWhole made) }
+    ensures whole { IfOk result (λ made. values.IsWrittenWhole made) }
     ensures changes { IfOk result (λ made. Changes (B.blocks store.old) (B.blocks store.new) [] (values.value_refs (B.blocks store.new) made)) }
     ensures sound { IfOk result (λ made. (limits : Limits) (seed : ℕ) → values.IsSound limits seed (B.blocks store.new) made) }
     ensures served { Served B.step store.old store.new }

@@ -25,7 +25,7 @@ use Rattle.keyspace.specs.Values.{value_of, value_refs, value_own}
 use Rattle.keyspace.specs.Databases.{Bases, Keyspace, means}
 use Rattle.keyspace.specs.Sound.{Sound}
 use Rattle.keyspace.specs.Scopes.{Scope, no_key, Within, AreSettled, scope_of}
-use Rattle.keyspace.specs.Commands.{sight, Held, Runs}
+use Rattle.keyspace.specs.Commands.{visible, KeepsTo, Runs}
 use Rattle.keyspace.specs.Forms.{form_of}
 use Rattle.keyspace.proofs.Forming.{formed_on}
 use Rattle.keyspace.proofs.Running.{held_then}
@@ -131,7 +131,7 @@ shows_on blocks old mid new at same (Connection command) none reply s = connecti
 -- ---- a command ran, and then its tables were settled
 
 module _ {S E : Type 0} (blocks : S → Blocks) (step : S → S → Type 0) (old mid new : Keyspace S) (at : Ctx) (command : Command) (reply : List Part) (calm : IsRefusal reply → ⊥)
-    (ran : Runs {E = E} blocks step old mid at command (Ok reply)) (settled : Held blocks step (shrinking (touched_of at.db command)) mid new) where
+    (ran : Runs {E = E} blocks step old mid at command (Ok reply)) (settled : KeepsTo blocks step (shrinking (touched_of at.db command)) mid new) where
   -- a command and the settling of its tables are together within the command's scope
   both_within : Within (scope_of at.db command) old.bases new.bases (blocks old.store) (blocks new.store)
   both_within = further (scope_of at.db command) old.bases mid.bases new.bases (blocks old.store) (blocks mid.store) (blocks new.store) ran.kept.held.within
@@ -139,7 +139,7 @@ module _ {S E : Type 0} (blocks : S → Blocks) (step : S → S → Type 0) (old
       new.bases (blocks mid.store) (blocks new.store) settled.within)
 
   -- after a command and the settling of its tables the keyspace is sound, changed within the command's scope
-  held_both : Held blocks step (scope_of at.db command) old new
+  held_both : KeepsTo blocks step (scope_of at.db command) old new
   held_both = held_then blocks step (scope_of at.db command) old mid new ran.kept.held
       (record {
         sound = settled.sound;
@@ -153,8 +153,8 @@ module _ {S E : Type 0} (blocks : S → Blocks) (step : S → S → Type 0) (old
   pub settled_runs : IsCommon command → ((number : ℕ) → means number new.bases (blocks new.store) ≡ means number mid.bases (blocks mid.store)) → Runs {E = E} blocks step old new at command (Ok reply)
   settled_runs none world = record {
     shows = shows_on blocks old mid new at (world at.db) command none reply ran.shows;
-    forms = formed_on blocks (form_of at.db (sight blocks old at) command) (shrinking (touched_of at.db command)) old mid new (λ db key no. no) ran.forms settled.within;
-    answers = subst (λ w. may old.bases.seed (sight blocks old at) at.moment command reply (live w at.moment)) (sym (world at.db)) ran.answers;
+    forms = formed_on blocks (form_of at.db (visible blocks old at) command) (shrinking (touched_of at.db command)) old mid new (λ db key no. no) ran.forms settled.within;
+    answers = subst (λ w. may old.bases.seed (visible blocks old at) at.moment command reply (live w at.moment)) (sym (world at.db)) ran.answers;
     kept = record { refusals = λ refused. absurd (calm refused); held = held_both };
   }
 
@@ -176,7 +176,7 @@ module _ {S E : Type 0} (blocks : S → Blocks) (step : S → S → Type 0) (old
 
 module _ {S : Type 0} (blocks : S → Blocks) (step : S → S → Type 0) where
   -- those of one of these databases
-  pub held_shrinks : (touched : Touched) (db : ℕ) → covers touched db → (old new : Keyspace S) → Held blocks step (no_key db) old new → Held blocks step (shrinking touched) old new
+  pub held_shrinks : (touched : Touched) (db : ℕ) → covers touched db → (old new : Keyspace S) → KeepsTo blocks step (no_key db) old new → KeepsTo blocks step (shrinking touched) old new
   held_shrinks touched db here old new held = record {
     sound = held.sound;
     served = held.served;
@@ -186,7 +186,7 @@ module _ {S : Type 0} (blocks : S → Blocks) (step : S → S → Type 0) where
   }
 
   -- what is settled stays settled while another database's tables are
-  pub settled_then : (mid new : Keyspace S) (db other : ℕ) → AreSettled mid.bases db → Held blocks step (no_key other) mid new → AreSettled new.bases other → AreSettled new.bases db
+  pub settled_then : (mid new : Keyspace S) (db other : ℕ) → AreSettled mid.bases db → KeepsTo blocks step (no_key other) mid new → AreSettled new.bases other → AreSettled new.bases db
   settled_then mid new db other first held last = elim (cases_eq db other) [
     | inl same ↦ subst (AreSettled new.bases) (sym same) last
     | inr apart ↦ (let kept : base_at new.bases db ≡ base_at mid.bases db = held.within.same db (λ is. apart is) in
@@ -197,7 +197,7 @@ module _ {S : Type 0} (blocks : S → Blocks) (step : S → S → Type 0) where
   ]
 
   -- all below a number are settled, and the database of that number too
-  pub below_settled : (mid new : Keyspace S) (db : ℕ) → ((number : ℕ) → number < db → AreSettled mid.bases number) → Held blocks step (no_key db) mid new → AreSettled new.bases db
+  pub below_settled : (mid new : Keyspace S) (db : ℕ) → ((number : ℕ) → number < db → AreSettled mid.bases number) → KeepsTo blocks step (no_key db) mid new → AreSettled new.bases db
       → (number : ℕ) → number < db + 1 → AreSettled new.bases number
   below_settled mid new db first held last number below = elim (cases_eq number db) [
     | inl here ↦ subst (AreSettled new.bases) (sym here) last

@@ -21,7 +21,7 @@ use Rattle.plain_world.specs.declared.reply.Part.{Part}
 use Rattle.plain_world.specs.declared.reply.Part.TheVariants.{Refused, Simple}
 use Rattle.keyspace.specs.Databases.{Bases, means}
 use Rattle.keyspace.specs.Databases.{Keyspace}
-use Rattle.keyspace.specs.Commands.{sight, Ready, Runs}
+use Rattle.keyspace.specs.Commands.{visible, Ready, Runs}
 use Rattle.keyspace.specs.Forms.{Unwritten, Formed}
 use Rattle.keyspace.proofs.Forming.{formed_none, formed_items}
 use Rattle.held.proofs.Rehashing.{keys_stay}
@@ -37,7 +37,7 @@ use Rattle.redis_core.specs.Touched.{may_meant, scope_meant, IsCommon, Settles}
 use Rattle.redis_core.specs.Walking.{connection_tends, Tends, IsDefragged}
 use Rattle.redis_core.proofs.Settled.{settles_none, settles_means}
 use Rattle.redis_core.proofs.Walks.{ends_once, table_of_slabs}
-use Rattle.redis_core.specs.declared.answering.Answered.{Answered}
+use Rattle.redis_core.specs.declared.answering.Executed.{Executed}
 use Rattle.redis_core.specs.Engines.{State, keyspace_of, world_of, Keeps, Executes, Stands, Answers, answered_with}
 
 -- what is told of a line that is known
@@ -103,7 +103,7 @@ module _ {S E : Type 0} (blocks : S → Blocks) (heap : S → Heap) (step_of : S
   }
 
   -- nothing changed
-  pub stays : (keyspace : Keyspace S) (result : Result Answered E) → Sound keyspace.bases (blocks keyspace.store) → IfOk result (λ answered. answered.selected < 16)
+  pub stays : (keyspace : Keyspace S) (result : Result Executed E) → Sound keyspace.bases (blocks keyspace.store) → IfOk result (λ answered. answered.selected < 16)
       → IfOk result (λ answered. IsRefusal answered.reply → answered.selected ≡ at.db) → Stands blocks keyspace keyspace at result
   stays keyspace (Ok answered) sound within same = record { within = within; refused = λ r. (refl, same r); sound = sound; settings = same_settings keyspace.bases }
   stays keyspace (Err e) sound within same = record { within = tt; refused = tt; sound = sound; settings = same_settings keyspace.bases }
@@ -139,7 +139,7 @@ module _ {S E : Type 0} (blocks : S → Blocks) (heap : S → Heap) (step_of : S
       })
 
   -- a command that is known
-  known_answers : {old new : Keyspace S} {after : Option Walk} {result : Result Answered E} (command same : Command) → command ≡ same
+  known_answers : {old new : Keyspace S} {after : Option Walk} {result : Result Executed E} (command same : Command) → command ≡ same
       → Answers blocks heap step_of old new walk after at (Ok same) result → Answers blocks heap step_of old new walk after at (Ok command) result
   known_answers {old} {new} {after} {result} command same is r = subst (λ c. Answers blocks heap step_of old new walk after at (Ok c) result) (sym is) r
 
@@ -248,7 +248,7 @@ observed_served step_of engine inside last e = subst (Served step_of engine.stor
 
 module _ {S : Type 0} (blocks : S → Blocks) (heap : S → Heap) (step_of : S → S → Type 0) where
   -- a reply that came says the same whatever else might have come
-  came_alone : {E : Type 0} (old new : Keyspace S) (before after : Option Walk) (at : Ctx) (words : Words) (answered : Answered)
+  came_alone : {E : Type 0} (old new : Keyspace S) (before after : Option Walk) (at : Ctx) (words : Words) (answered : Executed)
       → Answers {E = E} blocks heap step_of old new before after at (meant words) (Ok answered)
       → Answers {E = ⊥} blocks heap step_of old new before after at (meant words) (Ok (record { reply = answered.reply; selected = answered.selected; quit = asks_to_quit words }))
   came_alone old new before after at words answered a = record {
@@ -264,7 +264,7 @@ module _ {S : Type 0} (blocks : S → Blocks) (heap : S → Heap) (step_of : S �
   }
 
   -- an engine answers as its keyspace does, at the moment that it used
-  pub executes : {E : Type 0} (engine inside : State S) (moment : ℕ) (words : Words) (answered : Answered) (bases : Bases) (store : S) (walk : Option Walk)
+  pub executes : {E : Type 0} (engine inside : State S) (moment : ℕ) (words : Words) (answered : Executed) (bases : Bases) (store : S) (walk : Option Walk)
       → inside ≡ record engine { last = max engine.last moment } → inside.is_spent ≡ false
       → Answers {E = E} blocks heap step_of (record { bases = inside.bases; store = inside.store }) (record { bases = bases; store = store }) inside.walk walk
       (record { db = inside.selected; moment = inside.last }) (meant words) (Ok answered)

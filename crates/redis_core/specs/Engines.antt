@@ -11,14 +11,14 @@ use Rattle.plain_model.specs.Meant as meaning
 use Rattle.plain_model.specs.declared.command.Command.{Command}
 use Rattle.plain_model.specs.declared.connection.ConnectionCommand.{ConnectionCommand}
 use Rattle.plain_model.specs.declared.connection.ConnectionCommand.TheVariants as connection
-use Rattle.redis_core.specs.declared.answering.Answered.{Answered}
+use Rattle.redis_core.specs.declared.answering.Executed.{Executed}
 use Rattle.plain_model.specs.declared.ctx.Ctx.{Ctx}
 use Rattle.plain_world.specs.declared.refusal.Refusal.{Refusal}
 use Rattle.plain_world.specs.declared.reply.Part.{Part}
 use Rattle.keyspace.specs.Databases.{Bases, means, SameSettings}
 use Rattle.keyspace.specs.Sound.{Sound}
 use Rattle.keyspace.specs.Databases.{Keyspace}
-use Rattle.keyspace.specs.Commands.{sight}
+use Rattle.keyspace.specs.Commands.{visible}
 use Rattle.keyspace.specs.Scopes.{Within, AreGrown}
 use Rattle.keyspace.specs.Forms.{Formed}
 use Rattle.redis_core.specs.Touched.{may_meant, form_meant, scope_meant, AsksNoSteps, AsksNoMoves, ShowsMeant, Settles}
@@ -59,7 +59,7 @@ module _ {S : Type 0} (blocks : S → Blocks) where
     pub grown : AreGrown engine.bases (blocks engine.store)
 
   -- The databases are sound, one of them is selected, and a walk that is open stands in one.
-  pub record IsWhole (bases : Bases) (store : S) (selected : ℕ) (walk : Option Walk) : Type 0 where
+  pub record IsEngine (bases : Bases) (store : S) (selected : ℕ) (walk : Option Walk) : Type 0 where
     pub sound : Sound bases (blocks store)
     pub within : selected < 16
     pub walking : IsOpen walk
@@ -87,7 +87,7 @@ own_command (own.Defrag steps) = connection.DebugDefrag steps
 own_command own.Slabs = connection.MemorySlabs
 
 -- what a reply leads to
-abbrev pub answered_with : {E : Type 0} → ℕ → Bool → Result (List Part) E → Result Answered E
+abbrev pub answered_with : {E : Type 0} → ℕ → Bool → Result (List Part) E → Result Executed E
 answered_with selected quit (Ok reply) = Ok (record { reply = reply; selected = selected; quit = quit })
 answered_with selected quit (Err e) = Err e
 
@@ -101,7 +101,7 @@ is_memory (Err faults.Memory) = true
 
 -- What stays where a request was answered, or memory was refused: the keyspace is sound, and a refused request changes
 -- neither the keyspace nor which database is selected.
-pub record Stands {S E : Type 0} (blocks : S → Blocks) (old new : Keyspace S) (at : Ctx) (result : Result Answered E)
+pub record Stands {S E : Type 0} (blocks : S → Blocks) (old new : Keyspace S) (at : Ctx) (result : Result Executed E)
     : Type 0 where
   pub within : IfOk result (λ answered. answered.selected < 16)
   pub refused : IfOk result (λ answered. IsRefusal answered.reply → (new ≡ old) × (answered.selected ≡ at.db))
@@ -111,9 +111,9 @@ pub record Stands {S E : Type 0} (blocks : S → Blocks) (old new : Keyspace S) 
 -- What comes of what the words of a request mean, a command or a refusal, over a keyspace and a walk that may be open.
 pub record Answers {S E : Type 0} (blocks : S → Blocks) (heap : S → Heap) (step_of : S → S → Type 0)
     (old new : Keyspace S) (before after : Option Walk) (at : Ctx) (asked : Result Command Refusal)
-    (result : Result Answered E) : Type 0 where
+    (result : Result Executed E) : Type 0 where
   -- a step of the model on what the keyspace means, before and after
-  pub answers : IfOk result (λ answered. may_meant old.bases.seed (sight blocks old at) at.moment asked answered.reply
+  pub answers : IfOk result (λ answered. may_meant old.bases.seed (visible blocks old at) at.moment asked answered.reply
       (live (means answered.selected new.bases (blocks new.store)) at.moment))
   pub quits : IfOk result (λ answered. answered.quit ≡ meaning.quits asked)
   -- the store was served placings, returns and writes alone
@@ -128,7 +128,7 @@ pub record Answers {S E : Type 0} (blocks : S → Blocks) (heap : S → Heap) (s
   pub shows : IfOk result (λ answered. ShowsMeant blocks old new at asked answered.reply)
   -- what is written is encoded by the command's rule, and every other value stays as it was
   pub forms : IfOk result (λ answered. AsksNoMoves asked
-      → Formed blocks (form_meant at.db (sight blocks old at) asked) old new)
+      → Formed blocks (form_meant at.db (visible blocks old at) asked) old new)
   pub settles : IfOk result (λ answered. Settles old.bases new.bases (blocks old.store) (blocks new.store))
   pub stands : Stands blocks old new at result
 

@@ -13,7 +13,7 @@ use Rattle.plain_model.specs.declared.command.Command.TheVariants.{Strings, List
 use Rattle.plain_model.specs.declared.connection.ConnectionCommand.TheVariants as connection
 use Rattle.keyspace.specs.Databases.{Bases, Keyspace}
 use Rattle.keyspace.specs.Shown.{Shows}
-use Rattle.keyspace.specs.Forms.{Form, Unwritten, form_of}
+use Rattle.keyspace.specs.Forms.{FormRule, Unwritten, form_of}
 use Rattle.cmd_keys.specs.Found as found
 use Rattle.plain_model.specs.declared.ctx.Ctx.{Ctx}
 use Rattle.plain_world.specs.declared.reply.Part.{Part}
@@ -70,7 +70,7 @@ scope_meant db (Ok command) = scope_of db command
 scope_meant db (Err refusal) = untouched
 
 -- how a value is encoded that a request writes in a world
-abbrev pub form_meant : ℕ → World → Result Command Refusal → Form
+abbrev pub form_meant : ℕ → World → Result Command Refusal → FormRule
 form_meant db world (Ok command) = form_of db world command
 form_meant db world (Err refusal) = Unwritten
 

@@ -31,7 +31,7 @@ use std::alloc::AllocError;
 
 /// What a request led to.
 #[derive(Drop)]
-pub struct Answered {
+pub struct Executed {
     pub reply: Reply,
     /// The database that is selected afterwards, by its number below 16.
     pub selected: usize,
@@ -162,11 +162,11 @@ fn debug_defrag<B: BlockStore>(
 }
 
 // What a reply leads to.
-fn replied(reply: Result<Reply, Memory>, selected: usize, quit: bool) -> Result<Answered, Memory>
+fn replied(reply: Result<Reply, Memory>, selected: usize, quit: bool) -> Result<Executed, Memory>
     ensures { result ≡ answered_with selected quit reply }
 {
     match reply {
-        Ok(reply) => Ok(Answered {
+        Ok(reply) => Ok(Executed {
             reply,
             selected,
             quit,
@@ -182,7 +182,7 @@ fn run<B: BlockStore>(
     at: &Ctx,
     command: &Command<'_>,
     dice: &mut Pcg32,
-) -> Result<Answered, Memory>
+) -> Result<Executed, Memory>
     requires ready { Ready B.blocks keyspace.old at.now }
     requires walking { IsOpen walk.old }
     requires asked { IsAsked command.now }
@@ -212,7 +212,7 @@ pub fn answer<B: BlockStore>(
     at: &Ctx,
     request: &Request<'_>,
     dice: &mut Pcg32,
-) -> Result<Answered, Memory>
+) -> Result<Executed, Memory>
     requires ready { Ready B.blocks keyspace.old at.now }
     requires walking { IsOpen walk.old }
     ensures answers { Answers B.blocks B.heap B.step keyspace.old keyspace.new walk.old walk.new at.now (meant request.now) result }
@@ -222,7 +222,7 @@ pub fn answer<B: BlockStore>(
     match read(alloc, request) {
         Ok(command) => run(keyspace, walk, at, &command, dice),
         Err(ReadingFault::Refused(refusal)) => match Reply::refused(alloc, refusal) {
-            Ok(reply) => Ok(Answered {
+            Ok(reply) => Ok(Executed {
                 reply,
                 selected: at.db,
                 quit: false,

@@ -51,7 +51,7 @@ pub struct Engine<B: BlockStore> {
 impl<B: BlockStore> Model for Engine<B> {
     ghost use Rattle.std.specs.Coded.{codes};
     ghost use Rattle.stream_groups.specs.GroupsCode.{groups_code};
-    ghost use Rattle.redis_core.specs.Engines.{State, IsWhole};
+    ghost use Rattle.redis_core.specs.Engines.{State, IsEngine};
 
     ghost Value = { State B };
 
@@ -59,7 +59,7 @@ impl<B: BlockStore> Model for Engine<B> {
 
     ghost view = { λ e. record { bases = e.keyspace.bases; store = e.keyspace.store; selected = e.selected; last = e.last; walk = e.walk; is_spent = e.is_spent } };
 
-    ghost invariant = { λ e. IsWhole B.blocks e.keyspace.bases e.keyspace.store e.selected e.walk };
+    ghost invariant = { λ e. IsEngine B.blocks e.keyspace.bases e.keyspace.store e.selected e.walk };
 }
 
 impl<B: BlockStore> Engine<B> {

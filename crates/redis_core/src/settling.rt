@@ -4,7 +4,7 @@ ghost use Rattle.std.specs.Prelude.{◌≡◌, ◌<◌, ℕ, OnOk, IfSome, IfNon
 ghost use Rattle.keyspace.specs.Databases.{means};
 ghost use Rattle.keyspace.specs.Sound.{Sound};
 ghost use Rattle.keyspace.specs.Scopes.{no_key, number_or, AreSettled, string_reach, list_reach, set_reach, hash_reach, zset_reach, stream_reach, key_reach, connection_reach};
-ghost use Rattle.keyspace.specs.Commands.{Held};
+ghost use Rattle.keyspace.specs.Commands.{KeepsTo};
 ghost use Rattle.redis_core.specs.Touched.{covers, databases, shrinking, touched_of, AreDatabases};
 
 use blocks::BlockStore;
@@ -235,7 +235,7 @@ fn shrink_one<B: BlockStore>(keyspace: &mut Keyspace<B>, db: usize) -> Result<()
     requires sound { Sound keyspace.old.bases (B.blocks keyspace.old.store) }
     requires db { db < 16 }
     ensures world { (number : ℕ) → means number keyspace.new.bases (B.blocks keyspace.new.store) ≡ means number keyspace.old.bases (B.blocks keyspace.old.store) }
-    ensures held { Held B.blocks B.step (no_key db) keyspace.old keyspace.new }
+    ensures held { KeepsTo B.blocks B.step (no_key db) keyspace.old keyspace.new }
     ensures settled { OnOk result (AreSettled keyspace.new.bases db) }
 {
     keyspace.shrink(db)
@@ -245,7 +245,7 @@ fn shrink_one<B: BlockStore>(keyspace: &mut Keyspace<B>, db: usize) -> Result<()
 fn shrink_all<B: BlockStore>(keyspace: &mut Keyspace<B>) -> Result<(), Memory>
     requires sound { Sound keyspace.old.bases (B.blocks keyspace.old.store) }
     ensures world { (number : ℕ) → means number keyspace.new.bases (B.blocks keyspace.new.store) ≡ means number keyspace.old.bases (B.blocks keyspace.old.store) }
-    ensures held { Held B.blocks B.step (shrinking Touched.All) keyspace.old keyspace.new }
+    ensures held { KeepsTo B.blocks B.step (shrinking Touched.All) keyspace.old keyspace.new }
     ensures settled { OnOk result ((number : ℕ) → AreSettled keyspace.new.bases number) }
 {
     for db in 0..DATABASES {
@@ -261,7 +261,7 @@ pub fn settle<B: BlockStore>(keyspace: &mut Keyspace<B>, touched: Touched) -> Re
     requires sound { Sound keyspace.old.bases (B.blocks keyspace.old.store) }
     requires databases { AreDatabases touched }
     ensures world { (number : ℕ) → means number keyspace.new.bases (B.blocks keyspace.new.store) ≡ means number keyspace.old.bases (B.blocks keyspace.old.store) }
-    ensures held { Held B.blocks B.step (shrinking touched) keyspace.old keyspace.new }
+    ensures held { KeepsTo B.blocks B.step (shrinking touched) keyspace.old keyspace.new }
     ensures settled { OnOk result ((number : ℕ) → covers touched number → AreSettled keyspace.new.bases number) }
 {
     match touched {

@@ -2,7 +2,7 @@
 use Rattle.std.proofs.Common.{◌≡◌, ℕ, zero, suc, ◌<◌, List, [], ◌∷◌, set, length, refl, sym, ap, ◌∙◌, subst, arith}
 use Rattle.std.proofs.lemmas.List.{length-set, set-get_or}
 use Rattle.rehash_dict.specs.Tables.{bucket, put, put_all}
-use Rattle.rehash_dict.specs.Table.{Held, Agrees}
+use Rattle.rehash_dict.specs.Table.{Chaining, Agrees}
 use Rattle.rehash_dict.specs.Placed.{Stand}
 use Rattle.rehash_dict.specs.Sides.{MovesOne, MovesRow}
 use Rattle.rehash_dict.proofs.Counts.{bucket-set_same}
@@ -14,7 +14,7 @@ set-set (z ∷ zs) (suc k) x y = ap (λ r. z ∷ r) (set-set zs k x y)
 
 module _ {V : Type 0} where
   -- the rest of the bucket still has to move
-  pub record IsPartWay (old now : Held V) (k : ℕ) : Type 0 where
+  pub record IsPartWay (old now : Chaining V) (k : ℕ) : Type 0 where
     pub older : set now.older k [] ≡ set old.older k []
     pub newer : (hash : ℕ → ℕ) → Agrees hash old.items → put_all hash now.newer (bucket now.older k) ≡ put_all hash old.newer (bucket old.older k)
     pub items : now.items ≡ old.items
@@ -22,7 +22,7 @@ module _ {V : Type 0} where
     pub inside : k < length now.older
     pub table : 0 < length now.newer
 
-  pub part_way_more : (old now next : Held V) (k : ℕ) → IsPartWay old now k → MovesOne now next k → IsPartWay old next k
+  pub part_way_more : (old now next : Chaining V) (k : ℕ) → IsPartWay old now k → MovesOne now next k → IsPartWay old next k
   part_way_more old now next k w m =
       let row : bucket next.older k ≡ m.rest = ap (λ t. bucket t k) m.older ∙ bucket-set_same now.older k m.rest w.inside in
       record {

@@ -11,7 +11,7 @@ use Rattle.rev_cursor.specs.Span.{times}
 use Rattle.rehash_dict.specs.declared.chains.Side.{Side}
 use Rattle.rehash_dict.specs.declared.chains.Side.TheVariants.{Older, Newer}
 use Rattle.rehash_dict.specs.Tables.{Tables, bucket, count, is_rehashing, ended, with_room, rehashed, joined, inserted, without, removed, begun, wants_shrink, shrunk, least_power}
-use Rattle.rehash_dict.specs.Table.{Element, Table, Held, at_item, item, Agrees, Updates}
+use Rattle.rehash_dict.specs.Table.{Element, Table, Chaining, at_item, item, Agrees, Updates}
 use Rattle.rehash_dict.specs.Placed.{IsSize, Stand, IsKept, IsPlaced}
 use Rattle.rehash_dict.specs.Sides.{last_of, SwapsIn, AddsTo, LeavesFrom, Rebuilds, side_rows, held_tables}
 use Rattle.rehash_dict.specs.Keyed.{hash_of, same_key, Stands, Lacks, Keyed, key_tables}
@@ -33,7 +33,7 @@ rows_without at (r ∷ rest) (suc k) out = λ i. without-none at r (out 0 (λ e.
 
 module _ {V : Type 0} where
   -- the dictionary of these elements and buckets
-  abbrev pub table_of : Held V → ℕ → ℕ → ℕ → Table V
+  abbrev pub table_of : Chaining V → ℕ → ℕ → ℕ → Table V
   table_of h position seed top = record { items = h.items; older = h.older; newer = h.newer; position = position; seed = seed; top = top }
 
   -- ---- a look at one element
@@ -50,7 +50,7 @@ module _ {V : Type 0} where
 
   -- ---- a key is named by another block
 
-  module _ (h later : Held V) (position seed top at : ℕ) (ref : BlockRef) (p : IsPlaced (table_of h position seed top))
+  module _ (h later : Chaining V) (position seed top at : ℕ) (ref : BlockRef) (p : IsPlaced (table_of h position seed top))
       (s : SwapsIn h later at (λ e. at_item later.items at ≡ Some (record e { key = ref }))) where
     -- an item number that has an element afterwards had one before
     was_there : (i : ℕ) → IsSome (at_item later.items i) → IsSome (at_item h.items i)
@@ -101,7 +101,7 @@ module _ {V : Type 0} where
 
   -- ---- an element leaves
 
-  module _ (h mid last : Held V) (position later seed top number at : ℕ) (key : BlockRef) (value : V) (p : IsPlaced (table_of h position seed top)) (b : Rebuilds mid last later)
+  module _ (h mid last : Chaining V) (position later seed top number at : ℕ) (key : BlockRef) (value : V) (p : IsPlaced (table_of h position seed top)) (b : Rebuilds mid last later)
       (e : held_tables last later ≡ ended (held_tables mid position)) where
     -- the tables with the item number taken out of all buckets
     abbrev without_all : Tables ℕ
@@ -154,7 +154,7 @@ module _ {V : Type 0} where
 
   -- ---- an element joins
 
-  module _ (h room mid last : Held V) (position later seed top at : ℕ) (element : Element V) (side : Side) (p : IsPlaced (table_of h position seed top))
+  module _ (h room mid last : Chaining V) (position later seed top at : ℕ) (element : Element V) (side : Side) (p : IsPlaced (table_of h position seed top))
       (room_items : room.items ≡ h.items) (room_tables : held_tables room position ≡ with_room (held_tables h position))
       (b : Rebuilds room mid later) (stepped : (names : ℕ → ℕ) → Agrees names room.items → held_tables mid later ≡ rehashed names (held_tables room position) 1)
       (side_is : side ≡ (cond (is_rehashing (held_tables mid 0)) Newer Older)) (a : AddsTo side mid last at element) where
@@ -259,12 +259,12 @@ module _ {V : Type 0} where
   -- ---- sides
 
   -- the buckets of a side are those of the dictionary's table on that side
-  pub side_table : (side : Side) (h : Held V) (position seed top : ℕ) (t : Table V) → table_of h position seed top ≡ t → side_rows side h ≡ table_rows side t
+  pub side_table : (side : Side) (h : Chaining V) (position seed top : ℕ) (t : Table V) → table_of h position seed top ≡ t → side_rows side h ≡ table_rows side t
   side_table Older h position seed top t same = ap (λ x. x.older) same
   side_table Newer h position seed top t same = ap (λ x. x.newer) same
 
   -- either side has no bucket, or as many as a power of two of at least 4
-  pub side_size : (side : Side) (h : Held V) → Stand h.items h.older h.newer → IsSize (length (side_rows side h))
+  pub side_size : (side : Side) (h : Chaining V) → Stand h.items h.older h.newer → IsSize (length (side_rows side h))
   side_size Older h s = s.older_size
   side_size Newer h s = s.newer_size
 

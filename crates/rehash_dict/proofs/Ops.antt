@@ -10,7 +10,7 @@ use Rattle.rehash_dict.specs.declared.chains.Entry.{Entry}
 use Rattle.rehash_dict.specs.declared.chains.Side.{Side}
 use Rattle.rehash_dict.specs.declared.chains.Side.TheVariants.{Older, Newer}
 use Rattle.rehash_dict.specs.Tables.{bucket}
-use Rattle.rehash_dict.specs.Table.{Element, Held, at_item, Updates}
+use Rattle.rehash_dict.specs.Table.{Element, Chaining, at_item, Updates}
 use Rattle.rehash_dict.specs.Sides.{AddsTo, side_rows}
 use Rattle.rehash_dict.specs.Chains.{room, element_of, key_of_entry, entry_at, rows, IsLinked, Links}
 use Rattle.rehash_dict.proofs.Counts.{count-set}
@@ -23,7 +23,7 @@ one_if b = cond b 1 0
 
 module _ {V : Type 0} where
   -- what contracts see of the fields
-  abbrev pub view_of : List (Option (Entry V)) → List ℕ → List ℕ → ℕ → Held V
+  abbrev pub view_of : List (Option (Entry V)) → List ℕ → List ℕ → ℕ → Chaining V
   view_of slots older newer capacity = record { items = map element_of slots; older = rows slots older; newer = rows slots newer; capacity = capacity }
 
   abbrev pub element : Entry V → Element V
@@ -134,8 +134,8 @@ module _ {V : Type 0} where
       ap (count_by is_some) l.slots ∙ omega
       (arith, sum_by-set (λ (o : Option (Entry V)). one_if (is_some o)) s1.slots at (Some (record l.entry { next = get_or heads (l.entry.hash % length heads) 0 })) None lt)
 
-  pub older_some : (side : Side) (h g : Held V) → h ≡ g → side ≡ Older → 0 < length (side_rows side g) → 0 < length h.older
+  pub older_some : (side : Side) (h g : Chaining V) → h ≡ g → side ≡ Older → 0 < length (side_rows side g) → 0 < length h.older
   older_some side h g same is some = subst (λ s. 0 < length (side_rows s h)) is (subst (λ x. 0 < length (side_rows side x)) (sym same) some)
 
-  pub newer_some : (side : Side) (h g : Held V) → h ≡ g → side ≡ Newer → 0 < length (side_rows side g) → 0 < length h.newer
+  pub newer_some : (side : Side) (h g : Chaining V) → h ≡ g → side ≡ Newer → 0 < length (side_rows side g) → 0 < length h.newer
   newer_some side h g same is some = subst (λ s. 0 < length (side_rows s h)) is (subst (λ x. 0 < length (side_rows side x)) (sym same) some)

@@ -4,7 +4,7 @@ use Rattle.std.proofs.lemmas.Bool.{cases_eq, cases_lt}
 use Rattle.std.proofs.lemmas.List.{length-set}
 use Rattle.std.proofs.lemmas.Nat.{pow_below}
 use Rattle.rehash_dict.specs.Tables.{Tables, bucket, put, put_all, full_within, ended, stepped, stepped_to}
-use Rattle.rehash_dict.specs.Table.{Element, Held, at_item, Agrees}
+use Rattle.rehash_dict.specs.Table.{Element, Chaining, at_item, Agrees}
 use Rattle.rehash_dict.specs.Placed.{IsSize, IsKept}
 use Rattle.rehash_dict.specs.Placed.IsSize.{no_table, power}
 use Rattle.rehash_dict.specs.Sides.{held_tables, MovesRow}
@@ -79,11 +79,11 @@ module _ {V : Type 0} where
         ]
       ]
 
-  pub step_none : (names : ℕ → ℕ) (h : Held V) (position : ℕ) → full_within h.older 10 position ≡ None → held_tables h (position + 10) ≡ stepped names (held_tables h position)
+  pub step_none : (names : ℕ → ℕ) (h : Chaining V) (position : ℕ) → full_within h.older 10 position ≡ None → held_tables h (position + 10) ≡ stepped names (held_tables h position)
   unfolding stepped
   step_none names h position none = ap (stepped_to names (held_tables h position)) (sym none)
 
-  pub step_some : (names : ℕ → ℕ) (h mid : Held V) (position at : ℕ) (last : Tables ℕ) → full_within h.older 10 position ≡ Some at → MovesRow h mid at → Agrees names h.items
+  pub step_some : (names : ℕ → ℕ) (h mid : Chaining V) (position at : ℕ) (last : Tables ℕ) → full_within h.older 10 position ≡ Some at → MovesRow h mid at → Agrees names h.items
       → last ≡ ended (held_tables mid (at + 1)) → last ≡ stepped names (held_tables h position)
   unfolding stepped
   step_some names h mid position at last found m agrees is =
@@ -94,5 +94,5 @@ module _ {V : Type 0} where
       = λ i. record { older = older i; newer = newer i; position = one i } in
       is ∙ ap ended same ∙ ap (stepped_to names (held_tables h position)) (sym found)
 
-  pub moved_some : (h mid : Held V) (at : ℕ) → MovesRow h mid at → length mid.newer ≡ length h.newer
+  pub moved_some : (h mid : Chaining V) (at : ℕ) → MovesRow h mid at → length mid.newer ≡ length h.newer
   moved_some h mid at m = ap length (m.newer (own_names h.items) (own_agrees h.items)) ∙ length-put_all (own_names h.items) h.newer (bucket h.older at)

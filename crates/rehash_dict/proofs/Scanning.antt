@@ -3,7 +3,7 @@ use Rattle.std.proofs.Common.{◌≡◌, inl, inr, ℕ, ◌+◌, ◌-◌, ◌^�
 use Rattle.std.proofs.lemmas.Bool.{cases_lt, cond-true, cond-false, eq-eqb, ne_eqb}
 use Rattle.rev_cursor.specs.Place.{next_of}
 use Rattle.rev_cursor.specs.Span.{times}
-use Rattle.rehash_dict.specs.Table.{Element, Table, Held, item}
+use Rattle.rehash_dict.specs.Table.{Element, Table, Chaining, item}
 use Rattle.rehash_dict.specs.Placed.{Stand, IsPlaced}
 use Rattle.rehash_dict.specs.Steps.{table_of}
 use Rattle.rehash_dict.specs.Scan.{bits_of, smaller_of, larger_of, turn, walk, walked_over, scanned, turns_of, turn_at, turns_from, first_of, after_in}
@@ -73,7 +73,7 @@ pub scanned_two : (older newer : List (List ℕ)) (v : ℕ) → 0 < length older
 unfolding scanned
 scanned_two older newer v some two = cond-false _ _ _ (ne_eqb (length older) 0 (λ h. omega arith)) ∙ cond-true _ _ _ (is_lt (length newer) two)
 
-module _ {V : Type 0} (h : Held V) (position seed top : ℕ) (t : Table V) (v : ℕ) (value : table_of h position seed top ≡ t) (p : IsPlaced t) where
+module _ {V : Type 0} (h : Chaining V) (position seed top : ℕ) (t : Table V) (v : ℕ) (value : table_of h position seed top ≡ t) (p : IsPlaced t) where
   pub placed_held : IsPlaced (table_of h position seed top)
   placed_held = subst IsPlaced (sym value) p
 

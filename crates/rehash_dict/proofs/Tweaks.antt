@@ -5,7 +5,7 @@ use Rattle.std.proofs.lemmas.List.{get_or-set_same, get_or-set_other, length-rep
 use Rattle.std.proofs.lemmas.List.Sums.{sum_by-set}
 use Rattle.rehash_dict.specs.declared.chains.Entry.{Entry}
 use Rattle.rehash_dict.specs.Tables.{count, no_elements}
-use Rattle.rehash_dict.specs.Table.{Element, Held, at_item}
+use Rattle.rehash_dict.specs.Table.{Element, Chaining, at_item}
 use Rattle.rehash_dict.specs.Placed.{IsSize, Stand}
 use Rattle.rehash_dict.specs.Sides.{SwapsIn}
 use Rattle.rehash_dict.specs.Chains.{element_of, entry_at, rows, IsChain, IsLinked}
@@ -74,7 +74,7 @@ module _ {V : Type 0} where
         (restands (map element_of slots) (map element_of later) (rows slots older) (rows slots newer) l.stand forth back (count-map_element later ∙ same_count ∙ sym (count-map_element slots)))
         l.waits
 
-    pub swaps_in : (capacity : ℕ) (was : Held V) (swaps : Element V → Type 0) → view_of slots older newer capacity ≡ was → swaps (element e)
+    pub swaps_in : (capacity : ℕ) (was : Chaining V) (swaps : Element V → Type 0) → view_of slots older newer capacity ≡ was → swaps (element e)
         → SwapsIn was (view_of (set slots at (Some f)) older newer capacity) at swaps
     swaps_in capacity was swaps same done = record {
       element = element e;

@@ -3,7 +3,7 @@ use Rattle.std.specs.Prelude.{◌≡◌, ◌≢◌, ℕ, ◌+◌, ◌%◌, ◌<�
 use Rattle.blocks.specs.declared.BlockRef.{BlockRef}
 use Rattle.blocks.specs.Blocks.{Blocks, bytes_at}
 use Rattle.rehash_dict.specs.Tables.{bucket, inserted, removed}
-use Rattle.rehash_dict.specs.Table.{Element, Table, Held, item, tables, Updates}
+use Rattle.rehash_dict.specs.Table.{Element, Table, Chaining, item, tables, Updates}
 use Rattle.rehash_dict.specs.Keyed.{hash_of, Stands, Lacks, Keyed, key_tables}
 use Rattle.rehash_dict.specs.Placed.{IsPlaced}
 use Rattle.rehash_dict.specs.Sides.{IsBehind}
@@ -12,7 +12,7 @@ use Rattle.rehash_dict.specs.declared.chains.Side.TheVariants.{Older, Newer}
 
 module _ {V : Type 0} where
   -- the dictionary of these elements and buckets
-  abbrev pub table_of : Held V → ℕ → ℕ → ℕ → Table V
+  abbrev pub table_of : Chaining V → ℕ → ℕ → ℕ → Table V
   table_of h position seed top =
       record { items = h.items; older = h.older; newer = h.newer; position = position; seed = seed; top = top }
 

@@ -20,7 +20,7 @@ pub record Table (V : Type 0) : Type 0 where
   pub top : ℕ
 
 -- the elements and buckets, and how many elements fit without memory
-pub record Held (V : Type 0) : Type 0 where
+pub record Chaining (V : Type 0) : Type 0 where
   pub items : List (Option (Element V))
   pub older : List (List ℕ)
   pub newer : List (List ℕ)

@@ -2,7 +2,7 @@
 use Rattle.std.specs.Prelude.{ℕ, List, Option, refl}
 use Rattle.std.specs.Coded.{Coded, code_by, coded×, coded_ℕ, coded_list, coded_option}
 use Rattle.blocks.specs.declared.BlockRef.{BlockRef}
-use Rattle.rehash_dict.specs.Table.{Element, Table, Held}
+use Rattle.rehash_dict.specs.Table.{Element, Table, Chaining}
 
 abbrev pub ref_code : Coded BlockRef
 ref_code = code_by (ℕ × ℕ) (coded× coded_ℕ coded_ℕ) (λ r. (r.slab, r.slot)) (λ p. record { slab = p.0; slot = p.1 })
@@ -16,7 +16,7 @@ element_code {V} code =
 abbrev pub rows_code : Coded (List (List ℕ))
 rows_code = coded_list (coded_list coded_ℕ)
 
-abbrev pub held_code : {V : Type 0} → Coded V → Coded (Held V)
+abbrev pub held_code : {V : Type 0} → Coded V → Coded (Chaining V)
 held_code {V} code =
     code_by (List (Option (Element V)) × (List (List ℕ) × (List (List ℕ) × ℕ)))
     (coded× (coded_list (coded_option (element_code code))) (coded× rows_code (coded× rows_code coded_ℕ)))

@@ -5,7 +5,7 @@ ghost use Rattle.std.specs.Prelude.{replicate, IsTrue, ◌↔◌, vec_len, Match
 ghost use Rattle.std.specs.Option.{option_copied};
 ghost use Rattle.slab.specs.Slab.{get, slab_len, HasRoomFor};
 ghost use Rattle.rehash_dict.specs.declared.chains.Entry.{Entry};
-ghost use Rattle.rehash_dict.specs.Table.{Element, Held, at_item, Agrees, Updates};
+ghost use Rattle.rehash_dict.specs.Table.{Element, Chaining, at_item, Agrees, Updates};
 ghost use Rattle.rehash_dict.specs.Tables.{bucket, count, put, put_all, without, no_elements};
 ghost use Rattle.rehash_dict.specs.Placed.{IsSize, Stand};
 ghost use Rattle.rehash_dict.specs.Chains.{element_of, key_of_entry, Links, Pops, Unlinks, chain_left};
@@ -62,11 +62,11 @@ pub(crate) struct Chains<V> {
 }
 
 impl<V> Model for Chains<V> {
-    ghost use Rattle.rehash_dict.specs.Table.{Held};
+    ghost use Rattle.rehash_dict.specs.Table.{Chaining};
     ghost use Rattle.rehash_dict.specs.TableCode.{held_code};
     ghost use Rattle.std.specs.Prelude.{map};
 
-    ghost Value = { Held V };
+    ghost Value = { Chaining V };
 
     ghost coded = { held_code V.code };
 

@@ -3,7 +3,7 @@
 ghost use Rattle.std.specs.Prelude.{◌≡◌, ℕ, ◌+◌, ◌<◌, ◌≤◌, [], length, Some, None, IfOk, OnOk, OnErr, IsTrue, true, false, replicate, if◌then◌else◌, vec_len};
 ghost use Rattle.rehash_dict.specs.declared.chains.Side.{Side};
 ghost use Rattle.rehash_dict.specs.Tables.{Tables, bucket, count, full_within, is_rehashing, ended, begun, with_room, rehashed, stepped};
-ghost use Rattle.rehash_dict.specs.Table.{Held, Agrees};
+ghost use Rattle.rehash_dict.specs.Table.{Chaining, Agrees};
 ghost use Rattle.rehash_dict.specs.Placed.{Stand, IsKept, IsSize};
 ghost use Rattle.rehash_dict.specs.Sides.{side_rows, held_tables, HasRoom, Rebuilds};
 

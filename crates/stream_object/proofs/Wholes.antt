@@ -19,7 +19,7 @@ use Rattle.stream_object.specs.Found.{Comes, Exchanges}
 use Rattle.stream_object.specs.Loading.{AreLiveUpto, IsFileNode, last_of, loaded}
 use Rattle.stream_object.specs.Parts.{Part, part, stored_in, is_live, plain, live_of, entries_in}
 use Rattle.stream_object.specs.Streams.{AreBelow, AreUpto, IsChanged, IsStream, entries, nodes, pair_of, stream_of}
-use Rattle.stream_object.specs.Whole.{IsWhole, MayStand}
+use Rattle.stream_object.specs.Whole.{MayStandWhole, MayStand}
 use Rattle.stream_object.specs.Tail.{IsTail, IsKept}
 use Rattle.stream_object.proofs.Grows.{entries-append, rising_push}
 use Rattle.stream_object.proofs.Loads.{last-append}
@@ -69,7 +69,7 @@ last_whatever a b (e ∷ es) some = refl
 -- what the tests tell of a node
 pub whole_node : (key : Id) (bytes : List ℕ) (last : Id) → IsFileNode key bytes → 0 < length (entries_of key (texts bytes)) → length (entries_of key (texts bytes)) ≤ 100
     → AllByRecursion (MayStand key) (entries_of key (texts bytes))
-    → pair_of last ≡ last_of (pair_of key) (entries_of key (texts bytes)) → IsWhole key bytes last
+    → pair_of last ≡ last_of (pair_of key) (entries_of key (texts bytes)) → MayStandWhole key bytes last
 whole_node key bytes last f some few stand end =
     let es = entries_of key (texts bytes) in
     let live = all-weaker (MayStand key) (λ (e : Stored). e.deleted ≡ false) es (λ e h. h.0) stand in
@@ -91,7 +91,7 @@ some_both (Some x) f p q = f x p q
 some_both None f p q = tt
 
 -- a node placed behind all others as it is
-module _ (m after : Blocks) (old new : Log) (key : Id) (bytes : List ℕ) (last : Id) (is : IsStream m old) (below : AreBelow key (nodes m old)) (w : IsWhole key bytes last) (at : BlockRef)
+module _ (m after : Blocks) (old new : Log) (key : Id) (bytes : List ℕ) (last : Id) (is : IsStream m old) (below : AreBelow key (nodes m old)) (w : MayStandWhole key bytes last) (at : BlockRef)
     (comes : Comes m after old.tree new.tree key bytes at) where
   placed : Exchanges m after old.tree new.tree (nodes m old ++ part key at bytes ∷ [])
   placed = comes w.is_node (rising_push (nodes m old) (part key at bytes) is.parts.rising below)

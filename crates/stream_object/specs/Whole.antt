@@ -16,7 +16,7 @@ MayStand key e = (e.deleted ≡ false) × (id_number key ≤ id_number e.id)
 
 -- The bytes are a node of this key as the stream has them, no entry of which is marked deleted, and this is the id of the
 -- last one.
-pub record IsWhole (key : Id) (bytes : List ℕ) (last : Id) : Type 0 where
+pub record MayStandWhole (key : Id) (bytes : List ℕ) (last : Id) : Type 0 where
   pub is_node : IsNodeOf key bytes
   pub live : AllByRecursion (λ e. e.deleted ≡ false) (entries_of key (texts bytes))
   pub last_is : pair_of last ≡ last_of (pair_of key) (entries_of key (texts bytes))

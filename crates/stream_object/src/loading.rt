@@ -11,7 +11,7 @@ ghost use Rattle.stream_node.specs.Room.{alone_len};
 ghost use Rattle.stream_node.specs.View.{stored};
 ghost use Rattle.stream_object.specs.Loading.{AreAbove, AreLiveUpto, IsFileNode, loaded};
 ghost use Rattle.stream_object.specs.Streams.{AreBelow, AreUpto, IsChanged, IsStream, nodes, stream_of};
-ghost use Rattle.stream_object.specs.Whole.{IsWhole};
+ghost use Rattle.stream_object.specs.Whole.{MayStandWhole};
 
 use crate::Memory;
 use crate::node::entries;
@@ -93,7 +93,7 @@ impl Stream {
     ) -> Result<(), Memory>
         requires is_stream { IsStream (B.blocks store.old) self.old }
         requires below { IsBelow self.old.last key }
-        requires whole { IsWhole key pack.now last }
+        requires whole { MayStandWhole key pack.now last }
         ensures loaded { OnOk result (IsChanged (B.blocks store.old) (B.blocks store.new) self.old self.new (loaded (stream_of (B.blocks store.old) self.old) (entries_of key (texts pack.now)))) }
         ensures upto { OnOk result
             ((id : Id) → AreUpto id (nodes (B.blocks store.old) self.old) → AreLiveUpto id (entries_of key (texts pack.now)) → AreUpto id (nodes (B.blocks store.new) self.new)) }
@@ -115,7 +115,7 @@ impl Stream {
     // The id of the last entry of a file's node, where the node may stand behind all others as it is.
     fn end_behind(&self, key: Id, pack: &[u8]) -> Option<Id>
         requires { IsFileNode key pack.now }
-        ensures whole { IfSome result (λ last. IsWhole key pack.now last) }
+        ensures whole { IfSome result (λ last. MayStandWhole key pack.now last) }
         ensures below { IfSome result (λ _. IsBelow self.now.last key) }
     {
         if self.last.is_below(key) {

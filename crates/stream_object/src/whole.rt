@@ -8,7 +8,7 @@ ghost use Rattle.stream_node.specs.View.{stored};
 ghost use Rattle.stream_node.specs.Views.{left_of};
 ghost use Rattle.stream_object.specs.Loading.{IsFileNode, last_of};
 ghost use Rattle.stream_object.specs.Streams.{pair_of};
-ghost use Rattle.stream_object.specs.Whole.{IsWhole, MayStand};
+ghost use Rattle.stream_object.specs.Whole.{MayStandWhole, MayStand};
 
 use crate::node::MOST_ENTRIES;
 use listpack::known;
@@ -52,7 +52,7 @@ fn last_standing(key: Id, pack: &[u8]) -> Option<Id>
 /// The id of the last entry of a file's node, where the node may stand in a stream as it is.
 pub(crate) fn end_of(key: Id, pack: &[u8]) -> Option<Id>
     requires { IsFileNode key pack.now }
-    ensures { IfSome result (λ last. IsWhole key pack.now last) }
+    ensures { IfSome result (λ last. MayStandWhole key pack.now last) }
 {
     let count = listed(key, pack).len();
     if count == 0 || count > MOST_ENTRIES {

@@ -5,7 +5,7 @@ ghost use Rattle.std.specs.List.{count_by};
 ghost use Rattle.plain_world.specs.Worlds.{look};
 ghost use Rattle.plain_model.specs.KeySteps.{in_seconds};
 ghost use Rattle.plain_model.specs.declared.keys.KeyCommand.TheVariants as commands;
-ghost use Rattle.keyspace.specs.Commands.{Ready, sight};
+ghost use Rattle.keyspace.specs.Commands.{Ready, visible};
 ghost use Rattle.cmd_keys.specs.Found.{Gives};
 
 use crate::keys::look::{count_reply, deadline_at, is_there, timeless_reply};
@@ -16,7 +16,7 @@ use plain_model::{Ctx, Line, Memory, Reply, Word};
 // How many of these keys are there. A key that is named twice counts twice.
 fn count_there<B: BlockStore>(keyspace: &Keyspace<B>, at: &Ctx, keys: &[Word<'_>]) -> u64
     requires ready { Ready B.blocks keyspace.now at.now }
-    ensures count { result ≡ count_by (λ key. is_some (look (sight B.blocks keyspace.now at.now) key)) keys.now }
+    ensures count { result ≡ count_by (λ key. is_some (look (visible B.blocks keyspace.now at.now) key)) keys.now }
     ensures few { result < 2 ^ 63 }
 {
     let mut count: u64 = 0;

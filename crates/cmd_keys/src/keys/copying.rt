@@ -11,7 +11,7 @@ ghost use Rattle.keyspace.specs.Sound.{Sound, SoundBeside};
 ghost use Rattle.keyspace.specs.Scopes.{one_key, two_keys, number_or, Within};
 ghost use Rattle.keyspace.specs.Forms.{AsAt, HasForm, Formed};
 ghost use Rattle.held.specs.Calls.{StandsAt, HasUntil, IsDeadline};
-ghost use Rattle.keyspace.specs.Commands.{Ready, Held, Kept, sight};
+ghost use Rattle.keyspace.specs.Commands.{Ready, KeepsTo, KeepsOrRefuses, visible};
 ghost use Rattle.cmd_keys.specs.Found.{Gives, IsDatabase};
 
 use crate::keys::look::{count_reply, is_there};
@@ -29,7 +29,7 @@ fn copy_value<B: BlockStore>(
     requires ready { Ready B.blocks keyspace.old at.now }
     requires there { StandsAt keyspace.old.bases (B.blocks keyspace.old.store) at.now.db key.now at.now.moment item }
     ensures world { means at.now.db keyspace.new.bases (B.blocks keyspace.new.store) ≡ means at.now.db keyspace.old.bases (B.blocks keyspace.old.store) }
-    ensures value { IfOk result (λ value. (entry : Entry) → look (sight B.blocks keyspace.old at.now) key.now ≡ Some entry → value_of (B.blocks keyspace.new.store) value ≡ entry.value) }
+    ensures value { IfOk result (λ value. (entry : Entry) → look (visible B.blocks keyspace.old at.now) key.now ≡ Some entry → value_of (B.blocks keyspace.new.store) value ≡ entry.value) }
     ensures sound { IfOk result (λ value. SoundBeside keyspace.new.bases (B.blocks keyspace.new.store) (value_refs (B.blocks keyspace.new.store) value)) }
     ensures kind { IfOk result (λ value. IsSound keyspace.new.bases.limits keyspace.new.bases.seed (B.blocks keyspace.new.store) value) }
     ensures err { OnErr result (Sound keyspace.new.bases (B.blocks keyspace.new.store)) }
@@ -63,13 +63,13 @@ fn copy_to<B: BlockStore>(
 ) -> Result<(), Memory>
     requires ready { Ready B.blocks keyspace.old at.now }
     requires there { StandsAt keyspace.old.bases (B.blocks keyspace.old.store) at.now.db from.now at.now.moment item }
-    requires until { HasUntil (sight B.blocks keyspace.old at.now) from.now deadline }
+    requires until { HasUntil (visible B.blocks keyspace.old at.now) from.now deadline }
     requires latest { IsDeadline deadline }
     requires number { number < 16 }
     ensures world { OnOk result
-        ((entry : Entry) → look (sight B.blocks keyspace.old at.now) from.now ≡ Some entry
-        → sight B.blocks keyspace.new at.now ≡ put_in (sight B.blocks keyspace.old at.now) number to.now entry) }
-    ensures held { Held B.blocks B.step (two_keys at.now.db from.now number to.now) keyspace.old keyspace.new }
+        ((entry : Entry) → look (visible B.blocks keyspace.old at.now) from.now ≡ Some entry
+        → visible B.blocks keyspace.new at.now ≡ put_in (visible B.blocks keyspace.old at.now) number to.now entry) }
+    ensures held { KeepsTo B.blocks B.step (two_keys at.now.db from.now number to.now) keyspace.old keyspace.new }
     ensures forms { OnOk result (Formed B.blocks (AsAt at.now.db from.now) keyspace.old keyspace.new) }
 {
     match copy_value(keyspace, at, from, item) {
@@ -102,7 +102,7 @@ fn is_same_place(at: &Ctx, number: usize, from: &[u8], to: &[u8]) -> bool
 // Whether something stands at a key that isn't to be replaced.
 fn is_taken<B: BlockStore>(keyspace: &Keyspace<B>, at: &Ctx, key: &[u8], replace: bool) -> bool
     requires ready { Ready B.blocks keyspace.now at.now }
-    ensures { result ≡ (is_some (look (sight B.blocks keyspace.now at.now) key.now) && not replace) }
+    ensures { result ≡ (is_some (look (visible B.blocks keyspace.now at.now) key.now) && not replace) }
 {
     let there = is_there(keyspace, at, key);
     there && !replace
@@ -120,7 +120,7 @@ pub fn copy<B: BlockStore>(
     requires ready { Ready B.blocks keyspace.old at.now }
     requires database { IsDatabase options.db }
     ensures gives { Gives B.blocks keyspace.old keyspace.new at.now (commands.Copy from.now to.now options) result }
-    ensures kept { Kept B.blocks B.step (two_keys at.now.db from.now (number_or at.now.db options.db) to.now) keyspace.old keyspace.new result }
+    ensures kept { KeepsOrRefuses B.blocks B.step (two_keys at.now.db from.now (number_or at.now.db options.db) to.now) keyspace.old keyspace.new result }
     ensures forms { IfOk result (λ reply. Formed B.blocks (AsAt at.now.db from.now) keyspace.old keyspace.new) }
 {
     let alloc = keyspace.alloc();

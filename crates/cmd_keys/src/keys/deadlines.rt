@@ -6,7 +6,7 @@ ghost use Rattle.plain_model.specs.KeySteps.{expire_outcome};
 ghost use Rattle.plain_model.specs.Outcomes.{leaves};
 ghost use Rattle.plain_model.specs.declared.keys.KeyCommand.TheVariants as commands;
 ghost use Rattle.keyspace.specs.Scopes.{no_key};
-ghost use Rattle.keyspace.specs.Commands.{Ready, Held, Kept, sight};
+ghost use Rattle.keyspace.specs.Commands.{Ready, KeepsTo, KeepsOrRefuses, visible};
 ghost use Rattle.cmd_keys.specs.Found.{Gives};
 
 use crate::keys::look::count_reply;
@@ -37,8 +37,8 @@ fn expire_by<B: BlockStore>(
     options: ExpireOptions,
 ) -> Result<Reply, Memory>
     requires ready { Ready B.blocks keyspace.old at.now }
-    ensures gives { IfOk result (λ reply. expire_outcome (sight B.blocks keyspace.old at.now) at.now.moment key.now time options ≡ leaves reply (sight B.blocks keyspace.new at.now)) }
-    ensures kept { Kept B.blocks B.step (no_key at.now.db) keyspace.old keyspace.new result }
+    ensures gives { IfOk result (λ reply. expire_outcome (visible B.blocks keyspace.old at.now) at.now.moment key.now time options ≡ leaves reply (visible B.blocks keyspace.new at.now)) }
+    ensures kept { KeepsOrRefuses B.blocks B.step (no_key at.now.db) keyspace.old keyspace.new result }
 {
     let alloc = keyspace.alloc();
     match time.due(at.moment) {
@@ -70,7 +70,7 @@ pub fn expire<B: BlockStore>(
 ) -> Result<Reply, Memory>
     requires ready { Ready B.blocks keyspace.old at.now }
     ensures gives { Gives B.blocks keyspace.old keyspace.new at.now (commands.Expire key.now n options) result }
-    ensures kept { Kept B.blocks B.step (no_key at.now.db) keyspace.old keyspace.new result }
+    ensures kept { KeepsOrRefuses B.blocks B.step (no_key at.now.db) keyspace.old keyspace.new result }
 {
     let time = Time {
         unit: TimeUnit::Seconds,
@@ -90,7 +90,7 @@ pub fn pexpire<B: BlockStore>(
 ) -> Result<Reply, Memory>
     requires ready { Ready B.blocks keyspace.old at.now }
     ensures gives { Gives B.blocks keyspace.old keyspace.new at.now (commands.PExpire key.now n options) result }
-    ensures kept { Kept B.blocks B.step (no_key at.now.db) keyspace.old keyspace.new result }
+    ensures kept { KeepsOrRefuses B.blocks B.step (no_key at.now.db) keyspace.old keyspace.new result }
 {
     let time = Time {
         unit: TimeUnit::Milliseconds,
@@ -110,7 +110,7 @@ pub fn expireat<B: BlockStore>(
 ) -> Result<Reply, Memory>
     requires ready { Ready B.blocks keyspace.old at.now }
     ensures gives { Gives B.blocks keyspace.old keyspace.new at.now (commands.ExpireAt key.now n options) result }
-    ensures kept { Kept B.blocks B.step (no_key at.now.db) keyspace.old keyspace.new result }
+    ensures kept { KeepsOrRefuses B.blocks B.step (no_key at.now.db) keyspace.old keyspace.new result }
 {
     let time = Time {
         unit: TimeUnit::Seconds,
@@ -130,7 +130,7 @@ pub fn pexpireat<B: BlockStore>(
 ) -> Result<Reply, Memory>
     requires ready { Ready B.blocks keyspace.old at.now }
     ensures gives { Gives B.blocks keyspace.old keyspace.new at.now (commands.PExpireAt key.now n options) result }
-    ensures kept { Kept B.blocks B.step (no_key at.now.db) keyspace.old keyspace.new result }
+    ensures kept { KeepsOrRefuses B.blocks B.step (no_key at.now.db) keyspace.old keyspace.new result }
 {
     let time = Time {
         unit: TimeUnit::Milliseconds,
@@ -148,7 +148,7 @@ pub fn persist<B: BlockStore>(
 ) -> Result<Reply, Memory>
     requires ready { Ready B.blocks keyspace.old at.now }
     ensures gives { Gives B.blocks keyspace.old keyspace.new at.now (commands.Persist key.now) result }
-    ensures kept { Kept B.blocks B.step (no_key at.now.db) keyspace.old keyspace.new result }
+    ensures kept { KeepsOrRefuses B.blocks B.step (no_key at.now.db) keyspace.old keyspace.new result }
 {
     let found = seek(keyspace, at, key);
     let had = persist_sought(keyspace, at, key, found)?;

@@ -3,7 +3,7 @@
 ghost use Rattle.std.specs.Prelude.{◌≡◌, IfOk};
 ghost use Rattle.plain_world.specs.Worlds.{look};
 ghost use Rattle.plain_model.specs.KeySteps.{IsEncoding};
-ghost use Rattle.keyspace.specs.Commands.{Ready, sight};
+ghost use Rattle.keyspace.specs.Commands.{Ready, visible};
 ghost use Rattle.keyspace.specs.Shown.{IsActual};
 
 use blocks::BlockStore;
@@ -17,7 +17,7 @@ pub fn object_encoding<B: BlockStore>(
     key: &[u8],
 ) -> Result<Reply, Memory>
     requires ready { Ready B.blocks keyspace.now at.now }
-    ensures gives { IfOk result (λ reply. IsEncoding (look (sight B.blocks keyspace.now at.now) key.now) reply) }
+    ensures gives { IfOk result (λ reply. IsEncoding (look (visible B.blocks keyspace.now at.now) key.now) reply) }
     ensures actual { IfOk result (λ reply. IsActual keyspace.now.bases (B.blocks keyspace.now.store) at.now key.now reply) }
 {
     let alloc = keyspace.alloc();

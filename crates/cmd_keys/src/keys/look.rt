@@ -3,7 +3,7 @@
 ghost use Rattle.std.specs.Prelude.{◌≡◌, ◌<◌, ◌^◌, [], ◌∷◌, pos, IfOk, IfSome, IfNone, is_some, true, false};
 ghost use Rattle.plain_world.specs.Worlds.{look};
 ghost use Rattle.plain_world.specs.declared.reply.Part.TheVariants as parts;
-ghost use Rattle.keyspace.specs.Commands.{Ready, sight};
+ghost use Rattle.keyspace.specs.Commands.{Ready, visible};
 ghost use Rattle.held.specs.Calls.{Seeks};
 ghost use Rattle.cmd_keys.specs.Found.{IsDeadlineAt, IsAhead, told_without};
 
@@ -24,7 +24,7 @@ pub enum Timeless {
 /// Whether something stands at a key.
 pub fn is_there<B: BlockStore>(keyspace: &Keyspace<B>, at: &Ctx, key: &[u8]) -> bool
     requires ready { Ready B.blocks keyspace.now at.now }
-    ensures { result ≡ is_some (look (sight B.blocks keyspace.now at.now) key.now) }
+    ensures { result ≡ is_some (look (visible B.blocks keyspace.now at.now) key.now) }
 {
     keyspace.look(at.db, key, at.moment).is_some()
 }
@@ -33,8 +33,8 @@ pub fn is_there<B: BlockStore>(keyspace: &Keyspace<B>, at: &Ctx, key: &[u8]) -> 
 pub fn free_place<B: BlockStore>(keyspace: &Keyspace<B>, at: &Ctx, key: &[u8]) -> Option<Sought>
     requires ready { Ready B.blocks keyspace.now at.now }
     ensures seeks { IfSome result (λ place. Seeks keyspace.now.bases (B.blocks keyspace.now.store) at.now.db key.now place) }
-    ensures free { IfSome result (λ place. is_some (look (sight B.blocks keyspace.now at.now) key.now) ≡ false) }
-    ensures taken { IfNone result (is_some (look (sight B.blocks keyspace.now at.now) key.now) ≡ true) }
+    ensures free { IfSome result (λ place. is_some (look (visible B.blocks keyspace.now at.now) key.now) ≡ false) }
+    ensures taken { IfNone result (is_some (look (visible B.blocks keyspace.now at.now) key.now) ≡ true) }
 {
     let found = seek(keyspace, at, key);
     match found.there {
@@ -50,7 +50,7 @@ pub fn deadline_at<B: BlockStore>(
     key: &[u8],
 ) -> Result<u64, Timeless>
     requires ready { Ready B.blocks keyspace.now at.now }
-    ensures is { IsDeadlineAt (sight B.blocks keyspace.now at.now) key.now result }
+    ensures is { IsDeadlineAt (visible B.blocks keyspace.now at.now) key.now result }
     ensures ahead { IfOk result (λ deadline. IsAhead at.now.moment deadline) }
 {
     let found = seek(keyspace, at, key);

@@ -8,7 +8,7 @@ ghost use Rattle.plain_model.specs.declared.keys.KeyCommand.TheVariants as comma
 ghost use Rattle.cmd_keys.specs.Found.{Gives};
 ghost use Rattle.keyspace.specs.Scopes.{two_keys};
 ghost use Rattle.keyspace.specs.Forms.{AsAt, Formed};
-ghost use Rattle.keyspace.specs.Commands.{Ready, Held, Kept, sight};
+ghost use Rattle.keyspace.specs.Commands.{Ready, KeepsTo, KeepsOrRefuses, visible};
 ghost use Rattle.keyspace.specs.Seeking.{Sees};
 ghost use Rattle.held.specs.Calls.{Seeks};
 
@@ -26,7 +26,7 @@ pub fn randomkey<B: BlockStore>(
     dice: &mut Pcg32,
 ) -> Result<Reply, Memory>
     requires ready { Ready B.blocks keyspace.now at.now }
-    ensures { IfOk result (λ reply. IsSomeKey (sight B.blocks keyspace.now at.now) reply) }
+    ensures { IfOk result (λ reply. IsSomeKey (visible B.blocks keyspace.now at.now) reply) }
 {
     let alloc = keyspace.alloc();
     let start = dice.next_word() as usize;
@@ -52,9 +52,9 @@ fn move_to<B: BlockStore>(
     requires place { Seeks keyspace.old.bases (B.blocks keyspace.old.store) number to.now place }
     requires apart { (at.now.db ≡ number) × (from.now ≡ to.now) → ⊥ }
     ensures world { OnOk result
-        ((entry : Entry) → look (sight B.blocks keyspace.old at.now) from.now ≡ Some entry
-        → sight B.blocks keyspace.new at.now ≡ put_in (remove (sight B.blocks keyspace.old at.now) from.now) number to.now entry) }
-    ensures held { Held B.blocks B.step (two_keys at.now.db from.now number to.now) keyspace.old keyspace.new }
+        ((entry : Entry) → look (visible B.blocks keyspace.old at.now) from.now ≡ Some entry
+        → visible B.blocks keyspace.new at.now ≡ put_in (remove (visible B.blocks keyspace.old at.now) from.now) number to.now entry) }
+    ensures held { KeepsTo B.blocks B.step (two_keys at.now.db from.now number to.now) keyspace.old keyspace.new }
     ensures forms { OnOk result (Formed B.blocks (AsAt at.now.db from.now) keyspace.old keyspace.new) }
 {
     match keyspace.rename_sought(at.db, from, found, number, to, place) {
@@ -76,9 +76,9 @@ fn rename_key<B: BlockStore>(
     requires sees { Sees B.blocks keyspace.old at.now from.now found }
     requires place { Seeks keyspace.old.bases (B.blocks keyspace.old.store) at.now.db to.now place }
     ensures world { OnOk result
-        ((entry : Entry) → look (sight B.blocks keyspace.old at.now) from.now ≡ Some entry
-        → sight B.blocks keyspace.new at.now ≡ model.rename (sight B.blocks keyspace.old at.now) from.now to.now entry) }
-    ensures held { Held B.blocks B.step (two_keys at.now.db from.now at.now.db to.now) keyspace.old keyspace.new }
+        ((entry : Entry) → look (visible B.blocks keyspace.old at.now) from.now ≡ Some entry
+        → visible B.blocks keyspace.new at.now ≡ model.rename (visible B.blocks keyspace.old at.now) from.now to.now entry) }
+    ensures held { KeepsTo B.blocks B.step (two_keys at.now.db from.now at.now.db to.now) keyspace.old keyspace.new }
     ensures forms { OnOk result (Formed B.blocks (AsAt at.now.db from.now) keyspace.old keyspace.new) }
 {
     if from == to {
@@ -96,7 +96,7 @@ pub fn rename<B: BlockStore>(
 ) -> Result<Reply, Memory>
     requires ready { Ready B.blocks keyspace.old at.now }
     ensures gives { Gives B.blocks keyspace.old keyspace.new at.now (commands.Rename from.now to.now) result }
-    ensures kept { Kept B.blocks B.step (two_keys at.now.db from.now at.now.db to.now) keyspace.old keyspace.new result }
+    ensures kept { KeepsOrRefuses B.blocks B.step (two_keys at.now.db from.now at.now.db to.now) keyspace.old keyspace.new result }
     ensures forms { IfOk result (λ reply. Formed B.blocks (AsAt at.now.db from.now) keyspace.old keyspace.new) }
 {
     let alloc = keyspace.alloc();
@@ -120,7 +120,7 @@ pub fn renamenx<B: BlockStore>(
 ) -> Result<Reply, Memory>
     requires ready { Ready B.blocks keyspace.old at.now }
     ensures gives { Gives B.blocks keyspace.old keyspace.new at.now (commands.RenameNx from.now to.now) result }
-    ensures kept { Kept B.blocks B.step (two_keys at.now.db from.now at.now.db to.now) keyspace.old keyspace.new result }
+    ensures kept { KeepsOrRefuses B.blocks B.step (two_keys at.now.db from.now at.now.db to.now) keyspace.old keyspace.new result }
     ensures forms { IfOk result (λ reply. Formed B.blocks (AsAt at.now.db from.now) keyspace.old keyspace.new) }
 {
     let alloc = keyspace.alloc();
@@ -150,7 +150,7 @@ pub fn move_key<B: BlockStore>(
     requires ready { Ready B.blocks keyspace.old at.now }
     requires number { number < 16 }
     ensures gives { Gives B.blocks keyspace.old keyspace.new at.now (commands.MoveKey key.now number) result }
-    ensures kept { Kept B.blocks B.step (two_keys at.now.db key.now number key.now) keyspace.old keyspace.new result }
+    ensures kept { KeepsOrRefuses B.blocks B.step (two_keys at.now.db key.now number key.now) keyspace.old keyspace.new result }
     ensures forms { IfOk result (λ reply. Formed B.blocks (AsAt at.now.db key.now) keyspace.old keyspace.new) }
 {
     let alloc = keyspace.alloc();

@@ -4,7 +4,7 @@ ghost use Rattle.std.specs.Prelude.{◌≡◌, ◌<◌, List, ℕ, IfOk, OnOk, I
 ghost use Rattle.plain_model.specs.Scans.{keys_sought};
 ghost use Rattle.plain_model.specs.KeySteps.{AreKeysLike, IsScanned, type_name};
 ghost use Rattle.keyspace.specs.Values.{value_of};
-ghost use Rattle.keyspace.specs.Commands.{Ready, sight};
+ghost use Rattle.keyspace.specs.Commands.{Ready, visible};
 ghost use Rattle.keyspace.specs.Sifted.{Adds};
 ghost use Rattle.keyspace.specs.Shown.{PassesAt, Sifted, IsTablePage};
 ghost use Rattle.cmd_keys.specs.Sieve.{is_type, numbers};
@@ -114,7 +114,7 @@ pub fn keys_like<B: BlockStore>(
     pattern: &[u8],
 ) -> Result<Reply, Memory>
     requires ready { Ready B.blocks keyspace.now at.now }
-    ensures { IfOk result (λ reply. AreKeysLike (sight B.blocks keyspace.now at.now) pattern.now reply) }
+    ensures { IfOk result (λ reply. AreKeysLike (visible B.blocks keyspace.now at.now) pattern.now reply) }
 {
     let alloc = keyspace.alloc();
     let options = ScanOptions {
@@ -138,7 +138,7 @@ pub fn scan<B: BlockStore>(
 ) -> Result<Reply, Memory>
     requires ready { Ready B.blocks keyspace.now at.now }
     requires count { 0 < options.now.count }
-    ensures page { IfOk result (λ reply. IsScanned keyspace.now.bases.seed (sight B.blocks keyspace.now at.now) cursor options.now reply) }
+    ensures page { IfOk result (λ reply. IsScanned keyspace.now.bases.seed (visible B.blocks keyspace.now at.now) cursor options.now reply) }
     ensures table { IfOk result (λ reply. IsTablePage keyspace.now.bases (B.blocks keyspace.now.store) at.now cursor options.now reply) }
 {
     let alloc = keyspace.alloc();

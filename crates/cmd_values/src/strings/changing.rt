@@ -10,7 +10,7 @@ ghost use Rattle.keyspace.specs.Scopes.{one_key};
 ghost use Rattle.held.specs.Calls.{AllAt};
 ghost use Rattle.keyspace.specs.Forms.{Whole, Raw, Formed};
 ghost use Rattle.keyspace.specs.Values.{IsRaw};
-ghost use Rattle.keyspace.specs.Commands.{Ready, Held, Kept, sight};
+ghost use Rattle.keyspace.specs.Commands.{Ready, KeepsTo, KeepsOrRefuses, visible};
 ghost use Rattle.cmd_values.specs.Found.{Gives, IsThere, Becomes};
 ghost use Rattle.cmd_values.specs.Changed.{changed, HasRoom};
 
@@ -57,10 +57,10 @@ fn change_there<B: BlockStore>(
     change: Change<'_>,
 ) -> Result<(), Memory>
     requires ready { Ready B.blocks keyspace.old at.now }
-    requires there { (bytes : List ℕ) × IsThere (sight B.blocks keyspace.old at.now) key.now bytes }
-    requires room { (bytes : List ℕ) → IsThere (sight B.blocks keyspace.old at.now) key.now bytes → HasRoom change bytes }
-    ensures becomes { OnOk result (Becomes (sight B.blocks keyspace.old at.now) key.now (changed change.entry) (sight B.blocks keyspace.new at.now)) }
-    ensures held { Held B.blocks B.step (one_key at.now.db key.now) keyspace.old keyspace.new }
+    requires there { (bytes : List ℕ) × IsThere (visible B.blocks keyspace.old at.now) key.now bytes }
+    requires room { (bytes : List ℕ) → IsThere (visible B.blocks keyspace.old at.now) key.now bytes → HasRoom change bytes }
+    ensures becomes { OnOk result (Becomes (visible B.blocks keyspace.old at.now) key.now (changed change.entry) (visible B.blocks keyspace.new at.now)) }
+    ensures held { KeepsTo B.blocks B.step (one_key at.now.db key.now) keyspace.old keyspace.new }
     ensures raw { OnOk result (AllAt IsRaw keyspace.new.bases (B.blocks keyspace.new.store) at.now.db key.now) }
 {
     let Some(lifted) = keyspace.lift(at.db, key, at.moment) else {
@@ -86,8 +86,8 @@ pub fn append<B: BlockStore>(
 ) -> Result<Reply, Memory>
     requires ready { Ready B.blocks keyspace.old at.now }
     ensures gives { Gives B.blocks keyspace.old keyspace.new at.now (strings.Append key.now tail.now) result }
-    ensures kept { Kept B.blocks B.step (one_key at.now.db key.now) keyspace.old keyspace.new result }
-    ensures forms { IfOk result (λ reply. Formed B.blocks (if is_some (look (sight B.blocks keyspace.old at.now) key.now) then Raw else Whole) keyspace.old keyspace.new) }
+    ensures kept { KeepsOrRefuses B.blocks B.step (one_key at.now.db key.now) keyspace.old keyspace.new result }
+    ensures forms { IfOk result (λ reply. Formed B.blocks (if is_some (look (visible B.blocks keyspace.old at.now) key.now) then Raw else Whole) keyspace.old keyspace.new) }
 {
     let alloc = keyspace.alloc();
     match length_at(keyspace, at, key) {
@@ -121,7 +121,7 @@ pub fn setrange<B: BlockStore>(
     requires ready { Ready B.blocks keyspace.old at.now }
     requires room { 0 < length piece.now → place + length piece.now ≤ longest }
     ensures gives { Gives B.blocks keyspace.old keyspace.new at.now (strings.SetRange key.now place piece.now) result }
-    ensures kept { Kept B.blocks B.step (one_key at.now.db key.now) keyspace.old keyspace.new result }
+    ensures kept { KeepsOrRefuses B.blocks B.step (one_key at.now.db key.now) keyspace.old keyspace.new result }
     ensures forms { IfOk result (λ reply. Formed B.blocks Raw keyspace.old keyspace.new) }
 {
     let alloc = keyspace.alloc();

@@ -8,7 +8,7 @@ ghost use Rattle.plain_world.specs.declared.reply.Part.TheVariants as parts;
 ghost use Rattle.plain_model.specs.declared.command.StringCommand.TheVariants as strings;
 ghost use Rattle.keyspace.specs.Scopes.{one_key};
 ghost use Rattle.keyspace.specs.Forms.{Whole, Formed};
-ghost use Rattle.keyspace.specs.Commands.{Ready, Held, Kept, sight};
+ghost use Rattle.keyspace.specs.Commands.{Ready, KeepsTo, KeepsOrRefuses, visible};
 ghost use Rattle.keyspace.specs.Seeking.{Sees};
 ghost use Rattle.held.specs.Calls.{Seeks, StandsAt};
 ghost use Rattle.cmd_values.specs.Found.{Gives, IsString};
@@ -39,7 +39,7 @@ fn number_at<B: BlockStore>(
 ) -> Counted
     requires ready { Ready B.blocks keyspace.now at.now }
     requires sees { Sees B.blocks keyspace.now at.now key.now found }
-    ensures { IsCounted (sight B.blocks keyspace.now at.now) key.now result }
+    ensures { IsCounted (visible B.blocks keyspace.now at.now) key.now result }
 {
     match sought_text(keyspace, at, key, found) {
         Look::Missing => Counted::Number(0),
@@ -61,9 +61,9 @@ fn put_number<B: BlockStore>(
 ) -> Result<(), Memory>
     requires ready { Ready B.blocks keyspace.old at.now }
     requires seeks { Seeks keyspace.old.bases (B.blocks keyspace.old.store) at.now.db key.now sought }
-    requires none { look (sight B.blocks keyspace.old at.now) key.now ≡ None }
-    ensures world { OnOk result (sight B.blocks keyspace.new at.now ≡ change (sight B.blocks keyspace.old at.now) key.now (canonical n)) }
-    ensures held { Held B.blocks B.step (one_key at.now.db key.now) keyspace.old keyspace.new }
+    requires none { look (visible B.blocks keyspace.old at.now) key.now ≡ None }
+    ensures world { OnOk result (visible B.blocks keyspace.new at.now ≡ change (visible B.blocks keyspace.old at.now) key.now (canonical n)) }
+    ensures held { KeepsTo B.blocks B.step (one_key at.now.db key.now) keyspace.old keyspace.new }
     ensures forms { OnOk result (Formed B.blocks Whole keyspace.old keyspace.new) }
 {
     keyspace.put_sought(at.db, key, sought, Value::Text(Text::Number(n)), None)
@@ -79,10 +79,10 @@ fn write_number<B: BlockStore>(
 ) -> Result<Reply, Memory>
     requires ready { Ready B.blocks keyspace.old at.now }
     requires sees { Sees B.blocks keyspace.old at.now key.now found }
-    requires string { (entry : Entry) → look (sight B.blocks keyspace.old at.now) key.now ≡ Some entry → IsString entry.value }
+    requires string { (entry : Entry) → look (visible B.blocks keyspace.old at.now) key.now ≡ Some entry → IsString entry.value }
     ensures reply { IfOk result (λ reply. reply ≡ parts.Number n ∷ []) }
-    ensures world { OnOk result (sight B.blocks keyspace.new at.now ≡ change (sight B.blocks keyspace.old at.now) key.now (canonical n)) }
-    ensures held { Held B.blocks B.step (one_key at.now.db key.now) keyspace.old keyspace.new }
+    ensures world { OnOk result (visible B.blocks keyspace.new at.now ≡ change (visible B.blocks keyspace.old at.now) key.now (canonical n)) }
+    ensures held { KeepsTo B.blocks B.step (one_key at.now.db key.now) keyspace.old keyspace.new }
     ensures forms { IfOk result (λ reply. Formed B.blocks Whole keyspace.old keyspace.new) }
 {
     let alloc = keyspace.alloc();
@@ -113,7 +113,7 @@ pub fn incrby<B: BlockStore>(
 ) -> Result<Reply, Memory>
     requires ready { Ready B.blocks keyspace.old at.now }
     ensures gives { Gives B.blocks keyspace.old keyspace.new at.now (strings.IncrBy key.now by) result }
-    ensures kept { Kept B.blocks B.step (one_key at.now.db key.now) keyspace.old keyspace.new result }
+    ensures kept { KeepsOrRefuses B.blocks B.step (one_key at.now.db key.now) keyspace.old keyspace.new result }
     ensures forms { IfOk result (λ reply. Formed B.blocks Whole keyspace.old keyspace.new) }
 {
     let found = seek(keyspace, at, key);
@@ -137,7 +137,7 @@ pub fn decrby<B: BlockStore>(
 ) -> Result<Reply, Memory>
     requires ready { Ready B.blocks keyspace.old at.now }
     ensures gives { Gives B.blocks keyspace.old keyspace.new at.now (strings.DecrBy key.now by) result }
-    ensures kept { Kept B.blocks B.step (one_key at.now.db key.now) keyspace.old keyspace.new result }
+    ensures kept { KeepsOrRefuses B.blocks B.step (one_key at.now.db key.now) keyspace.old keyspace.new result }
     ensures forms { IfOk result (λ reply. Formed B.blocks Whole keyspace.old keyspace.new) }
 {
     let found = seek(keyspace, at, key);
@@ -159,7 +159,7 @@ pub fn incr<B: BlockStore>(
 ) -> Result<Reply, Memory>
     requires ready { Ready B.blocks keyspace.old at.now }
     ensures gives { Gives B.blocks keyspace.old keyspace.new at.now (strings.Incr key.now) result }
-    ensures kept { Kept B.blocks B.step (one_key at.now.db key.now) keyspace.old keyspace.new result }
+    ensures kept { KeepsOrRefuses B.blocks B.step (one_key at.now.db key.now) keyspace.old keyspace.new result }
     ensures forms { IfOk result (λ reply. Formed B.blocks Whole keyspace.old keyspace.new) }
 {
     incrby(keyspace, at, key, 1)
@@ -173,7 +173,7 @@ pub fn decr<B: BlockStore>(
 ) -> Result<Reply, Memory>
     requires ready { Ready B.blocks keyspace.old at.now }
     ensures gives { Gives B.blocks keyspace.old keyspace.new at.now (strings.Decr key.now) result }
-    ensures kept { Kept B.blocks B.step (one_key at.now.db key.now) keyspace.old keyspace.new result }
+    ensures kept { KeepsOrRefuses B.blocks B.step (one_key at.now.db key.now) keyspace.old keyspace.new result }
     ensures forms { IfOk result (λ reply. Formed B.blocks Whole keyspace.old keyspace.new) }
 {
     decrby(keyspace, at, key, 1)

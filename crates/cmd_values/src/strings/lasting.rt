@@ -10,7 +10,7 @@ ghost use Rattle.plain_model.specs.declared.times.Renewal.TheVariants as renewal
 ghost use Rattle.plain_model.specs.declared.command.StringCommand.TheVariants as strings;
 ghost use Rattle.keyspace.specs.Scopes.{one_key, no_key};
 ghost use Rattle.keyspace.specs.Forms.{Whole, Formed};
-ghost use Rattle.keyspace.specs.Commands.{Ready, Kept, sight};
+ghost use Rattle.keyspace.specs.Commands.{Ready, KeepsOrRefuses, visible};
 ghost use Rattle.cmd_values.specs.Found.{Gives};
 
 use crate::strings::look::sought_value;
@@ -41,8 +41,8 @@ fn set_for_units<B: BlockStore>(
     value: &[u8],
 ) -> Result<Reply, Memory>
     requires ready { Ready B.blocks keyspace.old at.now }
-    ensures gives { IfOk result (λ reply. set_for (sight B.blocks keyspace.old at.now) at.now.moment key.now unit n value.now ≡ leaves reply (sight B.blocks keyspace.new at.now)) }
-    ensures kept { Kept B.blocks B.step (one_key at.now.db key.now) keyspace.old keyspace.new result }
+    ensures gives { IfOk result (λ reply. set_for (visible B.blocks keyspace.old at.now) at.now.moment key.now unit n value.now ≡ leaves reply (visible B.blocks keyspace.new at.now)) }
+    ensures kept { KeepsOrRefuses B.blocks B.step (one_key at.now.db key.now) keyspace.old keyspace.new result }
     ensures forms { IfOk result (λ reply. Formed B.blocks Whole keyspace.old keyspace.new) }
 {
     let alloc = keyspace.alloc();
@@ -70,7 +70,7 @@ pub fn setex<B: BlockStore>(
 ) -> Result<Reply, Memory>
     requires ready { Ready B.blocks keyspace.old at.now }
     ensures gives { Gives B.blocks keyspace.old keyspace.new at.now (strings.SetEx key.now seconds value.now) result }
-    ensures kept { Kept B.blocks B.step (one_key at.now.db key.now) keyspace.old keyspace.new result }
+    ensures kept { KeepsOrRefuses B.blocks B.step (one_key at.now.db key.now) keyspace.old keyspace.new result }
     ensures forms { IfOk result (λ reply. Formed B.blocks Whole keyspace.old keyspace.new) }
 {
     set_for_units(keyspace, at, key, TimeUnit::Seconds, seconds, value)
@@ -86,7 +86,7 @@ pub fn psetex<B: BlockStore>(
 ) -> Result<Reply, Memory>
     requires ready { Ready B.blocks keyspace.old at.now }
     ensures gives { Gives B.blocks keyspace.old keyspace.new at.now (strings.PSetEx key.now milliseconds value.now) result }
-    ensures kept { Kept B.blocks B.step (one_key at.now.db key.now) keyspace.old keyspace.new result }
+    ensures kept { KeepsOrRefuses B.blocks B.step (one_key at.now.db key.now) keyspace.old keyspace.new result }
     ensures forms { IfOk result (λ reply. Formed B.blocks Whole keyspace.old keyspace.new) }
 {
     set_for_units(
@@ -108,10 +108,10 @@ fn get_expiring<B: BlockStore>(
 ) -> Result<Reply, Memory>
     requires ready { Ready B.blocks keyspace.old at.now }
     ensures gives { IfOk result
-        (λ reply. on_string (sight B.blocks keyspace.old at.now) (look (sight B.blocks keyspace.old at.now) key.now)
-        (λ before. leaves (or_null before ∷ []) (deadlines.expire (sight B.blocks keyspace.old at.now) at.now.moment key.now due (look (sight B.blocks keyspace.old at.now) key.now))) ≡
-        leaves reply (sight B.blocks keyspace.new at.now)) }
-    ensures kept { Kept B.blocks B.step (no_key at.now.db) keyspace.old keyspace.new result }
+        (λ reply. on_string (visible B.blocks keyspace.old at.now) (look (visible B.blocks keyspace.old at.now) key.now)
+        (λ before. leaves (or_null before ∷ []) (deadlines.expire (visible B.blocks keyspace.old at.now) at.now.moment key.now due (look (visible B.blocks keyspace.old at.now) key.now))) ≡
+        leaves reply (visible B.blocks keyspace.new at.now)) }
+    ensures kept { KeepsOrRefuses B.blocks B.step (no_key at.now.db) keyspace.old keyspace.new result }
 {
     let found = seek(keyspace, at, key);
     match sought_value(keyspace, at, key, found)? {
@@ -131,8 +131,8 @@ fn get_until<B: BlockStore>(
     time: Time,
 ) -> Result<Reply, Memory>
     requires ready { Ready B.blocks keyspace.old at.now }
-    ensures gives { IfOk result (λ reply. getex_outcome (sight B.blocks keyspace.old at.now) at.now.moment key.now (renewals.Until time) ≡ leaves reply (sight B.blocks keyspace.new at.now)) }
-    ensures kept { Kept B.blocks B.step (no_key at.now.db) keyspace.old keyspace.new result }
+    ensures gives { IfOk result (λ reply. getex_outcome (visible B.blocks keyspace.old at.now) at.now.moment key.now (renewals.Until time) ≡ leaves reply (visible B.blocks keyspace.new at.now)) }
+    ensures kept { KeepsOrRefuses B.blocks B.step (no_key at.now.db) keyspace.old keyspace.new result }
 {
     match time.due(at.moment) {
         None => Reply::refused(keyspace.alloc(), Refusal::InvalidExpireTime),
@@ -147,8 +147,8 @@ fn get_persisting<B: BlockStore>(
     key: &[u8],
 ) -> Result<Reply, Memory>
     requires ready { Ready B.blocks keyspace.old at.now }
-    ensures gives { IfOk result (λ reply. getex_outcome (sight B.blocks keyspace.old at.now) at.now.moment key.now renewals.Persist ≡ leaves reply (sight B.blocks keyspace.new at.now)) }
-    ensures kept { Kept B.blocks B.step (no_key at.now.db) keyspace.old keyspace.new result }
+    ensures gives { IfOk result (λ reply. getex_outcome (visible B.blocks keyspace.old at.now) at.now.moment key.now renewals.Persist ≡ leaves reply (visible B.blocks keyspace.new at.now)) }
+    ensures kept { KeepsOrRefuses B.blocks B.step (no_key at.now.db) keyspace.old keyspace.new result }
 {
     let found = seek(keyspace, at, key);
     match sought_value(keyspace, at, key, found)? {
@@ -169,7 +169,7 @@ pub fn getex<B: BlockStore>(
 ) -> Result<Reply, Memory>
     requires ready { Ready B.blocks keyspace.old at.now }
     ensures gives { Gives B.blocks keyspace.old keyspace.new at.now (strings.GetEx key.now renewal) result }
-    ensures kept { Kept B.blocks B.step (no_key at.now.db) keyspace.old keyspace.new result }
+    ensures kept { KeepsOrRefuses B.blocks B.step (no_key at.now.db) keyspace.old keyspace.new result }
 {
     match renewal {
         Renewal::Unchanged => get(keyspace, at, key),

@@ -5,7 +5,7 @@ ghost use Rattle.plain_world.specs.Worlds.{look};
 ghost use Rattle.plain_world.specs.declared.reply.Part.TheVariants as parts;
 ghost use Rattle.string_object.specs.Text.{text_bytes, text_refs};
 ghost use Rattle.blocks.specs.Blocks.{Owned};
-ghost use Rattle.keyspace.specs.Commands.{Ready, sight};
+ghost use Rattle.keyspace.specs.Commands.{Ready, visible};
 ghost use Rattle.keyspace.specs.Seeking.{Sees};
 ghost use Rattle.keyspace.specs.Looks.{IsLook};
 ghost use Rattle.cmd_values.specs.Found.{FoundText, FoundOther, HasLength, IsOldValue};
@@ -19,8 +19,8 @@ use string_object::Text;
 /// The string at a key.
 pub fn text_at<'a, B: BlockStore>(keyspace: &'a Keyspace<B>, at: &Ctx, key: &[u8]) -> Look<&'a Text>
     requires ready { Ready B.blocks keyspace.now at.now }
-    ensures { IsLook (look (sight B.blocks keyspace.now at.now) key.now ≡ None) (FoundOther (sight B.blocks keyspace.now at.now) key.now)
-        (λ text. FoundText (sight B.blocks keyspace.now at.now) (B.blocks keyspace.now.store) key.now text.now) result }
+    ensures { IsLook (look (visible B.blocks keyspace.now at.now) key.now ≡ None) (FoundOther (visible B.blocks keyspace.now at.now) key.now)
+        (λ text. FoundText (visible B.blocks keyspace.now at.now) (B.blocks keyspace.now.store) key.now text.now) result }
 {
     match keyspace.look(at.db, key, at.moment) {
         None => Look::Missing,
@@ -59,8 +59,8 @@ pub fn sought_text<'a, B: BlockStore>(
 ) -> Look<&'a Text>
     requires ready { Ready B.blocks keyspace.now at.now }
     requires sees { Sees B.blocks keyspace.now at.now key.now found }
-    ensures { IsLook (look (sight B.blocks keyspace.now at.now) key.now ≡ None) (FoundOther (sight B.blocks keyspace.now at.now) key.now)
-        (λ text. FoundText (sight B.blocks keyspace.now at.now) (B.blocks keyspace.now.store) key.now text.now) result }
+    ensures { IsLook (look (visible B.blocks keyspace.now at.now) key.now ≡ None) (FoundOther (visible B.blocks keyspace.now at.now) key.now)
+        (λ text. FoundText (visible B.blocks keyspace.now at.now) (B.blocks keyspace.now.store) key.now text.now) result }
 {
     // what was found tells the key
     let _ = key;
@@ -76,8 +76,8 @@ pub fn sought_text<'a, B: BlockStore>(
 /// The length in bytes of the string at a key.
 pub fn length_at<B: BlockStore>(keyspace: &Keyspace<B>, at: &Ctx, key: &[u8]) -> Look<usize>
     requires ready { Ready B.blocks keyspace.now at.now }
-    ensures { IsLook (look (sight B.blocks keyspace.now at.now) key.now ≡ None) (FoundOther (sight B.blocks keyspace.now at.now) key.now)
-        (HasLength (sight B.blocks keyspace.now at.now) key.now) result }
+    ensures { IsLook (look (visible B.blocks keyspace.now at.now) key.now ≡ None) (FoundOther (visible B.blocks keyspace.now at.now) key.now)
+        (HasLength (visible B.blocks keyspace.now at.now) key.now) result }
 {
     match text_at(keyspace, at, key) {
         Look::Missing => Look::Missing,
@@ -95,8 +95,8 @@ pub fn length_sought<B: BlockStore>(
 ) -> Look<usize>
     requires ready { Ready B.blocks keyspace.now at.now }
     requires sees { Sees B.blocks keyspace.now at.now key.now found }
-    ensures { IsLook (look (sight B.blocks keyspace.now at.now) key.now ≡ None) (FoundOther (sight B.blocks keyspace.now at.now) key.now)
-        (HasLength (sight B.blocks keyspace.now at.now) key.now) result }
+    ensures { IsLook (look (visible B.blocks keyspace.now at.now) key.now ≡ None) (FoundOther (visible B.blocks keyspace.now at.now) key.now)
+        (HasLength (visible B.blocks keyspace.now at.now) key.now) result }
 {
     match sought_text(keyspace, at, key, found) {
         Look::Missing => Look::Missing,
@@ -120,7 +120,7 @@ pub fn old_value<B: BlockStore>(
     key: &[u8],
 ) -> Result<Option<Reply>, Memory>
     requires ready { Ready B.blocks keyspace.now at.now }
-    ensures { IfOk result (λ reply. IsOldValue (sight B.blocks keyspace.now at.now) key.now reply) }
+    ensures { IfOk result (λ reply. IsOldValue (visible B.blocks keyspace.now at.now) key.now reply) }
 {
     let alloc = keyspace.alloc();
     match text_at(keyspace, at, key) {
@@ -142,7 +142,7 @@ pub fn sought_value<B: BlockStore>(
 ) -> Result<Option<Reply>, Memory>
     requires ready { Ready B.blocks keyspace.now at.now }
     requires sees { Sees B.blocks keyspace.now at.now key.now found }
-    ensures { IfOk result (λ reply. IsOldValue (sight B.blocks keyspace.now at.now) key.now reply) }
+    ensures { IfOk result (λ reply. IsOldValue (visible B.blocks keyspace.now at.now) key.now reply) }
 {
     let alloc = keyspace.alloc();
     match sought_text(keyspace, at, key, found) {

@@ -3,7 +3,7 @@
 ghost use Rattle.std.specs.Prelude.{◌≡◌, ◌<◌, ◌++◌, List, ℕ, ℤ, IfOk, OnOk};
 ghost use Rattle.plain_model.specs.StringSteps.{from_front, range};
 ghost use Rattle.plain_model.specs.declared.command.StringCommand.TheVariants as strings;
-ghost use Rattle.keyspace.specs.Commands.{Ready, Held, Kept, sight};
+ghost use Rattle.keyspace.specs.Commands.{Ready, KeepsTo, KeepsOrRefuses, visible};
 ghost use Rattle.cmd_values.specs.Found.{Gives, value_at, values_at};
 
 use crate::strings::look::{bytes_of, length_of, length_reply, old_value, text_at};
@@ -95,7 +95,7 @@ pub fn getrange<B: BlockStore>(
 #[tactic(auto, using(crate::proofs::StringLemmas::null_other))]
 fn value_part<B: BlockStore>(keyspace: &Keyspace<B>, at: &Ctx, key: &[u8]) -> Result<Part, Memory>
     requires ready { Ready B.blocks keyspace.now at.now }
-    ensures { IfOk result (λ part. part ≡ value_at (sight B.blocks keyspace.now at.now) key.now) }
+    ensures { IfOk result (λ part. part ≡ value_at (visible B.blocks keyspace.now at.now) key.now) }
 {
     match text_at(keyspace, at, key) {
         Look::Missing | Look::Other => Ok(Part::Null),
@@ -111,7 +111,7 @@ fn push_values<B: BlockStore>(
     parts: &mut Parts,
 ) -> Result<(), Memory>
     requires ready { Ready B.blocks keyspace.now at.now }
-    ensures { OnOk result (parts.new ≡ parts.old ++ values_at (sight B.blocks keyspace.now at.now) keys.now) }
+    ensures { OnOk result (parts.new ≡ parts.old ++ values_at (visible B.blocks keyspace.now at.now) keys.now) }
 {
     let mut rest = keys;
     'keys: while let [key, others @ ..] = rest {

@@ -10,7 +10,7 @@ ghost use Rattle.plain_model.specs.declared.command.Condition.{Condition};
 ghost use Rattle.plain_model.specs.declared.command.StringCommand.TheVariants as strings;
 ghost use Rattle.keyspace.specs.Scopes.{one_key, no_key, some_keys, first_words};
 ghost use Rattle.keyspace.specs.Forms.{Whole, Formed};
-ghost use Rattle.keyspace.specs.Commands.{Ready, Held, Kept, sight};
+ghost use Rattle.keyspace.specs.Commands.{Ready, KeepsTo, KeepsOrRefuses, visible};
 ghost use Rattle.cmd_values.specs.Found.{Gives, IsSetReply, IsLifetime, IsOldValue};
 
 use crate::strings::lasting::from_zero;
@@ -50,8 +50,8 @@ pub fn put_lasting<B: BlockStore>(
     requires ready { Ready B.blocks keyspace.old at.now }
     requires sees { IfSome found (λ found. Sees B.blocks keyspace.old at.now key.now found) }
     requires latest { IsDeadline deadline }
-    ensures world { OnOk result (sight B.blocks keyspace.new at.now ≡ stand (sight B.blocks keyspace.old at.now) at.now.moment key.now (record { value = Str value.now; deadline = deadline })) }
-    ensures held { Held B.blocks B.step (one_key at.now.db key.now) keyspace.old keyspace.new }
+    ensures world { OnOk result (visible B.blocks keyspace.new at.now ≡ stand (visible B.blocks keyspace.old at.now) at.now.moment key.now (record { value = Str value.now; deadline = deadline })) }
+    ensures held { KeepsTo B.blocks B.step (one_key at.now.db key.now) keyspace.old keyspace.new }
     ensures forms { OnOk result (Formed B.blocks Whole keyspace.old keyspace.new) }
 {
     let sought = sought_of(keyspace, at, key, found);
@@ -69,8 +69,8 @@ pub fn put_string<B: BlockStore>(
 ) -> Result<(), Memory>
     requires ready { Ready B.blocks keyspace.old at.now }
     requires sees { IfSome found (λ found. Sees B.blocks keyspace.old at.now key.now found) }
-    ensures world { OnOk result (sight B.blocks keyspace.new at.now ≡ replace (sight B.blocks keyspace.old at.now) key.now value.now) }
-    ensures held { Held B.blocks B.step (one_key at.now.db key.now) keyspace.old keyspace.new }
+    ensures world { OnOk result (visible B.blocks keyspace.new at.now ≡ replace (visible B.blocks keyspace.old at.now) key.now value.now) }
+    ensures held { KeepsTo B.blocks B.step (one_key at.now.db key.now) keyspace.old keyspace.new }
     ensures forms { OnOk result (Formed B.blocks Whole keyspace.old keyspace.new) }
 {
     put_lasting(keyspace, at, key, found, value, None)
@@ -79,7 +79,7 @@ pub fn put_string<B: BlockStore>(
 // Whether something stands at a key.
 fn is_there<B: BlockStore>(keyspace: &Keyspace<B>, at: &Ctx, key: &[u8]) -> bool
     requires ready { Ready B.blocks keyspace.now at.now }
-    ensures { result ≡ is_some (look (sight B.blocks keyspace.now at.now) key.now) }
+    ensures { result ≡ is_some (look (visible B.blocks keyspace.now at.now) key.now) }
 {
     keyspace.look(at.db, key, at.moment).is_some()
 }
@@ -93,7 +93,7 @@ fn is_seen<B: BlockStore>(
 ) -> bool
     requires ready { Ready B.blocks keyspace.now at.now }
     requires sees { IfSome found (λ found. Sees B.blocks keyspace.now at.now key.now found) }
-    ensures { result ≡ is_some (look (sight B.blocks keyspace.now at.now) key.now) }
+    ensures { result ≡ is_some (look (visible B.blocks keyspace.now at.now) key.now) }
 {
     match found {
         None => is_there(keyspace, at, key),
@@ -111,7 +111,7 @@ fn writes<B: BlockStore>(
 ) -> bool
     requires ready { Ready B.blocks keyspace.now at.now }
     requires sees { IfSome found (λ found. Sees B.blocks keyspace.now at.now key.now found) }
-    ensures { result ≡ allows condition (is_some (look (sight B.blocks keyspace.now at.now) key.now)) }
+    ensures { result ≡ allows condition (is_some (look (visible B.blocks keyspace.now at.now) key.now)) }
 {
     match condition {
         Condition::Always => true,
@@ -130,7 +130,7 @@ fn seen_value<B: BlockStore>(
 ) -> Result<Option<Reply>, Memory>
     requires ready { Ready B.blocks keyspace.now at.now }
     requires sees { IfSome found (λ found. Sees B.blocks keyspace.now at.now key.now found) }
-    ensures { IfOk result (λ reply. IsOldValue (sight B.blocks keyspace.now at.now) key.now reply) }
+    ensures { IfOk result (λ reply. IsOldValue (visible B.blocks keyspace.now at.now) key.now reply) }
 {
     match found {
         None => old_value(keyspace, at, key),
@@ -149,7 +149,7 @@ fn set_reply<B: BlockStore>(
 ) -> Result<Option<Reply>, Memory>
     requires ready { Ready B.blocks keyspace.now at.now }
     requires sees { IfSome found (λ found. Sees B.blocks keyspace.now at.now key.now found) }
-    ensures { IfOk result (λ reply. IsSetReply (sight B.blocks keyspace.now at.now) key.now get written reply) }
+    ensures { IfOk result (λ reply. IsSetReply (visible B.blocks keyspace.now at.now) key.now get written reply) }
 {
     if get {
         return seen_value(keyspace, at, key, found);
@@ -169,7 +169,7 @@ fn seen_deadline<B: BlockStore>(
 ) -> Option<u64>
     requires ready { Ready B.blocks keyspace.now at.now }
     requires sees { IfSome found (λ found. Sees B.blocks keyspace.now at.now key.now found) }
-    ensures value { result ≡ deadline_of (look (sight B.blocks keyspace.now at.now) key.now) }
+    ensures value { result ≡ deadline_of (look (visible B.blocks keyspace.now at.now) key.now) }
     ensures latest { IsDeadline result }
 {
     match found {
@@ -191,12 +191,12 @@ fn lifetime_at<B: BlockStore>(
 ) -> Option<Option<u64>>
     requires ready { Ready B.blocks keyspace.now at.now }
     requires sees { IfSome found (λ found. Sees B.blocks keyspace.now at.now key.now found) }
-    ensures is { IsLifetime (sight B.blocks keyspace.now at.now) at.now.moment key.now lifetime result }
+    ensures is { IsLifetime (visible B.blocks keyspace.now at.now) at.now.moment key.now lifetime result }
     ensures latest { IfSome result (λ deadline. IsDeadline deadline) }
 {
     match lifetime {
         Lifetime::Forever => Some(None),
-        Lifetime::Kept => Some(seen_deadline(keyspace, at, key, found)),
+        Lifetime::KeepsOrRefuses => Some(seen_deadline(keyspace, at, key, found)),
         Lifetime::Until(time) => match time.due(at.moment) {
             None => None,
             Some(due) => Some(Some(from_zero(due))),
@@ -218,9 +218,9 @@ fn put_if<B: BlockStore>(
     requires sees { IfSome found (λ found. Sees B.blocks keyspace.old at.now key.now found) }
     requires latest { IsDeadline deadline }
     ensures world { OnOk result
-        (sight B.blocks keyspace.new at.now ≡
-        (if written then stand (sight B.blocks keyspace.old at.now) at.now.moment key.now (record { value = Str value.now; deadline = deadline }) else sight B.blocks keyspace.old at.now)) }
-    ensures held { Held B.blocks B.step (one_key at.now.db key.now) keyspace.old keyspace.new }
+        (visible B.blocks keyspace.new at.now ≡
+        (if written then stand (visible B.blocks keyspace.old at.now) at.now.moment key.now (record { value = Str value.now; deadline = deadline }) else visible B.blocks keyspace.old at.now)) }
+    ensures held { KeepsTo B.blocks B.step (one_key at.now.db key.now) keyspace.old keyspace.new }
     ensures forms { OnOk result (Formed B.blocks Whole keyspace.old keyspace.new) }
 {
     if written {
@@ -243,9 +243,9 @@ fn set_lasting<B: BlockStore>(
     requires sees { IfSome found (λ found. Sees B.blocks keyspace.old at.now key.now found) }
     requires latest { IsDeadline deadline }
     ensures gives { IfOk result
-        (λ reply. set_outcome (sight B.blocks keyspace.old at.now) at.now.moment key.now (record { value = Str value.now; deadline = deadline }) options.condition options.get ≡ leaves
-        reply (sight B.blocks keyspace.new at.now)) }
-    ensures kept { Kept B.blocks B.step (one_key at.now.db key.now) keyspace.old keyspace.new result }
+        (λ reply. set_outcome (visible B.blocks keyspace.old at.now) at.now.moment key.now (record { value = Str value.now; deadline = deadline }) options.condition options.get ≡ leaves
+        reply (visible B.blocks keyspace.new at.now)) }
+    ensures kept { KeepsOrRefuses B.blocks B.step (one_key at.now.db key.now) keyspace.old keyspace.new result }
     ensures forms { IfOk result (λ reply. Formed B.blocks Whole keyspace.old keyspace.new) }
 {
     let written = writes(keyspace, at, key, found, options.condition);
@@ -286,7 +286,7 @@ pub fn set<B: BlockStore>(
 ) -> Result<Reply, Memory>
     requires ready { Ready B.blocks keyspace.old at.now }
     ensures gives { Gives B.blocks keyspace.old keyspace.new at.now (strings.Set key.now value.now options) result }
-    ensures kept { Kept B.blocks B.step (one_key at.now.db key.now) keyspace.old keyspace.new result }
+    ensures kept { KeepsOrRefuses B.blocks B.step (one_key at.now.db key.now) keyspace.old keyspace.new result }
     ensures forms { IfOk result (λ reply. Formed B.blocks Whole keyspace.old keyspace.new) }
 {
     let found = found_by(keyspace, at, key, options);
@@ -305,7 +305,7 @@ pub fn setnx<B: BlockStore>(
 ) -> Result<Reply, Memory>
     requires ready { Ready B.blocks keyspace.old at.now }
     ensures gives { Gives B.blocks keyspace.old keyspace.new at.now (strings.SetNx key.now value.now) result }
-    ensures kept { Kept B.blocks B.step (one_key at.now.db key.now) keyspace.old keyspace.new result }
+    ensures kept { KeepsOrRefuses B.blocks B.step (one_key at.now.db key.now) keyspace.old keyspace.new result }
     ensures forms { IfOk result (λ reply. Formed B.blocks Whole keyspace.old keyspace.new) }
 {
     let found = Some(seek(keyspace, at, key));
@@ -325,7 +325,7 @@ pub fn getset<B: BlockStore>(
 ) -> Result<Reply, Memory>
     requires ready { Ready B.blocks keyspace.old at.now }
     ensures gives { Gives B.blocks keyspace.old keyspace.new at.now (strings.GetSet key.now value.now) result }
-    ensures kept { Kept B.blocks B.step (one_key at.now.db key.now) keyspace.old keyspace.new result }
+    ensures kept { KeepsOrRefuses B.blocks B.step (one_key at.now.db key.now) keyspace.old keyspace.new result }
     ensures forms { IfOk result (λ reply. Formed B.blocks Whole keyspace.old keyspace.new) }
 {
     let found = Some(seek(keyspace, at, key));
@@ -346,7 +346,7 @@ pub fn getdel<B: BlockStore>(
 ) -> Result<Reply, Memory>
     requires ready { Ready B.blocks keyspace.old at.now }
     ensures gives { Gives B.blocks keyspace.old keyspace.new at.now (strings.GetDel key.now) result }
-    ensures kept { Kept B.blocks B.step (no_key at.now.db) keyspace.old keyspace.new result }
+    ensures kept { KeepsOrRefuses B.blocks B.step (no_key at.now.db) keyspace.old keyspace.new result }
 {
     let found = seek(keyspace, at, key);
     match sought_value(keyspace, at, key, found)? {
@@ -365,7 +365,7 @@ fn is_any_there<B: BlockStore>(
     pairs: &[(Word<'_>, Word<'_>)],
 ) -> bool
     requires ready { Ready B.blocks keyspace.now at.now }
-    ensures { result ≡ any_there (sight B.blocks keyspace.now at.now) pairs.now }
+    ensures { result ≡ any_there (visible B.blocks keyspace.now at.now) pairs.now }
 {
     let mut rest = pairs;
     'pairs: while let [pair, others @ ..] = rest {
@@ -384,8 +384,8 @@ fn put_pairs<B: BlockStore>(
     pairs: &[(Word<'_>, Word<'_>)],
 ) -> Result<(), Memory>
     requires ready { Ready B.blocks keyspace.old at.now }
-    ensures world { OnOk result (sight B.blocks keyspace.new at.now ≡ replace_all (sight B.blocks keyspace.old at.now) pairs.now) }
-    ensures held { Held B.blocks B.step (some_keys at.now.db (first_words pairs.now)) keyspace.old keyspace.new }
+    ensures world { OnOk result (visible B.blocks keyspace.new at.now ≡ replace_all (visible B.blocks keyspace.old at.now) pairs.now) }
+    ensures held { KeepsTo B.blocks B.step (some_keys at.now.db (first_words pairs.now)) keyspace.old keyspace.new }
     ensures forms { OnOk result (Formed B.blocks Whole keyspace.old keyspace.new) }
 {
     for pair in pairs {
@@ -402,7 +402,7 @@ pub fn mset<B: BlockStore>(
 ) -> Result<Reply, Memory>
     requires ready { Ready B.blocks keyspace.old at.now }
     ensures gives { Gives B.blocks keyspace.old keyspace.new at.now (strings.MSet pairs.now) result }
-    ensures kept { Kept B.blocks B.step (some_keys at.now.db (first_words pairs.now)) keyspace.old keyspace.new result }
+    ensures kept { KeepsOrRefuses B.blocks B.step (some_keys at.now.db (first_words pairs.now)) keyspace.old keyspace.new result }
     ensures forms { IfOk result (λ reply. Formed B.blocks Whole keyspace.old keyspace.new) }
 {
     put_pairs(keyspace, at, pairs)?;
@@ -417,7 +417,7 @@ pub fn msetnx<B: BlockStore>(
 ) -> Result<Reply, Memory>
     requires ready { Ready B.blocks keyspace.old at.now }
     ensures gives { Gives B.blocks keyspace.old keyspace.new at.now (strings.MSetNx pairs.now) result }
-    ensures kept { Kept B.blocks B.step (some_keys at.now.db (first_words pairs.now)) keyspace.old keyspace.new result }
+    ensures kept { KeepsOrRefuses B.blocks B.step (some_keys at.now.db (first_words pairs.now)) keyspace.old keyspace.new result }
     ensures forms { IfOk result (λ reply. Formed B.blocks Whole keyspace.old keyspace.new) }
 {
     if is_any_there(keyspace, at, pairs) {

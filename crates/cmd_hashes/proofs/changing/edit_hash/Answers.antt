@@ -7,7 +7,7 @@ use Rattle.hash_object.specs.declared.fields.Fields.{Fields}
 use Rattle.std.specs.FinMap.{empty}
 use Rattle.plain_world.specs.Worlds.{HashOf, look}
 use Rattle.keyspace.specs.declared.value.Value.TheVariants as kinds
-use Rattle.keyspace.specs.Commands.{sight}
+use Rattle.keyspace.specs.Commands.{visible}
 use Rattle.keyspace.specs.Scopes.{one_key}
 use Rattle.keyspace.proofs.Running.{same_held}
 use Rattle.cmd_hashes.proofs.AtKeys.{form_in, takes_there, hash_new, hash_there}
@@ -42,14 +42,14 @@ edit_new-requires-clause-takes g c =
 pub edit_there-requires-clause-takes : goal.edit_there-requires-clause-takes
 edit_there-requires-clause-takes g c =
     let is = rw c.in-Some.is at c.requires.there in
-    takes_there (g.E.HashEdit.takes c.args.on.now.edit) (sight g.B.BlockStore.blocks c.args.keyspace.now c.args.at.now) c.args.key.now is.fields is.has (c.requires.takes (Some is.fields) is.has)
+    takes_there (g.E.HashEdit.takes c.args.on.now.edit) (visible g.B.BlockStore.blocks c.args.keyspace.now c.args.at.now) c.args.key.now is.fields is.has (c.requires.takes (Some is.fields) is.has)
 
 pub returns-in_ok-new-in-None-clause-edited : goal.returns-in_ok-new-in-None-clause-edited
 returns-in_ok-new-in-None-clause-edited g c =
     let m = g.B.BlockStore.blocks c.args.keyspace.now.store in
     let limits = c.args.keyspace.now.bases.limits in
     let same : c.in_ok-new-in-None.field-0.value ≡ c.new-hash.result = search rules in
-    let none : look (sight g.B.BlockStore.blocks c.args.keyspace.now c.args.at.now) c.args.key.now ≡ None = rw c.in-None.is at c.requires.there in
+    let none : look (visible g.B.BlockStore.blocks c.args.keyspace.now c.args.at.now) c.args.key.now ≡ None = rw c.in-None.is at c.requires.there in
     let by : c.new-hash.result.limits ≡ limits = c.new-hash.ensures.limits ∙ c.limits.ensures in
     let least : IsLeast (FitsFields limits empty) (form_of c.new-hash.result) = subst (λ l. IsLeast (FitsFields l empty) (form_of c.new-hash.result)) c.limits.ensures c.new-hash.ensures.form in
     hash_new _ (g.E.HashEdit.makes c.args.on.now.edit c.edit_new.new.edit.edit) c.edit_new.new.edit.left c.args.on.now c.edit_new.new.edit g.B.BlockStore.blocks c.args.keyspace.now

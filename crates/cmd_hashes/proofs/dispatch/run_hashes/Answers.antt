@@ -4,7 +4,7 @@ use mir.Val.{to_z, of_z}
 use Rattle.plain_model.specs.declared.command.Command.TheVariants.{Hashes}
 use Rattle.plain_model.specs.declared.hash_command.HashCommand.TheVariants as hashes
 use Rattle.plain_model.specs.HashSteps.{hash_outcome}
-use Rattle.keyspace.specs.Commands.{sight}
+use Rattle.keyspace.specs.Commands.{visible}
 use Rattle.keyspace.proofs.Running.{told, ran, looked, nothing_shown}
 use Rattle.cmd_hashes.proofs.Paged.{asked_page}
 use Rattle.cmd_hashes.proofs.dispatch.run_hashes.Goals as goal
@@ -12,58 +12,58 @@ use Rattle.cmd_hashes.proofs.dispatch.run_hashes.Goals as goal
 pub returns-in-HSet : goal.returns-in-HSet
 returns-in-HSet g c = ran g.B.BlockStore.blocks g.B.BlockStore.step c.args.keyspace.now c.hset.new.keyspace c.args.at.now (Hashes c.args.command.now)
     (Hashes (hashes.HSet c.as_slice.result.now c.as_slice-in-HSet.result.now)) c.hset.result (ap Hashes (search rules))
-    (told (hash_outcome (sight g.B.BlockStore.blocks c.args.keyspace.now c.args.at.now) (hashes.HSet c.as_slice.result.now c.as_slice-in-HSet.result.now))
-    (sight g.B.BlockStore.blocks c.hset.new.keyspace c.args.at.now) c.hset.result c.hset.ensures.gives) c.hset.ensures.kept (nothing_shown c.hset.result) c.hset.ensures.forms
+    (told (hash_outcome (visible g.B.BlockStore.blocks c.args.keyspace.now c.args.at.now) (hashes.HSet c.as_slice.result.now c.as_slice-in-HSet.result.now))
+    (visible g.B.BlockStore.blocks c.hset.new.keyspace c.args.at.now) c.hset.result c.hset.ensures.gives) c.hset.ensures.kept (nothing_shown c.hset.result) c.hset.ensures.forms
 
 pub returns-in-HMSet : goal.returns-in-HMSet
 returns-in-HMSet g c = ran g.B.BlockStore.blocks g.B.BlockStore.step c.args.keyspace.now c.hmset.new.keyspace c.args.at.now (Hashes c.args.command.now)
     (Hashes (hashes.HMSet c.as_slice-in-HMSet.result.now c.as_slice-in-HMSet-2.result.now)) c.hmset.result (ap Hashes (search rules))
-    (told (hash_outcome (sight g.B.BlockStore.blocks c.args.keyspace.now c.args.at.now) (hashes.HMSet c.as_slice-in-HMSet.result.now c.as_slice-in-HMSet-2.result.now))
-    (sight g.B.BlockStore.blocks c.hmset.new.keyspace c.args.at.now) c.hmset.result c.hmset.ensures.gives) c.hmset.ensures.kept (nothing_shown c.hmset.result) c.hmset.ensures.forms
+    (told (hash_outcome (visible g.B.BlockStore.blocks c.args.keyspace.now c.args.at.now) (hashes.HMSet c.as_slice-in-HMSet.result.now c.as_slice-in-HMSet-2.result.now))
+    (visible g.B.BlockStore.blocks c.hmset.new.keyspace c.args.at.now) c.hmset.result c.hmset.ensures.gives) c.hmset.ensures.kept (nothing_shown c.hmset.result) c.hmset.ensures.forms
 
 pub returns-in-HSetNx : goal.returns-in-HSetNx
 returns-in-HSetNx g c = ran g.B.BlockStore.blocks g.B.BlockStore.step c.args.keyspace.now c.hsetnx.new.keyspace c.args.at.now (Hashes c.args.command.now)
     (Hashes (hashes.HSetNx c.as_slice-in-HSetNx.result.now c.as_slice-in-HSetNx-2.result.now c.as_slice-in-HSetNx-3.result.now)) c.hsetnx.result (ap Hashes (search rules))
     (told
-    (hash_outcome (sight g.B.BlockStore.blocks c.args.keyspace.now c.args.at.now)
-    (hashes.HSetNx c.as_slice-in-HSetNx.result.now c.as_slice-in-HSetNx-2.result.now c.as_slice-in-HSetNx-3.result.now)) (sight g.B.BlockStore.blocks c.hsetnx.new.keyspace c.args.at.now)
+    (hash_outcome (visible g.B.BlockStore.blocks c.args.keyspace.now c.args.at.now)
+    (hashes.HSetNx c.as_slice-in-HSetNx.result.now c.as_slice-in-HSetNx-2.result.now c.as_slice-in-HSetNx-3.result.now)) (visible g.B.BlockStore.blocks c.hsetnx.new.keyspace c.args.at.now)
     c.hsetnx.result c.hsetnx.ensures.gives) c.hsetnx.ensures.kept (nothing_shown c.hsetnx.result) c.hsetnx.ensures.forms
 
 pub returns-in-HGet : goal.returns-in-HGet
 returns-in-HGet g c = looked g.B.BlockStore.blocks g.B.BlockStore.step c.args.keyspace.now c.args.at.now (Hashes c.args.command.now)
     (Hashes (hashes.HGet c.as_slice-in-HGet.result.now c.as_slice-in-HGet-2.result.now)) c.hget.result (ap Hashes (search rules))
-    (told (hash_outcome (sight g.B.BlockStore.blocks c.args.keyspace.now c.args.at.now) (hashes.HGet c.as_slice-in-HGet.result.now c.as_slice-in-HGet-2.result.now))
-    (sight g.B.BlockStore.blocks c.args.keyspace.now c.args.at.now) c.hget.result c.hget.ensures.gives) (nothing_shown c.hget.result) c.requires.ready
+    (told (hash_outcome (visible g.B.BlockStore.blocks c.args.keyspace.now c.args.at.now) (hashes.HGet c.as_slice-in-HGet.result.now c.as_slice-in-HGet-2.result.now))
+    (visible g.B.BlockStore.blocks c.args.keyspace.now c.args.at.now) c.hget.result c.hget.ensures.gives) (nothing_shown c.hget.result) c.requires.ready
 
 pub returns-in-HMGet : goal.returns-in-HMGet
 returns-in-HMGet g c = looked g.B.BlockStore.blocks g.B.BlockStore.step c.args.keyspace.now c.args.at.now (Hashes c.args.command.now)
     (Hashes (hashes.HMGet c.as_slice-in-HMGet.result.now c.as_slice-in-HMGet-2.result.now)) c.hmget.result (ap Hashes (search rules))
-    (told (hash_outcome (sight g.B.BlockStore.blocks c.args.keyspace.now c.args.at.now) (hashes.HMGet c.as_slice-in-HMGet.result.now c.as_slice-in-HMGet-2.result.now))
-    (sight g.B.BlockStore.blocks c.args.keyspace.now c.args.at.now) c.hmget.result c.hmget.ensures.gives) (nothing_shown c.hmget.result) c.requires.ready
+    (told (hash_outcome (visible g.B.BlockStore.blocks c.args.keyspace.now c.args.at.now) (hashes.HMGet c.as_slice-in-HMGet.result.now c.as_slice-in-HMGet-2.result.now))
+    (visible g.B.BlockStore.blocks c.args.keyspace.now c.args.at.now) c.hmget.result c.hmget.ensures.gives) (nothing_shown c.hmget.result) c.requires.ready
 
 pub returns-in-HDel : goal.returns-in-HDel
 returns-in-HDel g c = ran g.B.BlockStore.blocks g.B.BlockStore.step c.args.keyspace.now c.hdel.new.keyspace c.args.at.now (Hashes c.args.command.now)
     (Hashes (hashes.HDel c.as_slice-in-HDel.result.now c.as_slice-in-HDel-2.result.now)) c.hdel.result (ap Hashes (search rules))
-    (told (hash_outcome (sight g.B.BlockStore.blocks c.args.keyspace.now c.args.at.now) (hashes.HDel c.as_slice-in-HDel.result.now c.as_slice-in-HDel-2.result.now))
-    (sight g.B.BlockStore.blocks c.hdel.new.keyspace c.args.at.now) c.hdel.result c.hdel.ensures.gives) c.hdel.ensures.kept (nothing_shown c.hdel.result) c.hdel.ensures.forms
+    (told (hash_outcome (visible g.B.BlockStore.blocks c.args.keyspace.now c.args.at.now) (hashes.HDel c.as_slice-in-HDel.result.now c.as_slice-in-HDel-2.result.now))
+    (visible g.B.BlockStore.blocks c.hdel.new.keyspace c.args.at.now) c.hdel.result c.hdel.ensures.gives) c.hdel.ensures.kept (nothing_shown c.hdel.result) c.hdel.ensures.forms
 
 pub returns-in-HExists : goal.returns-in-HExists
 returns-in-HExists g c = looked g.B.BlockStore.blocks g.B.BlockStore.step c.args.keyspace.now c.args.at.now (Hashes c.args.command.now)
     (Hashes (hashes.HExists c.as_slice-in-HExists.result.now c.as_slice-in-HExists-2.result.now)) c.hexists.result (ap Hashes (search rules))
-    (told (hash_outcome (sight g.B.BlockStore.blocks c.args.keyspace.now c.args.at.now) (hashes.HExists c.as_slice-in-HExists.result.now c.as_slice-in-HExists-2.result.now))
-    (sight g.B.BlockStore.blocks c.args.keyspace.now c.args.at.now) c.hexists.result c.hexists.ensures.gives) (nothing_shown c.hexists.result) c.requires.ready
+    (told (hash_outcome (visible g.B.BlockStore.blocks c.args.keyspace.now c.args.at.now) (hashes.HExists c.as_slice-in-HExists.result.now c.as_slice-in-HExists-2.result.now))
+    (visible g.B.BlockStore.blocks c.args.keyspace.now c.args.at.now) c.hexists.result c.hexists.ensures.gives) (nothing_shown c.hexists.result) c.requires.ready
 
 pub returns-in-HLen : goal.returns-in-HLen
 returns-in-HLen g c = looked g.B.BlockStore.blocks g.B.BlockStore.step c.args.keyspace.now c.args.at.now (Hashes c.args.command.now) (Hashes (hashes.HLen c.as_slice-in-HLen.result.now))
     c.hlen.result (ap Hashes (search rules))
-    (told (hash_outcome (sight g.B.BlockStore.blocks c.args.keyspace.now c.args.at.now) (hashes.HLen c.as_slice-in-HLen.result.now))
-    (sight g.B.BlockStore.blocks c.args.keyspace.now c.args.at.now) c.hlen.result c.hlen.ensures.gives) (nothing_shown c.hlen.result) c.requires.ready
+    (told (hash_outcome (visible g.B.BlockStore.blocks c.args.keyspace.now c.args.at.now) (hashes.HLen c.as_slice-in-HLen.result.now))
+    (visible g.B.BlockStore.blocks c.args.keyspace.now c.args.at.now) c.hlen.result c.hlen.ensures.gives) (nothing_shown c.hlen.result) c.requires.ready
 
 pub returns-in-HStrLen : goal.returns-in-HStrLen
 returns-in-HStrLen g c = looked g.B.BlockStore.blocks g.B.BlockStore.step c.args.keyspace.now c.args.at.now (Hashes c.args.command.now)
     (Hashes (hashes.HStrLen c.as_slice-in-HStrLen.result.now c.as_slice-in-HStrLen-2.result.now)) c.hstrlen.result (ap Hashes (search rules))
-    (told (hash_outcome (sight g.B.BlockStore.blocks c.args.keyspace.now c.args.at.now) (hashes.HStrLen c.as_slice-in-HStrLen.result.now c.as_slice-in-HStrLen-2.result.now))
-    (sight g.B.BlockStore.blocks c.args.keyspace.now c.args.at.now) c.hstrlen.result c.hstrlen.ensures.gives) (nothing_shown c.hstrlen.result) c.requires.ready
+    (told (hash_outcome (visible g.B.BlockStore.blocks c.args.keyspace.now c.args.at.now) (hashes.HStrLen c.as_slice-in-HStrLen.result.now c.as_slice-in-HStrLen-2.result.now))
+    (visible g.B.BlockStore.blocks c.args.keyspace.now c.args.at.now) c.hstrlen.result c.hstrlen.ensures.gives) (nothing_shown c.hstrlen.result) c.requires.ready
 
 pub returns-in-HKeys : goal.returns-in-HKeys
 returns-in-HKeys g c = looked g.B.BlockStore.blocks g.B.BlockStore.step c.args.keyspace.now c.args.at.now (Hashes c.args.command.now) (Hashes (hashes.HKeys c.as_slice-in-HKeys.result.now))
@@ -81,9 +81,9 @@ pub returns-in-HIncrBy : goal.returns-in-HIncrBy
 returns-in-HIncrBy g c = ran g.B.BlockStore.blocks g.B.BlockStore.step c.args.keyspace.now c.hincrby.new.keyspace c.args.at.now (Hashes c.args.command.now)
     (Hashes (hashes.HIncrBy c.as_slice-in-HIncrBy.result.now c.as_slice-in-HIncrBy-2.result.now (to_z w64 (of_z w64 c.in-HIncrBy.n)))) c.hincrby.result (ap Hashes (search rules))
     (told
-    (hash_outcome (sight g.B.BlockStore.blocks c.args.keyspace.now c.args.at.now)
+    (hash_outcome (visible g.B.BlockStore.blocks c.args.keyspace.now c.args.at.now)
     (hashes.HIncrBy c.as_slice-in-HIncrBy.result.now c.as_slice-in-HIncrBy-2.result.now (to_z w64 (of_z w64 c.in-HIncrBy.n))))
-    (sight g.B.BlockStore.blocks c.hincrby.new.keyspace c.args.at.now) c.hincrby.result c.hincrby.ensures.gives) c.hincrby.ensures.kept (nothing_shown c.hincrby.result)
+    (visible g.B.BlockStore.blocks c.hincrby.new.keyspace c.args.at.now) c.hincrby.result c.hincrby.ensures.gives) c.hincrby.ensures.kept (nothing_shown c.hincrby.result)
     c.hincrby.ensures.forms
 
 pub returns-in-HRandField : goal.returns-in-HRandField

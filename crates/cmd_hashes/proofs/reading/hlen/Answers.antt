@@ -2,12 +2,12 @@ use Rattle.std.proofs.Common.{[], ◌∷◌, ap}
 use Rattle.std.specs.Prelude.{pos}
 use Rattle.std.specs.FinMap.{len}
 use Rattle.plain_world.specs.declared.reply.Part.TheVariants.{Number}
-use Rattle.keyspace.specs.Commands.{sight}
+use Rattle.keyspace.specs.Commands.{visible}
 use Rattle.cmd_hashes.proofs.Looking.{told_none, no_field}
 use Rattle.cmd_hashes.proofs.reading.hlen.Goals as goal
 
 pub returns-in-Missing : goal.returns-in-Missing
 returns-in-Missing g c = record {
-  gives = told_none (sight g.B.BlockStore.blocks c.args.keyspace.now c.args.at.now) c.args.key.now (λ fields. Number (pos (len fields)) ∷ []) (Number (pos 0) ∷ [])
+  gives = told_none (visible g.B.BlockStore.blocks c.args.keyspace.now c.args.at.now) c.args.key.now (λ fields. Number (pos (len fields)) ∷ []) (Number (pos 0) ∷ [])
       c.count_reply.result c.in-Missing.ensures (ap (λ n. Number (pos n) ∷ []) no_field) c.count_reply.ensures;
 }

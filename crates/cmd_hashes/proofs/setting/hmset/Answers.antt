@@ -1,5 +1,5 @@
 use Rattle.keyspace.specs.Scopes.{one_key}
-use Rattle.keyspace.specs.Commands.{sight}
+use Rattle.keyspace.specs.Commands.{visible}
 use Rattle.keyspace.proofs.Running.{unchanged}
 use Rattle.cmd_hashes.proofs.Telling.{set_ok}
 use Rattle.cmd_hashes.proofs.setting.hmset.Goals as goal
@@ -10,5 +10,5 @@ returns-in-Other-clause-kept g c = unchanged g.B.BlockStore.blocks g.B.BlockStor
 pub returns-clause-gives : goal.returns-clause-gives
 returns-clause-gives g c =
     let blocks = g.B.BlockStore.blocks in
-    set_ok (sight blocks c.args.keyspace.now c.args.at.now) (sight blocks c.set_at.new.keyspace c.args.at.now) c.args.key.now c.args.pairs.now _ _ c.in_ok-set_at.ensures.set c.ok.ensures
+    set_ok (visible blocks c.args.keyspace.now c.args.at.now) (visible blocks c.set_at.new.keyspace c.args.at.now) c.args.key.now c.args.pairs.now _ _ c.in_ok-set_at.ensures.set c.ok.ensures
     c.simple.result c.simple.ensures

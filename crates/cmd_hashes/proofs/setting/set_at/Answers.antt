@@ -1,7 +1,7 @@
 use Rattle.std.proofs.Common.{ap, ◌∙◌, ◌-◌}
 use Rattle.std.specs.FinMap.{len}
 use Rattle.plain_model.specs.HashSteps.{or_no_fields, keep_hash}
-use Rattle.keyspace.specs.Commands.{sight}
+use Rattle.keyspace.specs.Commands.{visible}
 use Rattle.cmd_hashes.proofs.Telling.{formed_risen}
 use Rattle.cmd_hashes.proofs.setting.set_at.Goals as goal
 
@@ -11,7 +11,7 @@ returns-clause-set g c =
     record {
       before = p.before;
       stands = p.stands;
-      world = p.world ∙ ap (keep_hash (sight g.B.BlockStore.blocks c.args.keyspace.now c.args.at.now) c.args.key.now) p.made.is;
+      world = p.world ∙ ap (keep_hash (visible g.B.BlockStore.blocks c.args.keyspace.now c.args.at.now) c.args.key.now) p.made.is;
       counted = p.made.counted ∙ ap (λ m. len m - len (or_no_fields p.before)) p.made.is;
     }
 

@@ -4,7 +4,7 @@ use Rattle.object_codec.specs.Forms.{IsLeast, FitsList}
 use Rattle.quicklist.specs.Chain.{Chain, IsQuick, elements, refs}
 use Rattle.plain_world.specs.Worlds.{ListOf, look}
 use Rattle.keyspace.specs.declared.value.Value.TheVariants as kinds
-use Rattle.keyspace.specs.Commands.{sight}
+use Rattle.keyspace.specs.Commands.{visible}
 use Rattle.keyspace.specs.Scopes.{one_key}
 use Rattle.keyspace.proofs.Running.{same_held}
 use Rattle.cmd_lists.proofs.AtKeys.{refs_none, form_in, takes_there, list_new, list_there}
@@ -32,13 +32,13 @@ edit_new-requires-clause-takes g c =
 pub edit_there-requires-clause-takes : goal.edit_there-requires-clause-takes
 edit_there-requires-clause-takes g c =
     let is = rw c.in-Some.is at c.requires.there in
-    takes_there (g.E.ListEdit.takes c.args.on.now.edit) (sight g.B.BlockStore.blocks c.args.keyspace.now c.args.at.now) c.args.key.now is.list is.has (c.requires.takes (Some is.list) is.has)
+    takes_there (g.E.ListEdit.takes c.args.on.now.edit) (visible g.B.BlockStore.blocks c.args.keyspace.now c.args.at.now) c.args.key.now is.list is.has (c.requires.takes (Some is.list) is.has)
 
 pub returns-in_ok-new-in-None-clause-edited : goal.returns-in_ok-new-in-None-clause-edited
 returns-in_ok-new-in-None-clause-edited g c =
     let m = g.B.BlockStore.blocks c.args.keyspace.now.store in
     let same : c.in_ok-new-in-None.field-0.value ≡ c.new.result = search rules in
-    let none : look (sight g.B.BlockStore.blocks c.args.keyspace.now c.args.at.now) c.args.key.now ≡ None = rw c.in-None.is at c.requires.there in
+    let none : look (visible g.B.BlockStore.blocks c.args.keyspace.now c.args.at.now) c.args.key.now ≡ None = rw c.in-None.is at c.requires.there in
     list_new _ (g.E.ListEdit.makes c.args.on.now.edit c.edit_new.new.edit.edit) c.edit_new.new.edit.left c.args.on.now c.edit_new.new.edit g.B.BlockStore.blocks c.args.keyspace.now
     c.edit_new.new.keyspace c.args.at.now c.args.key.now (λ o n made. made)
     (kinds.List c.in_ok-new-in-None.field-0) (ap ListOf (ap (elements m) same ∙ c.new.ensures.empty m))

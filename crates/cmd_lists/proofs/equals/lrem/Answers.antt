@@ -2,7 +2,7 @@ use Rattle.std.proofs.Common.{◌≡◌}
 use Rattle.std.specs.Int.{w64}
 use Rattle.std.proofs.lemmas.Int.{to_z-of_z}
 use Rattle.keyspace.specs.Scopes.{one_key}
-use Rattle.keyspace.specs.Commands.{sight}
+use Rattle.keyspace.specs.Commands.{visible}
 use Rattle.keyspace.proofs.Running.{unchanged}
 use Rattle.cmd_lists.specs.Removed.{end_from, most_of}
 use Rattle.cmd_lists.proofs.Telling.{before_is, formed_as}
@@ -17,7 +17,7 @@ returns-in-Missing-clause-kept g c = unchanged g.B.BlockStore.blocks g.B.BlockSt
 
 pub returns-clause-gives : goal.returns-clause-gives
 returns-clause-gives g c =
-    let world = sight g.B.BlockStore.blocks c.args.keyspace.now c.args.at.now in
+    let world = visible g.B.BlockStore.blocks c.args.keyspace.now c.args.at.now in
     let p = c.in_ok-remove.ensures.changed in
     let end : c.end_of.result ≡ end_from c.args.n = rw (to_z-of_z w64 c.args.n c.ranges.n) at c.end_of.ensures in
     let wanted : c.most.result ≡ most_of c.args.n = rw (to_z-of_z w64 c.args.n c.ranges.n) at c.most.ensures in

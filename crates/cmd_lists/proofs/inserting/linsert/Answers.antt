@@ -3,7 +3,7 @@ use Rattle.std.specs.List.{insert}
 use Rattle.plain_model.specs.ListSteps.{Elements, or_none, inserted_beside}
 use Rattle.keyspace.specs.Forms.{Formed, list_at, inserted_to}
 use Rattle.keyspace.specs.Scopes.{one_key}
-use Rattle.keyspace.specs.Commands.{sight}
+use Rattle.keyspace.specs.Commands.{visible}
 use Rattle.keyspace.proofs.Running.{unchanged}
 use Rattle.cmd_lists.proofs.Telling.{before_is, list_before, formed_risen}
 use Rattle.cmd_lists.proofs.inserting.linsert.Goals as goal
@@ -20,7 +20,7 @@ returns-in-None-clause-kept g c = unchanged g.B.BlockStore.blocks g.B.BlockStore
 pub returns-clause-forms : goal.returns-clause-forms
 returns-clause-forms g c =
     let stores = g.B.BlockStore.blocks in
-    let world = sight stores c.args.keyspace.now c.args.at.now in
+    let world = visible stores c.args.keyspace.now c.args.at.now in
     let key = c.args.key.now in
     let list = c.in-There.ensures.list in
     let has = c.in-There.ensures.has in

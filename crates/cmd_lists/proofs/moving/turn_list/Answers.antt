@@ -1,7 +1,7 @@
 use Rattle.std.proofs.Common.{Some, ◌∷◌, [], ap, sym, ◌∙◌}
 use Rattle.plain_model.specs.ListSteps.{added, without}
 use Rattle.keyspace.specs.Forms.{list_at}
-use Rattle.keyspace.specs.Commands.{sight}
+use Rattle.keyspace.specs.Commands.{visible}
 use Rattle.cmd_lists.proofs.Telling.{list_before, risen_there}
 use Rattle.cmd_lists.proofs.moving.turn_list.Goals as goal
 
@@ -11,7 +11,7 @@ change_at-requires-clause-no_other g c = record { before = Some c.requires.first
 pub returns-clause-forms : goal.returns-clause-forms
 returns-clause-forms g c =
     let blocks = g.B.BlockStore.blocks in
-    let world = sight blocks c.args.keyspace.now c.args.at.now in
+    let world = visible blocks c.args.keyspace.now c.args.at.now in
     let p = c.in_ok-change_at.ensures.changed in
     risen_there _ blocks g.B.BlockStore.step c.args.keyspace.now c.change_at.new.keyspace c.args.at.now c.args.key.now p c.change_at.ensures.held
     (added c.args.other (without c.args.end 1 (list_at world c.args.key.now)) (c.args.element.now ∷ []))

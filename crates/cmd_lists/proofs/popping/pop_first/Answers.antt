@@ -1,5 +1,5 @@
 use Rattle.keyspace.specs.Scopes.{one_key}
-use Rattle.keyspace.specs.Commands.{sight}
+use Rattle.keyspace.specs.Commands.{visible}
 use Rattle.keyspace.proofs.Running.{unchanged}
 use Rattle.cmd_lists.proofs.Telling.{before_is, formed_as, popped_gives, popped_calm}
 use Rattle.cmd_lists.proofs.popping.pop_first.Goals as goal
@@ -12,7 +12,7 @@ returns-in-Missing-clause-kept g c = unchanged g.B.BlockStore.blocks g.B.BlockSt
 
 pub returns-clause-gives : goal.returns-clause-gives
 returns-clause-gives g c =
-    let world = sight g.B.BlockStore.blocks c.args.keyspace.now c.args.at.now in
+    let world = visible g.B.BlockStore.blocks c.args.keyspace.now c.args.at.now in
     let p = c.in_ok-pop.ensures.changed in
     popped_gives world _ c.args.key.now c.args.end _ p.before c.in-There.ensures.list p.from p.now p.form p.stands c.in-There.ensures.has p.made p.world c.element_reply.result c.element_reply.ensures
 

@@ -3,7 +3,7 @@ use Rattle.plain_world.specs.Parts.{IsReply}
 use Rattle.plain_model.specs.ListSteps.{from_end, or_none}
 use Rattle.cmd_lists.proofs.Ranges.{listed_is_reply}
 use Rattle.keyspace.specs.Scopes.{one_key}
-use Rattle.keyspace.specs.Commands.{sight}
+use Rattle.keyspace.specs.Commands.{visible}
 use Rattle.keyspace.proofs.Running.{unchanged}
 use Rattle.cmd_lists.proofs.Telling.{before_is, like_there, many_gives, listed_calm}
 use Rattle.cmd_lists.proofs.popping.pop_many.Goals as goal
@@ -21,7 +21,7 @@ into_reply-requires g c =
 
 pub returns-clause-gives : goal.returns-clause-gives
 returns-clause-gives g c =
-    let world = sight g.B.BlockStore.blocks c.args.keyspace.now c.args.at.now in
+    let world = visible g.B.BlockStore.blocks c.args.keyspace.now c.args.at.now in
     let p = c.in_ok-pop.ensures.changed in
     many_gives world _ c.args.key.now c.args.end c.args.most _ p.before c.in-There.ensures.list p.from p.now p.form p.stands c.in-There.ensures.has p.made p.world c.into_reply.result
     c.into_reply.ensures

@@ -2,7 +2,7 @@ use Rattle.std.proofs.Common.{ap, sym, ◌∙◌}
 use Rattle.plain_model.specs.ListSteps.{added}
 use Rattle.keyspace.specs.Forms.{list_at}
 use Rattle.keyspace.specs.Scopes.{one_key}
-use Rattle.keyspace.specs.Commands.{sight}
+use Rattle.keyspace.specs.Commands.{visible}
 use Rattle.keyspace.proofs.Running.{unchanged}
 use Rattle.cmd_lists.proofs.Telling.{list_before, formed_risen}
 use Rattle.cmd_lists.proofs.pushing.push_words.Goals as goal
@@ -13,7 +13,7 @@ returns-in-Other-clause-kept g c = unchanged g.B.BlockStore.blocks g.B.BlockStor
 pub returns-clause-forms : goal.returns-clause-forms
 returns-clause-forms g c =
     let blocks = g.B.BlockStore.blocks in
-    let world = sight blocks c.args.keyspace.now c.args.at.now in
+    let world = visible blocks c.args.keyspace.now c.args.at.now in
     let p = c.in_ok-push.ensures.changed in
     formed_risen _ blocks g.B.BlockStore.step c.args.keyspace.now c.change_list.new.keyspace c.args.at.now c.args.key.now p c.change_list.ensures.held
     (added c.args.end (list_at world c.args.key.now) c.args.words.now)

@@ -2,7 +2,7 @@ use Rattle.std.proofs.Common.{rules, ◌+◌, sym}
 use Rattle.std.specs.Int.{w64}
 use Rattle.std.proofs.lemmas.Int.{to_z-of_z}
 use Rattle.keyspace.specs.Scopes.{one_key}
-use Rattle.keyspace.specs.Commands.{sight}
+use Rattle.keyspace.specs.Commands.{visible}
 use Rattle.keyspace.proofs.Running.{unchanged, calm}
 use Rattle.cmd_lists.proofs.Telling.{before_is, formed_as}
 use Rattle.cmd_lists.proofs.Setting.{inside_before, simple_calm, trim_gives}
@@ -17,7 +17,7 @@ returns-in-Missing-clause-kept g c = unchanged g.B.BlockStore.blocks g.B.BlockSt
 pub change_list-requires-clause-takes : goal.change_list-requires-clause-takes
 change_list-requires-clause-takes g c before stands =
     let list = c.in-There.ensures.list in
-    inside_before (sight g.B.BlockStore.blocks c.args.keyspace.now c.args.at.now) c.args.key.now list (c.reach_of-first.result.0 + c.reach_of-first.result.1) c.length_at.result
+    inside_before (visible g.B.BlockStore.blocks c.args.keyspace.now c.args.at.now) c.args.key.now list (c.reach_of-first.result.0 + c.reach_of-first.result.1) c.length_at.result
     c.in-There.ensures.has (c.length_at.ensures list c.in-There.ensures.has) c.reach_of-first.ensures.inside before stands
 
 pub returns-in_err-change_list-clause-kept : goal.returns-in_err-change_list-clause-kept
@@ -30,7 +30,7 @@ returns-clause-gives g c =
     let p = c.in_ok-change_list.ensures.changed in
     let list = c.in-There.ensures.list in
     let range = c.reach_of-first.ensures.range list (sym (c.length_at.ensures list c.in-There.ensures.has)) in
-    trim_gives (sight g.B.BlockStore.blocks c.args.keyspace.now c.args.at.now) _ c.args.key.now c.args.a c.args.b c.reach_of-first.result.0 c.reach_of-first.result.1 p.before list p.from
+    trim_gives (visible g.B.BlockStore.blocks c.args.keyspace.now c.args.at.now) _ c.args.key.now c.args.a c.args.b c.reach_of-first.result.0 c.reach_of-first.result.1 p.before list p.from
     p.now p.form p.stands c.in-There.ensures.has
     (rw (to_z-of_z w64 c.args.a c.ranges.a, to_z-of_z w64 c.args.b c.ranges.b) at range) p.made p.world c.simple-2.result (rw c.ok-2.ensures at c.simple-2.ensures)
 

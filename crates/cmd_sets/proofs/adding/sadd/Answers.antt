@@ -1,5 +1,5 @@
 use Rattle.keyspace.specs.Scopes.{one_key}
-use Rattle.keyspace.specs.Commands.{sight}
+use Rattle.keyspace.specs.Commands.{visible}
 use Rattle.keyspace.proofs.Running.{unchanged, calm}
 use Rattle.cmd_sets.proofs.Telling.{number_calm, added_reply, formed_risen}
 use Rattle.cmd_sets.proofs.adding.sadd.Goals as goal
@@ -11,7 +11,7 @@ pub returns-clause-gives : goal.returns-clause-gives
 returns-clause-gives g c =
     let blocks = g.B.BlockStore.blocks in
     let p = c.in_ok-add.ensures.changed in
-    added_reply _ (sight blocks c.args.keyspace.now c.args.at.now) (sight blocks c.change_set.new.keyspace c.args.at.now) c.args.key.now c.args.members.now p.now _ p.before p.from p.form
+    added_reply _ (visible blocks c.args.keyspace.now c.args.at.now) (visible blocks c.change_set.new.keyspace c.args.at.now) c.args.key.now c.args.members.now p.now _ p.before p.from p.form
     p.stands p.made p.world c.count_reply.result c.count_reply.ensures
 
 pub returns-clause-kept : goal.returns-clause-kept

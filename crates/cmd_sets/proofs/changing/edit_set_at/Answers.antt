@@ -6,7 +6,7 @@ use Rattle.set_object.specs.Strings.{FitsMembers}
 use Rattle.set_object.specs.Members.{IsMembers, members, refs, form_of}
 use Rattle.plain_world.specs.Worlds.{SetOf, look}
 use Rattle.keyspace.specs.declared.value.Value.TheVariants as kinds
-use Rattle.keyspace.specs.Commands.{sight}
+use Rattle.keyspace.specs.Commands.{visible}
 use Rattle.keyspace.specs.Scopes.{one_key}
 use Rattle.keyspace.proofs.Running.{same_held}
 use Rattle.cmd_sets.proofs.AtKeys.{form_in, takes_there, set_new, set_there}
@@ -36,13 +36,13 @@ edit_new-requires-clause-takes g c =
 pub edit_there-requires-clause-takes : goal.edit_there-requires-clause-takes
 edit_there-requires-clause-takes g c =
     let is = rw c.in-Some.is at c.requires.there in
-    takes_there (g.E.SetEdit.takes c.args.on.now.edit) (sight g.B.BlockStore.blocks c.args.keyspace.now c.args.at.now) c.args.key.now is.members is.has (c.requires.takes (Some is.members) is.has)
+    takes_there (g.E.SetEdit.takes c.args.on.now.edit) (visible g.B.BlockStore.blocks c.args.keyspace.now c.args.at.now) c.args.key.now is.members is.has (c.requires.takes (Some is.members) is.has)
 
 pub returns-in_ok-new-in-None-clause-edited : goal.returns-in_ok-new-in-None-clause-edited
 returns-in_ok-new-in-None-clause-edited g c =
     let m = g.B.BlockStore.blocks c.args.keyspace.now.store in
     let same : c.in_ok-new-in-None.field-0.value ≡ c.new-empty.result = search rules in
-    let none : look (sight g.B.BlockStore.blocks c.args.keyspace.now c.args.at.now) c.args.key.now ≡ None = rw c.in-None.is at c.requires.there in
+    let none : look (visible g.B.BlockStore.blocks c.args.keyspace.now c.args.at.now) c.args.key.now ≡ None = rw c.in-None.is at c.requires.there in
     let limits = c.new-empty.ensures.limits ∙ c.limits.ensures in
     set_new _ (λ l. g.E.SetEdit.makes l c.args.on.now.edit c.edit_new.new.edit.edit) c.edit_new.new.edit.left c.args.on.now c.edit_new.new.edit g.B.BlockStore.blocks c.args.keyspace.now
     c.edit_new.new.keyspace c.args.at.now c.args.key.now (λ o n made. made)

@@ -2,7 +2,7 @@ use Rattle.std.proofs.Common.{rules, ap}
 use Rattle.plain_model.specs.declared.command.Command.TheVariants.{Sets}
 use Rattle.plain_model.specs.declared.set_command.SetCommand.TheVariants as sets
 use Rattle.plain_model.specs.SetSteps.{set_outcome}
-use Rattle.keyspace.specs.Commands.{sight}
+use Rattle.keyspace.specs.Commands.{visible}
 use Rattle.keyspace.proofs.Running.{told, ran, looked, nothing_shown}
 use Rattle.cmd_sets.proofs.Paged.{asked_page}
 use Rattle.cmd_sets.proofs.dispatch.run_sets.Goals as goal
@@ -10,26 +10,26 @@ use Rattle.cmd_sets.proofs.dispatch.run_sets.Goals as goal
 pub returns-in-SAdd : goal.returns-in-SAdd
 returns-in-SAdd g c = ran g.B.BlockStore.blocks g.B.BlockStore.step c.args.keyspace.now c.sadd.new.keyspace c.args.at.now (Sets c.args.command.now)
     (Sets (sets.SAdd c.as_slice.result.now c.as_slice-in-SAdd.result.now)) c.sadd.result (ap Sets (search rules))
-    (told (set_outcome (sight g.B.BlockStore.blocks c.args.keyspace.now c.args.at.now) (sets.SAdd c.as_slice.result.now c.as_slice-in-SAdd.result.now))
-    (sight g.B.BlockStore.blocks c.sadd.new.keyspace c.args.at.now) c.sadd.result c.sadd.ensures.gives) c.sadd.ensures.kept (nothing_shown c.sadd.result) c.sadd.ensures.forms
+    (told (set_outcome (visible g.B.BlockStore.blocks c.args.keyspace.now c.args.at.now) (sets.SAdd c.as_slice.result.now c.as_slice-in-SAdd.result.now))
+    (visible g.B.BlockStore.blocks c.sadd.new.keyspace c.args.at.now) c.sadd.result c.sadd.ensures.gives) c.sadd.ensures.kept (nothing_shown c.sadd.result) c.sadd.ensures.forms
 
 pub returns-in-SRem : goal.returns-in-SRem
 returns-in-SRem g c = ran g.B.BlockStore.blocks g.B.BlockStore.step c.args.keyspace.now c.srem.new.keyspace c.args.at.now (Sets c.args.command.now)
     (Sets (sets.SRem c.as_slice-in-SRem.result.now c.as_slice-in-SRem-2.result.now)) c.srem.result (ap Sets (search rules))
-    (told (set_outcome (sight g.B.BlockStore.blocks c.args.keyspace.now c.args.at.now) (sets.SRem c.as_slice-in-SRem.result.now c.as_slice-in-SRem-2.result.now))
-    (sight g.B.BlockStore.blocks c.srem.new.keyspace c.args.at.now) c.srem.result c.srem.ensures.gives) c.srem.ensures.kept (nothing_shown c.srem.result) c.srem.ensures.forms
+    (told (set_outcome (visible g.B.BlockStore.blocks c.args.keyspace.now c.args.at.now) (sets.SRem c.as_slice-in-SRem.result.now c.as_slice-in-SRem-2.result.now))
+    (visible g.B.BlockStore.blocks c.srem.new.keyspace c.args.at.now) c.srem.result c.srem.ensures.gives) c.srem.ensures.kept (nothing_shown c.srem.result) c.srem.ensures.forms
 
 pub returns-in-SIsMember : goal.returns-in-SIsMember
 returns-in-SIsMember g c = looked g.B.BlockStore.blocks g.B.BlockStore.step c.args.keyspace.now c.args.at.now (Sets c.args.command.now)
     (Sets (sets.SIsMember c.as_slice-in-SIsMember.result.now c.as_slice-in-SIsMember-2.result.now)) c.sismember.result (ap Sets (search rules))
-    (told (set_outcome (sight g.B.BlockStore.blocks c.args.keyspace.now c.args.at.now) (sets.SIsMember c.as_slice-in-SIsMember.result.now c.as_slice-in-SIsMember-2.result.now))
-    (sight g.B.BlockStore.blocks c.args.keyspace.now c.args.at.now) c.sismember.result c.sismember.ensures.gives) (nothing_shown c.sismember.result) c.requires.ready
+    (told (set_outcome (visible g.B.BlockStore.blocks c.args.keyspace.now c.args.at.now) (sets.SIsMember c.as_slice-in-SIsMember.result.now c.as_slice-in-SIsMember-2.result.now))
+    (visible g.B.BlockStore.blocks c.args.keyspace.now c.args.at.now) c.sismember.result c.sismember.ensures.gives) (nothing_shown c.sismember.result) c.requires.ready
 
 pub returns-in-SMIsMember : goal.returns-in-SMIsMember
 returns-in-SMIsMember g c = looked g.B.BlockStore.blocks g.B.BlockStore.step c.args.keyspace.now c.args.at.now (Sets c.args.command.now)
     (Sets (sets.SMIsMember c.as_slice-in-SMIsMember.result.now c.as_slice-in-SMIsMember-2.result.now)) c.smismember.result (ap Sets (search rules))
-    (told (set_outcome (sight g.B.BlockStore.blocks c.args.keyspace.now c.args.at.now) (sets.SMIsMember c.as_slice-in-SMIsMember.result.now c.as_slice-in-SMIsMember-2.result.now))
-    (sight g.B.BlockStore.blocks c.args.keyspace.now c.args.at.now) c.smismember.result c.smismember.ensures.gives) (nothing_shown c.smismember.result) c.requires.ready
+    (told (set_outcome (visible g.B.BlockStore.blocks c.args.keyspace.now c.args.at.now) (sets.SMIsMember c.as_slice-in-SMIsMember.result.now c.as_slice-in-SMIsMember-2.result.now))
+    (visible g.B.BlockStore.blocks c.args.keyspace.now c.args.at.now) c.smismember.result c.smismember.ensures.gives) (nothing_shown c.smismember.result) c.requires.ready
 
 pub returns-in-SMembers : goal.returns-in-SMembers
 returns-in-SMembers g c = looked g.B.BlockStore.blocks g.B.BlockStore.step c.args.keyspace.now c.args.at.now (Sets c.args.command.now)
@@ -38,15 +38,15 @@ returns-in-SMembers g c = looked g.B.BlockStore.blocks g.B.BlockStore.step c.arg
 pub returns-in-SCard : goal.returns-in-SCard
 returns-in-SCard g c = looked g.B.BlockStore.blocks g.B.BlockStore.step c.args.keyspace.now c.args.at.now (Sets c.args.command.now) (Sets (sets.SCard c.as_slice-in-SCard.result.now))
     c.scard.result (ap Sets (search rules))
-    (told (set_outcome (sight g.B.BlockStore.blocks c.args.keyspace.now c.args.at.now) (sets.SCard c.as_slice-in-SCard.result.now))
-    (sight g.B.BlockStore.blocks c.args.keyspace.now c.args.at.now) c.scard.result c.scard.ensures.gives) (nothing_shown c.scard.result) c.requires.ready
+    (told (set_outcome (visible g.B.BlockStore.blocks c.args.keyspace.now c.args.at.now) (sets.SCard c.as_slice-in-SCard.result.now))
+    (visible g.B.BlockStore.blocks c.args.keyspace.now c.args.at.now) c.scard.result c.scard.ensures.gives) (nothing_shown c.scard.result) c.requires.ready
 
 pub returns-in-SMove : goal.returns-in-SMove
 returns-in-SMove g c = ran g.B.BlockStore.blocks g.B.BlockStore.step c.args.keyspace.now c.smove.new.keyspace c.args.at.now (Sets c.args.command.now)
     (Sets (sets.SMove c.as_slice-in-SMove.result.now c.as_slice-in-SMove-2.result.now c.as_slice-in-SMove-3.result.now)) c.smove.result (ap Sets (search rules))
     (told
-    (set_outcome (sight g.B.BlockStore.blocks c.args.keyspace.now c.args.at.now)
-    (sets.SMove c.as_slice-in-SMove.result.now c.as_slice-in-SMove-2.result.now c.as_slice-in-SMove-3.result.now)) (sight g.B.BlockStore.blocks c.smove.new.keyspace c.args.at.now)
+    (set_outcome (visible g.B.BlockStore.blocks c.args.keyspace.now c.args.at.now)
+    (sets.SMove c.as_slice-in-SMove.result.now c.as_slice-in-SMove-2.result.now c.as_slice-in-SMove-3.result.now)) (visible g.B.BlockStore.blocks c.smove.new.keyspace c.args.at.now)
     c.smove.result c.smove.ensures.gives) c.smove.ensures.kept (nothing_shown c.smove.result) c.smove.ensures.forms
 
 pub returns-in-SPop : goal.returns-in-SPop

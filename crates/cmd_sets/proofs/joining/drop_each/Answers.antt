@@ -2,7 +2,7 @@ use Rattle.std.proofs.Common.{ℕ, List, ◌≡◌, ◌+◌, [], ◌∷◌, fals
 use Rattle.std.proofs.lemmas.List.{drop_all}
 use Rattle.set_object.specs.Strings.{set_of}
 use Rattle.keyspace.specs.Forms.{set_at}
-use Rattle.keyspace.specs.Commands.{sight}
+use Rattle.keyspace.specs.Commands.{visible}
 use Rattle.cmd_sets.proofs.Growing.{rest_from}
 use Rattle.cmd_sets.proofs.Joined.{dropped_key, dropped_keys}
 use Rattle.cmd_sets.proofs.Sifted.{sifted_has, sifted_once}
@@ -10,7 +10,7 @@ use Rattle.cmd_sets.proofs.joining.drop_each.Goals as goal
 
 pub loop-key-preserved : goal.loop-key-preserved
 loop-key-preserved g c =
-    let world = sight g.B.BlockStore.blocks c.args.keyspace.now c.args.at.now in
+    let world = visible g.B.BlockStore.blocks c.args.keyspace.now c.args.at.now in
     let key = c.key-item.result in
     let others : List (List ℕ) = drop (c.loop-key.key-index + 1) c.args.keys.now in
     let rest : drop c.loop-key.key-index c.args.keys.now ≡ key ∷ others = rest_from c.args.keys.now c.loop-key.key-index key (search rules) c.key-item.is in
@@ -26,6 +26,6 @@ loop-key-preserved g c =
 
 pub returns-clause-left : goal.returns-clause-left
 returns-clause-left g c =
-    let world = sight g.B.BlockStore.blocks c.args.keyspace.now c.args.at.now in
+    let world = visible g.B.BlockStore.blocks c.args.keyspace.now c.args.at.now in
     let none : drop c.loop-key.key-index c.args.keys.now ≡ [] = drop_all c.loop-key.key-index c.args.keys.now (omega (arith, c.loop-key-test.false)) in
     λ q. dropped_keys world (drop c.loop-key.key-index c.args.keys.now) (set_of c.loop-key.kept.items) none q ∙ c.loop-key.invariant.left q

@@ -1,14 +1,14 @@
 use Rattle.std.proofs.Common.{ℕ, List, ◌≡◌, ◌+◌, ◌∷◌, sym, ap, ◌∙◌, drop, rules}
 use Rattle.plain_model.specs.SetSteps.{has}
 use Rattle.keyspace.specs.Forms.{set_at}
-use Rattle.keyspace.specs.Commands.{sight}
+use Rattle.keyspace.specs.Commands.{visible}
 use Rattle.cmd_sets.proofs.Growing.{rest_from}
 use Rattle.cmd_sets.proofs.Joined.{here, lacking}
 use Rattle.cmd_sets.proofs.joining.in_each.Goals as goal
 
 pub loop-key-preserved : goal.loop-key-preserved
 loop-key-preserved g c =
-    let world = sight g.B.BlockStore.blocks c.args.keyspace.now c.args.at.now in
+    let world = visible g.B.BlockStore.blocks c.args.keyspace.now c.args.at.now in
     let key = c.key-item.result in
     let others : List (List ℕ) = drop (c.loop-key.key-index + 1) c.args.keys.now in
     let rest : drop c.loop-key.key-index c.args.keys.now ≡ key ∷ others = rest_from c.args.keys.now c.loop-key.key-index key (search rules) c.key-item.is in
@@ -18,7 +18,7 @@ loop-key-preserved g c =
 
 pub returns-then-not-has_at : goal.returns-then-not-has_at
 returns-then-not-has_at g c =
-    let world = sight g.B.BlockStore.blocks c.args.keyspace.now c.args.at.now in
+    let world = visible g.B.BlockStore.blocks c.args.keyspace.now c.args.at.now in
     let key = c.key-item.result in
     let others : List (List ℕ) = drop (c.loop-key.key-index + 1) c.args.keys.now in
     let rest : drop c.loop-key.key-index c.args.keys.now ≡ key ∷ others = rest_from c.args.keys.now c.loop-key.key-index key (search rules) c.key-item.is in

@@ -4,13 +4,13 @@ use Rattle.std.proofs.lemmas.List.{drop_all}
 use Rattle.set_object.specs.Strings.{set_of}
 use Rattle.plain_model.specs.SetSteps.{has}
 use Rattle.keyspace.specs.Forms.{set_at}
-use Rattle.keyspace.specs.Commands.{sight}
+use Rattle.keyspace.specs.Commands.{visible}
 use Rattle.cmd_sets.proofs.Sifted.{sifted_has, sifted_once, all_begin, own_begin, all_more, own_more, all_passed, all_asked}
 use Rattle.cmd_sets.proofs.joining.share_names.Goals as goal
 
 pub loop-index-init : goal.loop-index-init
 loop-index-init g c =
-    let world = sight g.B.BlockStore.blocks c.args.keyspace.now c.args.at.now in
+    let world = visible g.B.BlockStore.blocks c.args.keyspace.now c.args.at.now in
     let keys = c.args.keys.now in
     let names = set_of c.in_ok-kept.kept.items in
     let same : names ≡ set_at world c.index-keys-one.result = c.in_ok-kept.ensures.members ∙ ap (set_at world) c.as_slice.ensures in
@@ -22,7 +22,7 @@ loop-index-init g c =
 
 pub loop-index-preserved : goal.loop-index-preserved
 loop-index-preserved g c =
-    let world = sight g.B.BlockStore.blocks c.args.keyspace.now c.args.at.now in
+    let world = visible g.B.BlockStore.blocks c.args.keyspace.now c.args.at.now in
     let keys = c.args.keys.now in
     let key = c.index-keys-index.result in
     let before = c.loop-index.kept.items in
@@ -40,7 +40,7 @@ loop-index-preserved g c =
 
 pub loop-index-preserved-then-index-one : goal.loop-index-preserved-then-index-one
 loop-index-preserved-then-index-one g c =
-    let world = sight g.B.BlockStore.blocks c.args.keyspace.now c.args.at.now in
+    let world = visible g.B.BlockStore.blocks c.args.keyspace.now c.args.at.now in
     let keys = c.args.keys.now in
     let old = set_of c.loop-index.kept.items in
     let one : c.args.one ≡ c.loop-index.index = sym c.if-index-one.true in
@@ -54,6 +54,6 @@ loop-index-preserved-then-index-one g c =
 
 pub returns-clause-shared : goal.returns-clause-shared
 returns-clause-shared g c =
-    let world = sight g.B.BlockStore.blocks c.args.keyspace.now c.args.at.now in
+    let world = visible g.B.BlockStore.blocks c.args.keyspace.now c.args.at.now in
     let none : drop c.loop-index.index c.args.keys.now ≡ [] = drop_all c.loop-index.index c.args.keys.now (search rules) in
     λ q. all_asked world c.args.keys.now c.loop-index.index (set_of c.loop-index.kept.items) none q ∙ c.loop-index.invariant.all q

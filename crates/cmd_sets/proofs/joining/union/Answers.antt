@@ -5,7 +5,7 @@ use Rattle.set_object.specs.Strings.{set_of, IsOnce}
 use Rattle.set_object.proofs.Sets.{has_empty}
 use Rattle.set_object.proofs.Listed.{arranged}
 use Rattle.plain_model.specs.SetSteps.{Members, has, in_any}
-use Rattle.keyspace.specs.Commands.{sight}
+use Rattle.keyspace.specs.Commands.{visible}
 use Rattle.cmd_sets.specs.Joined.{sets_here}
 use Rattle.cmd_sets.proofs.Gathered.{if_as}
 use Rattle.cmd_sets.proofs.Joined.{union_is}
@@ -16,7 +16,7 @@ add_each-requires-clause-all g c = c.new-all.ensures.sound _
 
 pub returns-clause-join : goal.returns-clause-join
 returns-clause-join g c =
-    let own = sets_here (sight g.B.BlockStore.blocks c.args.keyspace.now c.args.at.now) c.args.keys.now in
+    let own = sets_here (visible g.B.BlockStore.blocks c.args.keyspace.now c.args.at.now) c.args.keys.now in
     let all = arranged _ c.add_each.new.all c.in_ok-add_each.ensures.sound in
     if_as c.names_of.result
     (λ names is. union_is own (set_of names.items) (λ q.

@@ -2,7 +2,7 @@ use Rattle.std.proofs.Common.{◌≡◌, [], ◌∷◌, Some, Ok, subst}
 use Rattle.plain_world.specs.Worlds.{look}
 use Rattle.plain_model.specs.SetSteps.{or_no_members}
 use Rattle.keyspace.specs.Forms.{RisesWith}
-use Rattle.keyspace.specs.Commands.{sight}
+use Rattle.keyspace.specs.Commands.{visible}
 use Rattle.cmd_sets.proofs.Telling.{before_is, formed_as, formed_risen}
 use Rattle.cmd_sets.proofs.Going.{differ, look_kept, before_stays, sought_item, held_from, held_both, moved_is, formed_both}
 use Rattle.cmd_sets.proofs.moving.move_member.Goals as goal
@@ -16,8 +16,8 @@ pub change_set-requires-2-clause-there : goal.change_set-requires-2-clause-there
 change_set-requires-2-clause-there g c =
     let blocks = g.B.BlockStore.blocks in
     let move = c.requires.moves in
-    let old = sight blocks c.args.keyspace.now c.args.at.now in
-    let mid = sight blocks c.change_set.new.keyspace c.args.at.now in
+    let old = visible blocks c.args.keyspace.now c.args.at.now in
+    let mid = visible blocks c.change_set.new.keyspace c.args.at.now in
     let p = c.in_ok-change_set.ensures.changed in
     let same : look mid c.args.to.now ≡ look old c.args.to.now = look_kept old mid c.args.from.now c.args.to.now p.now (differ c.args.from.now c.args.to.now move.apart) p.world in
     sought_item blocks c.change_set.new.keyspace c.args.at.now c.args.to.now c.seek-found-2.result move.before c.seek-found-2.ensures (before_stays old mid c.args.to.now move.before same move.target)
@@ -39,7 +39,7 @@ returns-clause-moved g c =
     let blocks = g.B.BlockStore.blocks in
     let p = c.in_ok-change_set.ensures.changed in
     let q = c.in_ok-change_set-2.ensures.changed in
-    moved_is _ (sight blocks c.args.keyspace.now c.args.at.now) (sight blocks c.change_set.new.keyspace c.args.at.now) (sight blocks c.change_set-2.new.keyspace c.args.at.now)
+    moved_is _ (visible blocks c.args.keyspace.now c.args.at.now) (visible blocks c.change_set.new.keyspace c.args.at.now) (visible blocks c.change_set-2.new.keyspace c.args.at.now)
     c.args.from.now c.args.to.now c.args.member.now c.requires.moves c.new.result c.new.ensures
     p.before p.from p.form _ p.now p.stands p.made p.world q.before q.from q.form _ q.now q.stands q.made q.world
 
@@ -51,8 +51,8 @@ returns-clause-forms g c =
     let at = c.args.at.now in
     let from = c.args.from.now in
     let to = c.args.to.now in
-    let old = sight blocks c.args.keyspace.now at in
-    let mid = sight blocks c.change_set.new.keyspace at in
+    let old = visible blocks c.args.keyspace.now at in
+    let mid = visible blocks c.change_set.new.keyspace at in
     let p = c.in_ok-change_set.ensures.changed in
     let q = c.in_ok-change_set-2.ensures.changed in
     let apart = differ from to move.apart in

@@ -1,25 +1,25 @@
 use Rattle.keyspace.specs.Scopes.{two_keys}
-use Rattle.keyspace.specs.Commands.{sight}
+use Rattle.keyspace.specs.Commands.{visible}
 use Rattle.keyspace.proofs.Running.{unchanged, calm}
 use Rattle.cmd_sets.proofs.Telling.{told_by, number_calm}
 use Rattle.cmd_sets.proofs.moving.smove.Goals as goal
 
 pub returns-in-Refuse-clause-gives : goal.returns-in-Refuse-clause-gives
-returns-in-Refuse-clause-gives g c = told_by _ _ (sight g.B.BlockStore.blocks c.args.keyspace.now c.args.at.now) c.refused.result (rw c.in-Refuse.is at c.plan_of.ensures) c.refused.ensures
+returns-in-Refuse-clause-gives g c = told_by _ _ (visible g.B.BlockStore.blocks c.args.keyspace.now c.args.at.now) c.refused.result (rw c.in-Refuse.is at c.plan_of.ensures) c.refused.ensures
 
 pub returns-in-Refuse-clause-kept : goal.returns-in-Refuse-clause-kept
 returns-in-Refuse-clause-kept g c = unchanged g.B.BlockStore.blocks g.B.BlockStore.step (two_keys c.args.at.now.db c.args.from.now c.args.at.now.db c.args.to.now) c.args.keyspace.now
     c.refused.result c.requires.ready.sound
 
 pub returns-in-Tell-clause-gives : goal.returns-in-Tell-clause-gives
-returns-in-Tell-clause-gives g c = told_by _ _ (sight g.B.BlockStore.blocks c.args.keyspace.now c.args.at.now) c.count_reply.result (rw c.in-Tell.is at c.plan_of.ensures) c.count_reply.ensures
+returns-in-Tell-clause-gives g c = told_by _ _ (visible g.B.BlockStore.blocks c.args.keyspace.now c.args.at.now) c.count_reply.result (rw c.in-Tell.is at c.plan_of.ensures) c.count_reply.ensures
 
 pub returns-in-Tell-clause-kept : goal.returns-in-Tell-clause-kept
 returns-in-Tell-clause-kept g c = unchanged g.B.BlockStore.blocks g.B.BlockStore.step (two_keys c.args.at.now.db c.args.from.now c.args.at.now.db c.args.to.now) c.args.keyspace.now
     c.count_reply.result c.requires.ready.sound
 
 pub returns-in_ok-move_member-in-Move-clause-gives : goal.returns-in_ok-move_member-in-Move-clause-gives
-returns-in_ok-move_member-in-Move-clause-gives g c = told_by _ _ (sight g.B.BlockStore.blocks c.move_member.new.keyspace c.args.at.now) c.count_reply-in-Move.result
+returns-in_ok-move_member-in-Move-clause-gives g c = told_by _ _ (visible g.B.BlockStore.blocks c.move_member.new.keyspace c.args.at.now) c.count_reply-in-Move.result
     c.in_ok-move_member-in-Move.ensures.moved c.count_reply-in-Move.ensures
 
 pub returns-in_ok-move_member-in-Move-clause-kept : goal.returns-in_ok-move_member-in-Move-clause-kept

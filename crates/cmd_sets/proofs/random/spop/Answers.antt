@@ -1,5 +1,5 @@
 use Rattle.keyspace.specs.Scopes.{one_key}
-use Rattle.keyspace.specs.Commands.{sight}
+use Rattle.keyspace.specs.Commands.{visible}
 use Rattle.keyspace.proofs.Running.{unchanged, calm}
 use Rattle.cmd_sets.proofs.Telling.{before_is, formed_as}
 use Rattle.cmd_sets.proofs.Picking.{popped_reply, picks_calm}
@@ -14,10 +14,10 @@ returns-in-Missing-clause-kept g c = unchanged g.B.BlockStore.blocks g.B.BlockSt
 pub returns-clause-gives : goal.returns-clause-gives
 returns-clause-gives g c =
     let blocks = g.B.BlockStore.blocks in
-    let world = sight blocks c.args.keyspace.now c.args.at.now in
+    let world = visible blocks c.args.keyspace.now c.args.at.now in
     let p = c.in_ok-pop.ensures.changed in
     let item = rw c.in-There.is at c.set_sought.ensures in
-    popped_reply c.args.keyspace.now.bases.seed c.args.n c.is_some-2.result world (sight blocks c.change_set.new.keyspace c.args.at.now) c.args.key.now c.in_ok-pop.pop.gone.items
+    popped_reply c.args.keyspace.now.bases.seed c.args.n c.is_some-2.result world (visible blocks c.change_set.new.keyspace c.args.at.now) c.args.key.now c.in_ok-pop.pop.gone.items
     item.members p.now p.before p.from p.form item.has
     (before_is world c.args.key.now p.before item.members p.stands item.has) p.made p.world c.is_some-2.ensures c.picks_reply-2.result c.picks_reply-2.ensures
 
@@ -29,7 +29,7 @@ returns-clause-kept g c =
 pub returns-clause-forms : goal.returns-clause-forms
 returns-clause-forms g c =
     let blocks = g.B.BlockStore.blocks in
-    let world = sight blocks c.args.keyspace.now c.args.at.now in
+    let world = visible blocks c.args.keyspace.now c.args.at.now in
     let p = c.in_ok-pop.ensures.changed in
     let item = rw c.in-There.is at c.set_sought.ensures in
     formed_as _ blocks g.B.BlockStore.step c.args.keyspace.now c.change_set.new.keyspace c.args.at.now c.args.key.now p c.change_set.ensures.held item.members

@@ -1,4 +1,4 @@
-use Rattle.keyspace.specs.Commands.{sight}
+use Rattle.keyspace.specs.Commands.{visible}
 use Rattle.cmd_sets.proofs.Picking.{none_random, set_random, other_random}
 use Rattle.cmd_sets.proofs.random.srandmember.Goals as goal
 
@@ -9,14 +9,14 @@ pub returns-in-Missing : goal.returns-in-Missing
 returns-in-Missing g c =
     let m = g.B.BlockStore.blocks c.args.keyspace.now.store in
     record {
-      gives = none_random c.args.keyspace.now.bases.seed c.args.n (sight g.B.BlockStore.blocks c.args.keyspace.now c.args.at.now) c.args.key.now _ c.random_reply.result
+      gives = none_random c.args.keyspace.now.bases.seed c.args.n (visible g.B.BlockStore.blocks c.args.keyspace.now c.args.at.now) c.args.key.now _ c.random_reply.result
           (rw c.in-Missing.is at c.set_at.ensures) (c.new-none.ensures.empty m) c.random_reply.ensures;
     }
 
 pub returns-in-Other : goal.returns-in-Other
 returns-in-Other g c =
     record {
-      gives = other_random c.args.keyspace.now.bases.seed c.args.n (sight g.B.BlockStore.blocks c.args.keyspace.now c.args.at.now) c.args.key.now c.refused.result c.in-Other.ensures
+      gives = other_random c.args.keyspace.now.bases.seed c.args.n (visible g.B.BlockStore.blocks c.args.keyspace.now c.args.at.now) c.args.key.now c.refused.result c.in-Other.ensures
           c.refused.ensures;
     }
 
@@ -24,6 +24,6 @@ pub returns-in-There : goal.returns-in-There
 returns-in-There g c =
     let m = g.B.BlockStore.blocks c.args.keyspace.now.store in
     record {
-      gives = set_random c.args.keyspace.now.bases.seed c.args.n (sight g.B.BlockStore.blocks c.args.keyspace.now c.args.at.now) m c.args.key.now _ c.random_reply-in-There.result
+      gives = set_random c.args.keyspace.now.bases.seed c.args.n (visible g.B.BlockStore.blocks c.args.keyspace.now c.args.at.now) m c.args.key.now _ c.random_reply-in-There.result
           c.in-There.ensures c.random_reply-in-There.ensures;
     }

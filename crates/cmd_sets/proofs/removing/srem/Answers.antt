@@ -1,5 +1,5 @@
 use Rattle.keyspace.specs.Scopes.{one_key}
-use Rattle.keyspace.specs.Commands.{sight}
+use Rattle.keyspace.specs.Commands.{visible}
 use Rattle.keyspace.proofs.Running.{unchanged, calm}
 use Rattle.cmd_sets.proofs.Telling.{number_calm, before_is, dropped_reply, dropped_none, formed_as}
 use Rattle.cmd_sets.proofs.removing.srem.Goals as goal
@@ -12,16 +12,16 @@ returns-in-Missing-clause-kept g c = unchanged g.B.BlockStore.blocks g.B.BlockSt
 
 pub returns-in-Missing-clause-gives : goal.returns-in-Missing-clause-gives
 returns-in-Missing-clause-gives g c =
-    dropped_none (sight g.B.BlockStore.blocks c.args.keyspace.now c.args.at.now) c.args.key.now c.args.members.now (rw c.in-Missing.is at c.set_sought.ensures) c.count_reply.result
+    dropped_none (visible g.B.BlockStore.blocks c.args.keyspace.now c.args.at.now) c.args.key.now c.args.members.now (rw c.in-Missing.is at c.set_sought.ensures) c.count_reply.result
     c.count_reply.ensures
 
 pub returns-clause-gives : goal.returns-clause-gives
 returns-clause-gives g c =
     let blocks = g.B.BlockStore.blocks in
-    let world = sight blocks c.args.keyspace.now c.args.at.now in
+    let world = visible blocks c.args.keyspace.now c.args.at.now in
     let p = c.in_ok-edit.ensures.changed in
     let item = rw c.in-There.is at c.set_sought.ensures in
-    dropped_reply world (sight blocks c.change_set.new.keyspace c.args.at.now) c.args.key.now c.args.members.now item.members p.now _ p.before p.from p.form p.stands
+    dropped_reply world (visible blocks c.change_set.new.keyspace c.args.at.now) c.args.key.now c.args.members.now item.members p.now _ p.before p.from p.form p.stands
     (before_is world c.args.key.now p.before item.members p.stands item.has) p.made p.world c.count_reply-2.result c.count_reply-2.ensures
 
 pub returns-clause-kept : goal.returns-clause-kept
@@ -32,7 +32,7 @@ returns-clause-kept g c =
 pub returns-clause-forms : goal.returns-clause-forms
 returns-clause-forms g c =
     let blocks = g.B.BlockStore.blocks in
-    let world = sight blocks c.args.keyspace.now c.args.at.now in
+    let world = visible blocks c.args.keyspace.now c.args.at.now in
     let p = c.in_ok-edit.ensures.changed in
     let item = rw c.in-There.is at c.set_sought.ensures in
     formed_as _ blocks g.B.BlockStore.step c.args.keyspace.now c.change_set.new.keyspace c.args.at.now c.args.key.now p c.change_set.ensures.held item.members

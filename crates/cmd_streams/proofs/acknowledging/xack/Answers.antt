@@ -4,7 +4,7 @@ use Rattle.std.specs.FinMap.{contains_key}
 use Rattle.plain_world.specs.declared.reply.Part.TheVariants.{Number}
 use Rattle.plain_model.specs.StreamSteps.{on_stream}
 use Rattle.plain_model.specs.GroupSteps.{ack}
-use Rattle.keyspace.specs.Commands.{sight}
+use Rattle.keyspace.specs.Commands.{visible}
 use Rattle.keyspace.specs.Scopes.{one_key}
 use Rattle.keyspace.proofs.Running.{unchanged}
 use Rattle.cmd_streams.proofs.AtKeys.{formed_log}
@@ -32,8 +32,8 @@ returns-clause-forms g c =
 pub returns-clause-gives : goal.returns-clause-gives
 returns-clause-gives g c =
     let blocks = g.B.BlockStore.blocks in
-    let old = sight blocks c.args.keyspace.now c.args.at.now in
-    let new = sight blocks c.change_stream.new.keyspace c.args.at.now in
+    let old = visible blocks c.args.keyspace.now c.args.at.now in
+    let new = visible blocks c.change_stream.new.keyspace c.args.at.now in
     let stream = c.stream_there.result.now in
     let gone = c.in_ok-acknowledge.acknowledge.gone in
     let p = c.in_ok-acknowledge.ensures.changed in

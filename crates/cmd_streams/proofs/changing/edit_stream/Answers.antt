@@ -3,7 +3,7 @@ use Rattle.stream_object.specs.Streams.{IsStream, stream_of, refs}
 use Rattle.stream_object.specs.declared.stream.Stream.{Stream}
 use Rattle.plain_world.specs.Worlds.{StreamOf, look}
 use Rattle.keyspace.specs.declared.value.Value.TheVariants as kinds
-use Rattle.keyspace.specs.Commands.{sight}
+use Rattle.keyspace.specs.Commands.{visible}
 use Rattle.keyspace.specs.Scopes.{one_key}
 use Rattle.keyspace.proofs.Running.{same_held}
 use Rattle.cmd_streams.proofs.AtKeys.{takes_there, stream_new, stream_changed}
@@ -33,13 +33,13 @@ edit_new-requires-clause-takes g c =
 pub edit_there-requires-clause-takes : goal.edit_there-requires-clause-takes
 edit_there-requires-clause-takes g c =
     let is = rw c.in-Some.is at c.requires.there in
-    takes_there (g.E.StreamEdit.takes c.args.on.now.edit) (sight g.B.BlockStore.blocks c.args.keyspace.now c.args.at.now) c.args.key.now is.stream is.has (c.requires.takes (Some is.stream) is.has)
+    takes_there (g.E.StreamEdit.takes c.args.on.now.edit) (visible g.B.BlockStore.blocks c.args.keyspace.now c.args.at.now) c.args.key.now is.stream is.has (c.requires.takes (Some is.stream) is.has)
 
 pub returns-in_ok-new-in-None-clause-edited : goal.returns-in_ok-new-in-None-clause-edited
 returns-in_ok-new-in-None-clause-edited g c =
     let m = g.B.BlockStore.blocks c.args.keyspace.now.store in
     let same : c.in_ok-new-in-None.field-0.value ≡ c.new.result = search rules in
-    let none : look (sight g.B.BlockStore.blocks c.args.keyspace.now c.args.at.now) c.args.key.now ≡ None = rw c.in-None.is at c.requires.there in
+    let none : look (visible g.B.BlockStore.blocks c.args.keyspace.now c.args.at.now) c.args.key.now ≡ None = rw c.in-None.is at c.requires.there in
     stream_new _ (g.E.StreamEdit.makes c.args.on.now.edit c.edit_new.new.edit.edit) c.args.on.now c.edit_new.new.edit g.B.BlockStore.blocks c.args.keyspace.now c.edit_new.new.keyspace
     c.args.at.now c.args.key.now (λ o n made. made)
     (kinds.Stream c.in_ok-new-in-None.field-0) (ap StreamOf (ap (stream_of m) same ∙ c.new.ensures.empty m)) none c.edit_new.result c.edit_new.ensures.made

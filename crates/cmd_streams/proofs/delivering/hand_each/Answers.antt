@@ -4,7 +4,7 @@ use Rattle.plain_model.specs.StreamSteps.{stream_there}
 use Rattle.plain_model.specs.GroupSteps.{hand_at}
 use Rattle.keyspace.specs.Forms.{Log}
 use Rattle.keyspace.specs.Scopes.{asked_keys, one_key, some_keys}
-use Rattle.keyspace.specs.Commands.{Held, sight}
+use Rattle.keyspace.specs.Commands.{KeepsTo, visible}
 use Rattle.keyspace.proofs.Forming.{formed_none}
 use Rattle.keyspace.proofs.Running.{held_then, same_held}
 use Rattle.cmd_streams.specs.Handed.{key_parts, reader, told_of_key}
@@ -39,15 +39,15 @@ loop-one-preserved g c =
     let rest : drop i asked ≡ one ∷ others = rest_from asked i one (search rules) c.one-item.is in
     let part : AreAsked (one ∷ others) asked = subst (λ l. AreAsked l asked) rest c.loop-one.invariant.part in
     let key : c.as_slice-key.result.now ≡ one.0 = c.as_slice-key.ensures in
-    let held = subst (λ k. Held blocks step (one_key db k) old new) key c.hand_one.ensures.held in
-    let gives : hand_at (sight blocks old at) who one.0 one.1 (stream_there (look (sight blocks old at) one.0)) ≡ (told_of_key one.0 handed, sight blocks new at) =
-    subst (λ k. hand_at (sight blocks old at) who k one.1 (stream_there (look (sight blocks old at) k)) ≡ (told_of_key k handed, sight blocks new at)) key c.in_ok-handed.ensures.gives in
+    let held = subst (λ k. KeepsTo blocks step (one_key db k) old new) key c.hand_one.ensures.held in
+    let gives : hand_at (visible blocks old at) who one.0 one.1 (stream_there (look (visible blocks old at) one.0)) ≡ (told_of_key one.0 handed, visible blocks new at) =
+    subst (λ k. hand_at (visible blocks old at) who k one.1 (stream_there (look (visible blocks old at) k)) ≡ (told_of_key k handed, visible blocks new at)) key c.in_ok-handed.ensures.gives in
     let put : map key_parts c.put_handed.new.found.items ≡ map key_parts c.loop-one.found.items ++ told_of_key one.0 handed =
     subst (λ k. map key_parts c.put_handed.new.found.items ≡ map key_parts c.loop-one.found.items ++ told_of_key k handed) key c.in_ok-put_handed.ensures in
     record {
-      told = told_step (sight blocks old at) (sight blocks new at) who asked i one (told_of_key one.0 handed) rest gives (map key_parts c.loop-one.found.items)
+      told = told_step (visible blocks old at) (visible blocks new at) who asked i one (told_of_key one.0 handed) rest gives (map key_parts c.loop-one.found.items)
           (map key_parts c.put_handed.new.found.items) _ put c.loop-one.invariant.told;
-      world = world_step (sight blocks old at) (sight blocks new at) who asked i one (told_of_key one.0 handed) rest gives _ c.loop-one.invariant.world;
+      world = world_step (visible blocks old at) (visible blocks new at) who asked i one (told_of_key one.0 handed) rest gives _ c.loop-one.invariant.world;
       held = held_then blocks step (some_keys db (asked_keys asked)) c.args.keyspace.now old new c.loop-one.invariant.held
           (held_wider blocks step db one.0 (asked_keys asked) (first_asked one others asked part) old new held);
       part = rest_asked one others asked part;
@@ -67,7 +67,7 @@ returns-in_err-handed-clause-held g c =
     let new = c.hand_one.new.keyspace in
     let rest : drop i asked ≡ one ∷ others = rest_from asked i one (search rules) c.one-item.is in
     let part : AreAsked (one ∷ others) asked = subst (λ l. AreAsked l asked) rest c.loop-one.invariant.part in
-    let held = subst (λ k. Held blocks step (one_key db k) old new) c.as_slice-key.ensures c.hand_one.ensures.held in
+    let held = subst (λ k. KeepsTo blocks step (one_key db k) old new) c.as_slice-key.ensures c.hand_one.ensures.held in
     held_then blocks step (some_keys db (asked_keys asked)) c.args.keyspace.now old new c.loop-one.invariant.held
     (held_wider blocks step db one.0 (asked_keys asked) (first_asked one others asked part) old new held)
 
@@ -84,6 +84,6 @@ returns-in_err-put_handed-clause-held g c =
     let new = c.hand_one.new.keyspace in
     let rest : drop i asked ≡ one ∷ others = rest_from asked i one (search rules) c.one-item.is in
     let part : AreAsked (one ∷ others) asked = subst (λ l. AreAsked l asked) rest c.loop-one.invariant.part in
-    let held = subst (λ k. Held blocks step (one_key db k) old new) c.as_slice-key.ensures c.hand_one.ensures.held in
+    let held = subst (λ k. KeepsTo blocks step (one_key db k) old new) c.as_slice-key.ensures c.hand_one.ensures.held in
     held_then blocks step (some_keys db (asked_keys asked)) c.args.keyspace.now old new c.loop-one.invariant.held
     (held_wider blocks step db one.0 (asked_keys asked) (first_asked one others asked part) old new held)

@@ -1,6 +1,6 @@
 use Rattle.std.proofs.Common.{◌≡◌, ◌∷◌, [], List, ℕ, IfOk, subst}
 use Rattle.plain_world.specs.declared.reply.Part.TheVariants.{Simple}
-use Rattle.keyspace.specs.Commands.{sight}
+use Rattle.keyspace.specs.Commands.{visible}
 use Rattle.keyspace.specs.Scopes.{one_key}
 use Rattle.cmd_streams.proofs.AtKeys.{formed_log}
 use Rattle.cmd_streams.proofs.Rests.{always}
@@ -11,7 +11,7 @@ pub returns-clause-gives : goal.returns-clause-gives
 returns-clause-gives g c =
     let blocks = g.B.BlockStore.blocks in
     let p = c.in_ok-change_stream.ensures.changed in
-    made_told (sight blocks c.args.keyspace.now c.args.at.now) (sight blocks c.change_stream.new.keyspace c.args.at.now) c.args.key.now c.args.name.now c.args.id p.before p.now p.stands
+    made_told (visible blocks c.args.keyspace.now c.args.at.now) (visible blocks c.change_stream.new.keyspace c.args.at.now) c.args.key.now c.args.name.now c.args.id p.before p.now p.stands
     (c.requires.free p.before p.stands) p.made p.world c.simple.result
     (subst (λ (line : List ℕ). IfOk c.simple.result (λ reply. reply ≡ Simple line ∷ [])) c.ok.ensures c.simple.ensures)
 

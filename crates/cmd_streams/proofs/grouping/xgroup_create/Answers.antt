@@ -1,5 +1,5 @@
 use Rattle.std.proofs.Common.{◌≡◌, true, rules}
-use Rattle.keyspace.specs.Commands.{sight}
+use Rattle.keyspace.specs.Commands.{visible}
 use Rattle.keyspace.specs.Scopes.{one_key}
 use Rattle.keyspace.proofs.Running.{unchanged}
 use Rattle.cmd_streams.proofs.Regrouped.{none_free, new_made, group_made}
@@ -17,17 +17,17 @@ returns-then-has_group-clause-kept g c = unchanged g.B.BlockStore.blocks g.B.Blo
     c.requires.ready.sound
 
 pub create_at-requires-clause-free : goal.create_at-requires-clause-free
-create_at-requires-clause-free g c = none_free (sight g.B.BlockStore.blocks c.args.keyspace.now c.args.at.now) c.args.key.now c.args.name.now c.in-Missing.ensures
+create_at-requires-clause-free g c = none_free (visible g.B.BlockStore.blocks c.args.keyspace.now c.args.at.now) c.args.key.now c.args.name.now c.in-Missing.ensures
 
 pub returns-else-not-make-clause-gives : goal.returns-else-not-make-clause-gives
 returns-else-not-make-clause-gives g c =
     let blocks = g.B.BlockStore.blocks in
     let may : c.args.make ≡ true = search rules in
-    new_made (sight blocks c.args.keyspace.now c.args.at.now) (sight blocks c.create_at.new.keyspace c.args.at.now) c.args.key.now c.args.name.now c.args.id c.args.make may
+    new_made (visible blocks c.args.keyspace.now c.args.at.now) (visible blocks c.create_at.new.keyspace c.args.at.now) c.args.key.now c.args.name.now c.args.id c.args.make may
     c.in-Missing.ensures c.create_at.result c.create_at.ensures.gives
 
 pub returns-else-has_group-clause-gives : goal.returns-else-has_group-clause-gives
 returns-else-has_group-clause-gives g c =
     let blocks = g.B.BlockStore.blocks in
-    group_made (sight blocks c.args.keyspace.now c.args.at.now) (sight blocks c.create_at-in-There.new.keyspace c.args.at.now) (blocks c.args.keyspace.now.store) c.args.key.now
+    group_made (visible blocks c.args.keyspace.now c.args.at.now) (visible blocks c.create_at-in-There.new.keyspace c.args.at.now) (blocks c.args.keyspace.now.store) c.args.key.now
     c.args.name.now c.args.id c.args.make c.stream_there.result.now c.stream_there.ensures c.create_at-in-There.result c.create_at-in-There.ensures.gives

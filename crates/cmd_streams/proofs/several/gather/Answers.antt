@@ -2,7 +2,7 @@ use Rattle.std.proofs.Common.{◌≡◌, ◌+◌, ◌∷◌, ◌++◌, false, dr
 use Rattle.stream_object.specs.Ranges.{taken}
 use Rattle.plain_world.specs.Worlds.{look}
 use Rattle.plain_model.specs.StreamSteps.{some_listed, stream_there}
-use Rattle.keyspace.specs.Commands.{sight}
+use Rattle.keyspace.specs.Commands.{visible}
 use Rattle.cmd_streams.specs.Several.{read_parts, entries_above, is_other_at}
 use Rattle.cmd_streams.proofs.Rests.{rest_from}
 use Rattle.cmd_streams.proofs.Gathered.{none_more, one_gathered}
@@ -10,7 +10,7 @@ use Rattle.cmd_streams.proofs.several.gather.Goals as goal
 
 pub loop-one-preserved : goal.loop-one-preserved
 loop-one-preserved g c =
-    let world = sight g.B.BlockStore.blocks c.args.keyspace.now c.args.at.now in
+    let world = visible g.B.BlockStore.blocks c.args.keyspace.now c.args.at.now in
     let asked = c.args.asked.now in
     let limit = c.args.limit in
     let i = c.loop-one.one-index in

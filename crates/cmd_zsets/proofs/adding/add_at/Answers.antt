@@ -1,6 +1,6 @@
 use Rattle.std.proofs.Common.{ap, ◌∙◌}
 use Rattle.plain_model.specs.ZsetSteps.{keep_zset}
-use Rattle.keyspace.specs.Commands.{sight}
+use Rattle.keyspace.specs.Commands.{visible}
 use Rattle.cmd_zsets.proofs.Telling.{formed_risen}
 use Rattle.cmd_zsets.proofs.adding.add_at.Goals as goal
 
@@ -10,7 +10,7 @@ returns-clause-added g c =
     record {
       before = p.before;
       stands = p.stands;
-      world = p.world ∙ ap (keep_zset (sight g.B.BlockStore.blocks c.args.keyspace.now c.args.at.now) c.args.key.now) p.made.is;
+      world = p.world ∙ ap (keep_zset (visible g.B.BlockStore.blocks c.args.keyspace.now c.args.at.now) c.args.key.now) p.made.is;
       counted = p.made.counted;
     }
 

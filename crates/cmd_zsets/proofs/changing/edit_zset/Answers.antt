@@ -7,7 +7,7 @@ use Rattle.zset_object.specs.declared.scored.Scored.{Scored}
 use Rattle.std.specs.FinMap.{empty}
 use Rattle.plain_world.specs.Worlds.{SortedOf, look}
 use Rattle.keyspace.specs.declared.value.Value.TheVariants as kinds
-use Rattle.keyspace.specs.Commands.{sight}
+use Rattle.keyspace.specs.Commands.{visible}
 use Rattle.keyspace.specs.Scopes.{one_key}
 use Rattle.keyspace.proofs.Running.{same_held}
 use Rattle.cmd_zsets.proofs.AtKeys.{form_in, takes_there, zset_new, zset_there}
@@ -42,14 +42,14 @@ edit_new-requires-clause-takes g c =
 pub edit_there-requires-clause-takes : goal.edit_there-requires-clause-takes
 edit_there-requires-clause-takes g c =
     let is = rw c.in-Some.is at c.requires.there in
-    takes_there (g.E.ZsetEdit.takes c.args.on.now.edit) (sight g.B.BlockStore.blocks c.args.keyspace.now c.args.at.now) c.args.key.now is.scores is.has (c.requires.takes (Some is.scores) is.has)
+    takes_there (g.E.ZsetEdit.takes c.args.on.now.edit) (visible g.B.BlockStore.blocks c.args.keyspace.now c.args.at.now) c.args.key.now is.scores is.has (c.requires.takes (Some is.scores) is.has)
 
 pub returns-in_ok-new-in-None-clause-edited : goal.returns-in_ok-new-in-None-clause-edited
 returns-in_ok-new-in-None-clause-edited g c =
     let m = g.B.BlockStore.blocks c.args.keyspace.now.store in
     let limits = c.args.keyspace.now.bases.limits in
     let same : c.in_ok-new-in-None.field-0.value ≡ c.new-zset.result = search rules in
-    let none : look (sight g.B.BlockStore.blocks c.args.keyspace.now c.args.at.now) c.args.key.now ≡ None = rw c.in-None.is at c.requires.there in
+    let none : look (visible g.B.BlockStore.blocks c.args.keyspace.now c.args.at.now) c.args.key.now ≡ None = rw c.in-None.is at c.requires.there in
     let by : c.new-zset.result.limits ≡ limits = c.new-zset.ensures.limits ∙ c.limits.ensures in
     let least : IsLeast (FitsScored limits empty) (form_of c.new-zset.result) = subst (λ l. IsLeast (FitsScored l empty) (form_of c.new-zset.result)) c.limits.ensures c.new-zset.ensures.form in
     zset_new _ (g.E.ZsetEdit.makes c.args.on.now.edit c.edit_new.new.edit.edit) c.edit_new.new.edit.left c.args.on.now c.edit_new.new.edit g.B.BlockStore.blocks c.args.keyspace.now

@@ -1,4 +1,4 @@
-use Rattle.keyspace.specs.Commands.{sight}
+use Rattle.keyspace.specs.Commands.{visible}
 use Rattle.cmd_zsets.specs.Joined.{gathered, scores_at}
 use Rattle.cmd_zsets.proofs.Meeting.{none_more}
 use Rattle.cmd_zsets.proofs.Joins.{missing_scores, other_scores}
@@ -6,7 +6,7 @@ use Rattle.cmd_zsets.proofs.gathering.add_at.Goals as goal
 
 pub returns-in-Missing : goal.returns-in-Missing
 returns-in-Missing g c =
-    let world = sight g.B.BlockStore.blocks c.args.keyspace.now c.args.at.now in
+    let world = visible g.B.BlockStore.blocks c.args.keyspace.now c.args.at.now in
     let key = c.args.key.now in
     none_more c.args.meeting.join c.args.meeting.how c.args.meeting.weight (gathered c.begin-before.result) (gathered c.begin-before.new.all) (gathered c.args.all.now)
     (scores_at world key) c.begin-before.ensures.fresh c.begin-before.ensures.all
@@ -14,7 +14,7 @@ returns-in-Missing g c =
 
 pub returns-in-Other-set_at : goal.returns-in-Other-set_at
 returns-in-Other-set_at g c =
-    let world = sight g.B.BlockStore.blocks c.args.keyspace.now c.args.at.now in
+    let world = visible g.B.BlockStore.blocks c.args.keyspace.now c.args.at.now in
     let key = c.args.key.now in
     none_more c.args.meeting.join c.args.meeting.how c.args.meeting.weight (gathered c.begin-before.result) (gathered c.begin-before.new.all) (gathered c.args.all.now)
     (scores_at world key) c.begin-before.ensures.fresh c.begin-before.ensures.all

@@ -2,7 +2,7 @@ use Rattle.std.specs.Int.{w64}
 use Rattle.std.proofs.lemmas.Int.{to_z-of_z}
 use Rattle.plain_model.specs.ListSteps.{list_range}
 use Rattle.keyspace.specs.Scopes.{one_key}
-use Rattle.keyspace.specs.Commands.{sight}
+use Rattle.keyspace.specs.Commands.{visible}
 use Rattle.keyspace.proofs.Running.{unchanged}
 use Rattle.cmd_zsets.proofs.Telling.{before_is, formed_as, if_ok, none_dropped, part_dropped, counted_calm}
 use Rattle.cmd_zsets.proofs.popping.zremrangebyrank.Goals as goal
@@ -14,14 +14,14 @@ pub returns-in-Missing-clause-kept : goal.returns-in-Missing-clause-kept
 returns-in-Missing-clause-kept g c = unchanged g.B.BlockStore.blocks g.B.BlockStore.step (one_key c.args.at.now.db c.args.key.now) c.args.keyspace.now c.count_reply.result c.requires.ready.sound
 
 pub returns-in-Missing-clause-gives : goal.returns-in-Missing-clause-gives
-returns-in-Missing-clause-gives g c = none_dropped (sight g.B.BlockStore.blocks c.args.keyspace.now c.args.at.now) c.args.key.now (λ list. list_range list c.args.a c.args.b)
+returns-in-Missing-clause-gives g c = none_dropped (visible g.B.BlockStore.blocks c.args.keyspace.now c.args.at.now) c.args.key.now (λ list. list_range list c.args.a c.args.b)
     c.in-Missing.ensures c.count_reply.result c.count_reply.ensures
 
 pub returns-clause-gives : goal.returns-clause-gives
 returns-clause-gives g c =
     let blocks = g.B.BlockStore.blocks in
     let p = c.in_ok-remove.ensures.changed in
-    part_dropped (sight blocks c.args.keyspace.now c.args.at.now) (sight blocks c.change_zset.new.keyspace c.args.at.now) c.args.key.now (λ list. list_range list c.args.a c.args.b) _
+    part_dropped (visible blocks c.args.keyspace.now c.args.at.now) (visible blocks c.change_zset.new.keyspace c.args.at.now) c.args.key.now (λ list. list_range list c.args.a c.args.b) _
     p.before c.in-There.ensures.scores p.from p.now p.form p.stands c.in-There.ensures.has (rw (to_z-of_z w64 c.args.a c.ranges.a, to_z-of_z w64 c.args.b c.ranges.b) at p.made) p.world
     c.count_reply-2.result c.count_reply-2.ensures
 
@@ -32,7 +32,7 @@ returns-clause-forms g c =
     let scores = c.in-There.ensures.scores in
     if_ok c.count_reply-2.result
     (formed_as _ blocks g.B.BlockStore.step c.args.keyspace.now c.change_zset.new.keyspace c.args.at.now c.args.key.now p c.change_zset.ensures.held scores
-    (before_is (sight blocks c.args.keyspace.now c.args.at.now) c.args.key.now p.before scores p.stands c.in-There.ensures.has) p.made.form_is)
+    (before_is (visible blocks c.args.keyspace.now c.args.at.now) c.args.key.now p.before scores p.stands c.in-There.ensures.has) p.made.form_is)
 
 pub returns-clause-kept : goal.returns-clause-kept
 returns-clause-kept g c = counted_calm g.B.BlockStore.blocks g.B.BlockStore.step (one_key c.args.at.now.db c.args.key.now) c.args.keyspace.now c.change_zset.new.keyspace _

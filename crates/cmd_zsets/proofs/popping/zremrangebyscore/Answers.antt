@@ -1,6 +1,6 @@
 use Rattle.plain_model.specs.ZsetSteps.{within}
 use Rattle.keyspace.specs.Scopes.{one_key}
-use Rattle.keyspace.specs.Commands.{sight}
+use Rattle.keyspace.specs.Commands.{visible}
 use Rattle.keyspace.proofs.Running.{unchanged}
 use Rattle.cmd_zsets.proofs.Telling.{before_is, formed_as, if_ok, none_dropped, part_dropped}
 use Rattle.cmd_zsets.proofs.popping.zremrangebyscore.Goals as goal
@@ -12,14 +12,14 @@ pub returns-in-Missing-clause-kept : goal.returns-in-Missing-clause-kept
 returns-in-Missing-clause-kept g c = unchanged g.B.BlockStore.blocks g.B.BlockStore.step (one_key c.args.at.now.db c.args.key.now) c.args.keyspace.now c.count_reply.result c.requires.ready.sound
 
 pub returns-in-Missing-clause-gives : goal.returns-in-Missing-clause-gives
-returns-in-Missing-clause-gives g c = none_dropped (sight g.B.BlockStore.blocks c.args.keyspace.now c.args.at.now) c.args.key.now (within c.args.min c.args.max) c.in-Missing.ensures
+returns-in-Missing-clause-gives g c = none_dropped (visible g.B.BlockStore.blocks c.args.keyspace.now c.args.at.now) c.args.key.now (within c.args.min c.args.max) c.in-Missing.ensures
     c.count_reply.result c.count_reply.ensures
 
 pub returns-clause-gives : goal.returns-clause-gives
 returns-clause-gives g c =
     let blocks = g.B.BlockStore.blocks in
     let p = c.in_ok-remove.ensures.changed in
-    part_dropped (sight blocks c.args.keyspace.now c.args.at.now) (sight blocks c.change_zset.new.keyspace c.args.at.now) c.args.key.now (within c.args.min c.args.max) _ p.before
+    part_dropped (visible blocks c.args.keyspace.now c.args.at.now) (visible blocks c.change_zset.new.keyspace c.args.at.now) c.args.key.now (within c.args.min c.args.max) _ p.before
     c.in-There.ensures.scores p.from p.now p.form p.stands c.in-There.ensures.has p.made p.world c.count_reply-2.result c.count_reply-2.ensures
 
 pub returns-clause-forms : goal.returns-clause-forms
@@ -29,4 +29,4 @@ returns-clause-forms g c =
     let scores = c.in-There.ensures.scores in
     if_ok c.count_reply-2.result
     (formed_as _ blocks g.B.BlockStore.step c.args.keyspace.now c.change_zset.new.keyspace c.args.at.now c.args.key.now p c.change_zset.ensures.held scores
-    (before_is (sight blocks c.args.keyspace.now c.args.at.now) c.args.key.now p.before scores p.stands c.in-There.ensures.has) p.made.form_is)
+    (before_is (visible blocks c.args.keyspace.now c.args.at.now) c.args.key.now p.before scores p.stands c.in-There.ensures.has) p.made.form_is)

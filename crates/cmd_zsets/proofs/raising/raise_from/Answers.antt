@@ -2,7 +2,7 @@ use Rattle.std.proofs.Common.{sym, ◌∙◌}
 use Rattle.std.specs.Int.{w64}
 use Rattle.std.proofs.lemmas.Int.{to_z-of_z}
 use Rattle.plain_model.specs.declared.zset_command.ZsetCommand.TheVariants as zsets
-use Rattle.keyspace.specs.Commands.{sight}
+use Rattle.keyspace.specs.Commands.{visible}
 use Rattle.keyspace.specs.Forms.{zset_form}
 use Rattle.keyspace.specs.Scopes.{one_key}
 use Rattle.keyspace.proofs.Running.{unchanged}
@@ -12,7 +12,7 @@ use Rattle.cmd_zsets.proofs.raising.raise_from.Goals as goal
 
 pub returns-then-not-is_admitted-clause-gives : goal.returns-then-not-is_admitted-clause-gives
 returns-then-not-is_admitted-clause-gives g c =
-    barred_told (sight g.B.BlockStore.blocks c.args.keyspace.now c.args.at.now) c.args.key.now c.args.member.now c.args.rules c.args.by c.args.old c.requires.score
+    barred_told (visible g.B.BlockStore.blocks c.args.keyspace.now c.args.at.now) c.args.key.now c.args.member.now c.args.rules c.args.by c.args.old c.requires.score
     (sym c.is_admitted.ensures ∙ c.if-not-is_admitted.true) c.null.result c.null.ensures
 
 pub returns-then-not-is_admitted-clause-kept : goal.returns-then-not-is_admitted-clause-kept
@@ -21,12 +21,12 @@ returns-then-not-is_admitted-clause-kept g c = unchanged g.B.BlockStore.blocks g
 pub returns-then-not-is_admitted-clause-forms : goal.returns-then-not-is_admitted-clause-forms
 returns-then-not-is_admitted-clause-forms g c =
     unformed g.B.BlockStore.blocks
-    (zset_form c.args.at.now.db (sight g.B.BlockStore.blocks c.args.keyspace.now c.args.at.now) (zsets.ZIncr c.args.key.now c.args.rules c.args.by c.args.member.now))
+    (zset_form c.args.at.now.db (visible g.B.BlockStore.blocks c.args.keyspace.now c.args.at.now) (zsets.ZIncr c.args.key.now c.args.rules c.args.by c.args.member.now))
     c.args.keyspace.now c.null.result
 
 pub returns-in-None-clause-gives : goal.returns-in-None-clause-gives
 returns-in-None-clause-gives g c =
-    large_told (sight g.B.BlockStore.blocks c.args.keyspace.now c.args.at.now) c.args.key.now c.args.member.now c.args.rules c.args.by c.args.old c.requires.score
+    large_told (visible g.B.BlockStore.blocks c.args.keyspace.now c.args.at.now) c.args.key.now c.args.member.now c.args.rules c.args.by c.args.old c.requires.score
     (sym c.is_admitted.ensures ∙ c.if-not-is_admitted.false) (rw (to_z-of_z w64 c.args.by c.ranges.by) at c.in-None.ensures) c.refused.result c.refused.ensures
 
 pub returns-in-None-clause-kept : goal.returns-in-None-clause-kept
@@ -35,7 +35,7 @@ returns-in-None-clause-kept g c = unchanged g.B.BlockStore.blocks g.B.BlockStore
 pub returns-in-None-clause-forms : goal.returns-in-None-clause-forms
 returns-in-None-clause-forms g c =
     unformed g.B.BlockStore.blocks
-    (zset_form c.args.at.now.db (sight g.B.BlockStore.blocks c.args.keyspace.now c.args.at.now) (zsets.ZIncr c.args.key.now c.args.rules c.args.by c.args.member.now))
+    (zset_form c.args.at.now.db (visible g.B.BlockStore.blocks c.args.keyspace.now c.args.at.now) (zsets.ZIncr c.args.key.now c.args.rules c.args.by c.args.member.now))
     c.args.keyspace.now c.refused.result
 
 pub returns-in-Some-clause-forms : goal.returns-in-Some-clause-forms

@@ -2,7 +2,7 @@ use Rattle.std.proofs.Common.{sym}
 use Rattle.plain_model.specs.declared.zset_command.ZsetCommand.TheVariants as zsets
 use Rattle.keyspace.specs.Scopes.{one_key}
 use Rattle.keyspace.specs.Forms.{zset_form}
-use Rattle.keyspace.specs.Commands.{sight}
+use Rattle.keyspace.specs.Commands.{visible}
 use Rattle.keyspace.proofs.Running.{unchanged}
 use Rattle.keyspace.proofs.Forming.{formed_ok, formed_key}
 use Rattle.cmd_zsets.specs.Joined.{gathered}
@@ -12,7 +12,7 @@ use Rattle.cmd_zsets.proofs.storing.zjoin_store.Goals as goal
 
 pub returns-then-not-are_sources-clause-gives : goal.returns-then-not-are_sources-clause-gives
 returns-then-not-are_sources-clause-gives g c =
-    stored_refused c.args.keyspace.now.bases.seed (sight g.B.BlockStore.blocks c.args.keyspace.now c.args.at.now) c.args.join c.args.how c.args.to.now c.args.keys.now c.refused.result
+    stored_refused c.args.keyspace.now.bases.seed (visible g.B.BlockStore.blocks c.args.keyspace.now c.args.at.now) c.args.join c.args.how c.args.to.now c.args.keys.now c.refused.result
     (sym c.if-not-are_sources.ensures) c.refused.ensures
 
 pub returns-then-not-are_sources-clause-kept : goal.returns-then-not-are_sources-clause-kept
@@ -23,7 +23,7 @@ returns-in_err-sums-clause-kept g c = unchanged g.B.BlockStore.blocks g.B.BlockS
 
 pub returns-then-not-are_in_range-clause-gives : goal.returns-then-not-are_in_range-clause-gives
 returns-then-not-are_in_range-clause-gives g c =
-    stored_out c.args.keyspace.now.bases.seed (sight g.B.BlockStore.blocks c.args.keyspace.now c.args.at.now) c.args.join c.args.how c.args.to.now c.args.keys.now
+    stored_out c.args.keyspace.now.bases.seed (visible g.B.BlockStore.blocks c.args.keyspace.now c.args.at.now) c.args.join c.args.how c.args.to.now c.args.keys.now
     (gathered c.in_ok-sums.sums) c.refused-then-not-are_in_range.result (sym c.if-not-are_sources.ensures) c.in_ok-sums.ensures (sym c.if-not-are_in_range.ensures)
     c.refused-then-not-are_in_range.ensures
 
@@ -33,8 +33,8 @@ returns-then-not-are_in_range-clause-kept g c = unchanged g.B.BlockStore.blocks 
 
 pub returns-clause-gives : goal.returns-clause-gives
 returns-clause-gives g c =
-    stored_told c.args.keyspace.now.bases.seed (sight g.B.BlockStore.blocks c.args.keyspace.now c.args.at.now) c.args.join c.args.how c.args.to.now c.args.keys.now
-    (sight g.B.BlockStore.blocks c.put_sums.new.keyspace c.args.at.now) c.in_ok-count.count (gathered c.in_ok-sums.sums) c.count_reply.result
+    stored_told c.args.keyspace.now.bases.seed (visible g.B.BlockStore.blocks c.args.keyspace.now c.args.at.now) c.args.join c.args.how c.args.to.now c.args.keys.now
+    (visible g.B.BlockStore.blocks c.put_sums.new.keyspace c.args.at.now) c.in_ok-count.count (gathered c.in_ok-sums.sums) c.count_reply.result
     (sym c.if-not-are_sources.ensures) c.in_ok-sums.ensures (sym c.if-not-are_in_range.ensures) c.in_ok-count.ensures.counted c.in_ok-count.ensures.world c.count_reply.ensures
 
 pub returns-clause-kept : goal.returns-clause-kept
@@ -45,7 +45,7 @@ returns-clause-kept g c =
 pub returns-clause-forms : goal.returns-clause-forms
 returns-clause-forms g c =
     let blocks = g.B.BlockStore.blocks in
-    let world = sight blocks c.args.keyspace.now c.args.at.now in
+    let world = visible blocks c.args.keyspace.now c.args.at.now in
     let form = zset_form c.args.at.now.db world (zsets.ZJoinStore c.args.join c.args.to.now c.args.keys.now c.args.how) in
     formed_ok blocks form c.args.keyspace.now c.put_sums.new.keyspace c.count_reply.result
     (formed_key form c.args.at.now.db c.args.to.now c.args.keyspace.now.bases c.put_sums.new.keyspace.bases (blocks c.args.keyspace.now.store) (blocks c.put_sums.new.keyspace.store)

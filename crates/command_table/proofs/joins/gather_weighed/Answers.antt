@@ -2,7 +2,7 @@ use Rattle.std.proofs.Common.{◌≡◌, ◌<◌, ◌≤◌, ◌+◌, [], ◌∷
 use Rattle.std.proofs.lemmas.Int.{to_z-of_z}
 use Rattle.plain_world.specs.Words.{IsRequest}
 use Rattle.plain_model.specs.ZsetWords.{weighed}
-use Rattle.command_table.specs.Readings.{at}
+use Rattle.command_table.specs.Readings.{word_at}
 use Rattle.command_table.proofs.Weights.{all_weighed, keys_of, weigh_step, weight_stands, weights_within, weighed_told}
 use Rattle.command_table.proofs.joins.gather_weighed.Goals as goal
 
@@ -35,7 +35,7 @@ loop-index-preserved c =
     let l : i < c.args.count = search rules in
     let fits : SFits w64 n = search rules in
     let same = to_z-of_z w64 n fits in
-    let pushed : c.push.new.self ≡ c.loop-index.list ++ (n, at words (3 + i)) ∷ [] = search (rules, same) in
+    let pushed : c.push.new.self ≡ c.loop-index.list ++ (n, word_at words (3 + i)) ∷ [] = search (rules, same) in
     let keys = keys_of words c.args.count in (
       held.0,
       held.1,

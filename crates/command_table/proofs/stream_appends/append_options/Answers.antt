@@ -1,6 +1,6 @@
 use Rattle.std.proofs.Common.{◌≡◌, ◌<◌, ◌+◌, true, length, drop, ◌∙◌, sym, ap, arith, rules}
 use Rattle.plain_model.specs.StreamWords.{append_options, is_option}
-use Rattle.command_table.specs.Readings.{at}
+use Rattle.command_table.specs.Readings.{word_at}
 use Rattle.command_table.proofs.AppendWords.{options_on}
 use Rattle.command_table.proofs.stream_appends.append_options.Goals as goal
 
@@ -10,6 +10,6 @@ loop-index-preserved c =
     let i = c.loop-index.index in
     let after = c.in_ok-options.options in
     let within : i < length words = omega (arith, c.loop-index-test.true, c.len.ensures.len) in
-    let is : is_option (at words i) ≡ true = search rules in
+    let is : is_option (word_at words i) ≡ true = search rules in
     let place = ap (λ n. append_options after 0 (drop (i + 1 + n) words)) c.own_of.ensures.same in
     (place ∙ sym (options_on words i within c.loop-index.options after is c.in_ok-options.ensures) ∙ c.loop-index.invariant.0, omega (arith, within, c.own_of.ensures.few))

@@ -1,7 +1,7 @@
 use Rattle.std.proofs.Common.{◌≡◌, ◌<◌, ◌≤◌, ◌+◌, ◌-◌, [], ◌∷◌, ◌++◌, Err, length, drop, ◌∙◌, subst, ap, arith, rules}
 use Rattle.std.specs.Prelude.{IfOk}
 use Rattle.plain_model.specs.StreamWords.{keyed}
-use Rattle.command_table.specs.Readings.{Gathers, at}
+use Rattle.command_table.specs.Readings.{Gathers, word_at}
 use Rattle.command_table.proofs.Gathering.{in_front, keyed_on, keyed_fails, more_kept}
 use Rattle.command_table.proofs.stream_reads.keyed.Goals as goal
 
@@ -39,12 +39,12 @@ loop-index-preserved c =
     let some : c.args.count ≤ i = c.loop-index.invariant.1 in
     let within : i < length words = search (rules, arith) in
     let next : key + 1 ≡ i + 1 - c.args.count = omega (arith, some) in
-    let named : c.plain.result ≡ at words key = search rules in
+    let named : c.plain.result ≡ word_at words key = search rules in
     let more = more_kept c.loop-index.list c.with_key-list.result kept (c.plain.result, id) c.loop-index.invariant.0.2 c.with_key-list.ensures in (
       (
-        kept ++ (at words key, id) ∷ [],
+        kept ++ (word_at words key, id) ∷ [],
         c.loop-index.invariant.0.1 ∙ keyed_on sign words kept key i id (omega (arith, within)) within c.in_ok-id.ensures
-            ∙ ap (λ n. in_front (kept ++ (at words key, id) ∷ []) (keyed sign (drop n words) (drop (i + 1) words))) next,
+            ∙ ap (λ n. in_front (kept ++ (word_at words key, id) ∷ []) (keyed sign (drop n words) (drop (i + 1) words))) next,
         subst (λ w. IfOk c.with_key-list.result (λ l. l ≡ kept ++ (w, id) ∷ [])) named more,
       ),
       omega (arith, some),

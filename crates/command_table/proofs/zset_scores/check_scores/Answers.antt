@@ -1,6 +1,6 @@
 use Rattle.std.proofs.Common.{◌<◌, ◌+◌, [], ◌∷◌, ◌++◌, Err, length, drop, ◌∙◌, arith, rules}
 use Rattle.plain_model.specs.ZsetWords.{scores_read}
-use Rattle.command_table.specs.Readings.{Passes, at}
+use Rattle.command_table.specs.Readings.{Passes, word_at}
 use Rattle.command_table.proofs.AddWords.{as_passes, pair_step, score_fails}
 use Rattle.command_table.proofs.zset_scores.check_scores.Goals as goal
 
@@ -21,4 +21,4 @@ loop-index-preserved c =
     let pairs = c.loop-index.invariant.0.0 in
     let n = c.in_ok-score.field-0 in
     let within : i + 1 < length words = omega (arith, c.loop-index-test.true, c.len.ensures.len, c.if-len-index-lt2.false, c.len-in-loop-index.ensures.len) in
-    ((pairs ++ (n, at words (i + 1)) ∷ [], c.loop-index.invariant.0.1 ∙ pair_step pairs words i n within c.in_ok-score.ensures), omega (arith, within))
+    ((pairs ++ (n, word_at words (i + 1)) ∷ [], c.loop-index.invariant.0.1 ∙ pair_step pairs words i n within c.in_ok-score.ensures), omega (arith, within))

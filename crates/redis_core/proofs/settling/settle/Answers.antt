@@ -1,6 +1,6 @@
 use Rattle.std.proofs.Common.{inl, inr, refl, sym, subst, ◌∙◌}
 use Rattle.keyspace.proofs.Running.{same_held, held_then}
-use Rattle.keyspace.specs.Commands.{Held}
+use Rattle.keyspace.specs.Commands.{KeepsTo}
 use Rattle.redis_core.specs.declared.settling.Touched.{Touched}
 use Rattle.redis_core.specs.declared.settling.Touched.TheVariants.{One, Two}
 use Rattle.redis_core.specs.Touched.{covers, shrinking, AreDatabases}
@@ -17,7 +17,7 @@ pub shrink_one-requires-clause-db : goal.shrink_one-requires-clause-db
 shrink_one-requires-clause-db g c = subst AreDatabases c.in-One.is c.requires.databases
 
 pub returns-in-One-clause-held : goal.returns-in-One-clause-held
-returns-in-One-clause-held g c = subst (λ (t : Touched). Held g.B.BlockStore.blocks g.B.BlockStore.step (shrinking t) c.args.keyspace.now c.shrink_one.new.keyspace) (sym c.in-One.is)
+returns-in-One-clause-held g c = subst (λ (t : Touched). KeepsTo g.B.BlockStore.blocks g.B.BlockStore.step (shrinking t) c.args.keyspace.now c.shrink_one.new.keyspace) (sym c.in-One.is)
     (held_shrinks g.B.BlockStore.blocks g.B.BlockStore.step (One c.in-One.db) c.in-One.db refl c.args.keyspace.now c.shrink_one.new.keyspace c.shrink_one.ensures.held)
 
 pub returns-in-One-clause-settled : goal.returns-in-One-clause-settled
@@ -29,7 +29,7 @@ pub shrink_one-requires-in-Two-clause-db : goal.shrink_one-requires-in-Two-claus
 shrink_one-requires-in-Two-clause-db g c = (subst AreDatabases c.in-Two.is c.requires.databases).0
 
 pub returns-in-All-clause-held : goal.returns-in-All-clause-held
-returns-in-All-clause-held g c = subst (λ (t : Touched). Held g.B.BlockStore.blocks g.B.BlockStore.step (shrinking t) c.args.keyspace.now c.shrink_all.new.keyspace) (sym c.in-All.is)
+returns-in-All-clause-held g c = subst (λ (t : Touched). KeepsTo g.B.BlockStore.blocks g.B.BlockStore.step (shrinking t) c.args.keyspace.now c.shrink_all.new.keyspace) (sym c.in-All.is)
     (c.shrink_all.ensures.held)
 
 pub returns-in-All-clause-settled : goal.returns-in-All-clause-settled
@@ -43,7 +43,7 @@ returns-in-Ok-clause-world g c number = c.shrink_one-in-Ok.ensures.world number 
 
 pub returns-in-Ok-clause-held : goal.returns-in-Ok-clause-held
 returns-in-Ok-clause-held g c =
-    subst (λ (t : Touched). Held g.B.BlockStore.blocks g.B.BlockStore.step (shrinking t) c.args.keyspace.now c.shrink_one-in-Ok.new.keyspace) (sym c.in-Two.is)
+    subst (λ (t : Touched). KeepsTo g.B.BlockStore.blocks g.B.BlockStore.step (shrinking t) c.args.keyspace.now c.shrink_one-in-Ok.new.keyspace) (sym c.in-Two.is)
     (held_then g.B.BlockStore.blocks g.B.BlockStore.step (shrinking (Two c.in-Two.db c.in-Two.other)) c.args.keyspace.now c.shrink_one-in-Two.new.keyspace c.shrink_one-in-Ok.new.keyspace
     (held_shrinks g.B.BlockStore.blocks g.B.BlockStore.step (Two c.in-Two.db c.in-Two.other) c.in-Two.db (inl refl) c.args.keyspace.now c.shrink_one-in-Two.new.keyspace
     c.shrink_one-in-Two.ensures.held)
@@ -59,6 +59,6 @@ returns-in-Ok-clause-settled g c =
 
 pub returns-in-Err-clause-held : goal.returns-in-Err-clause-held
 returns-in-Err-clause-held g c =
-    subst (λ (t : Touched). Held g.B.BlockStore.blocks g.B.BlockStore.step (shrinking t) c.args.keyspace.now c.shrink_one-in-Two.new.keyspace) (sym c.in-Two.is)
+    subst (λ (t : Touched). KeepsTo g.B.BlockStore.blocks g.B.BlockStore.step (shrinking t) c.args.keyspace.now c.shrink_one-in-Two.new.keyspace) (sym c.in-Two.is)
     (held_shrinks g.B.BlockStore.blocks g.B.BlockStore.step (Two c.in-Two.db c.in-Two.other) c.in-Two.db (inl refl) c.args.keyspace.now c.shrink_one-in-Two.new.keyspace
     c.shrink_one-in-Two.ensures.held)

@@ -1,7 +1,7 @@
 use Rattle.std.specs.Prelude.{◌≡◌, ◌<◌, ℕ}
 use Rattle.keyspace.specs.Databases.{means}
 use Rattle.keyspace.specs.Scopes.{AreSettled}
-use Rattle.keyspace.specs.Commands.{Held}
+use Rattle.keyspace.specs.Commands.{KeepsTo}
 use Rattle.redis_core.specs.declared.settling.Touched.TheVariants.{All}
 use Rattle.redis_core.specs.Touched.{shrinking}
 use Rattle.redis_core.proofs.settling.shrink_all.Given as goal
@@ -11,6 +11,6 @@ invariant-loop-db g l =
     let blocks = g.B.BlockStore.blocks in
     record {
       world : (number : ℕ) → means number l.keyspace.bases (blocks l.keyspace.store) ≡ means number l.fn.keyspace.bases (blocks l.fn.keyspace.store);
-      held : Held blocks g.B.BlockStore.step (shrinking All) l.fn.keyspace l.keyspace;
+      held : KeepsTo blocks g.B.BlockStore.step (shrinking All) l.fn.keyspace l.keyspace;
       settled : (number : ℕ) → number < l.db → AreSettled l.keyspace.bases number;
     }

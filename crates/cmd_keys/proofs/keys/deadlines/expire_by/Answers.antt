@@ -3,7 +3,7 @@ use Rattle.plain_world.specs.Worlds.{deadline_of}
 use Rattle.std.specs.Prelude.{FitsSigned}
 use Rattle.std.specs.Int.{w64}
 use Rattle.std.proofs.lemmas.Int.{to_z-of_z}
-use Rattle.keyspace.specs.Commands.{sight}
+use Rattle.keyspace.specs.Commands.{visible}
 use Rattle.keyspace.specs.Scopes.{no_key}
 use Rattle.keyspace.proofs.Running.{unchanged, calm}
 use Rattle.cmd_keys.proofs.KeyLemmas.{number_calm, expire_given}
@@ -30,7 +30,7 @@ pub returns-in_ok-expire_sought-in-Some-there-clause-gives : goal.returns-in_ok-
 returns-in_ok-expire_sought-in-Some-there-clause-gives g c =
     let typed = rw c.in-Some.is at c.due.type_inv in
     let fits : FitsSigned w64 c.in-Some.due = record { sfits = typed.1.1.1.1.0.1 } in
-    expire_given (sight g.B.BlockStore.blocks c.args.keyspace.now c.args.at.now) (sight g.B.BlockStore.blocks c.expire_sought.new.keyspace c.args.at.now) c.args.at.now.moment
+    expire_given (visible g.B.BlockStore.blocks c.args.keyspace.now c.args.at.now) (visible g.B.BlockStore.blocks c.expire_sought.new.keyspace c.args.at.now) c.args.at.now.moment
     c.args.key.now c.args.time c.args.options c.in-Some.due c.seek-found.result.deadline c.count_reply-in-Some-there.result
     c.in-Some.ensures.some fits (ap is_some (rw c.in-Some-there.is at c.seek-found.ensures.until).stands)
     (sym (ap deadline_of (rw c.in-Some-there.is at c.seek-found.ensures.until).stands)) (search rules)

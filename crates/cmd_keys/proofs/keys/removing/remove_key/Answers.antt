@@ -3,7 +3,7 @@ use Rattle.plain_world.specs.Worlds.{live}
 use Rattle.plain_world.proofs.Lives.{live_remove}
 use Rattle.keyspace.specs.Databases.{means}
 use Rattle.keyspace.proofs.Seen.{sought_there}
-use Rattle.keyspace.specs.Commands.{sight}
+use Rattle.keyspace.specs.Commands.{visible}
 use Rattle.cmd_keys.proofs.keys.removing.remove_key.Goals as goal
 
 pub returns-clause-world : goal.returns-clause-world
@@ -21,5 +21,5 @@ returns-clause-held g c = record {
 
 pub returns-clause-there : goal.returns-clause-there
 returns-clause-there g c =
-    c.is_some.ensures ∙ sought_there (sight g.B.BlockStore.blocks c.args.keyspace.now c.args.at.now) c.args.key.now c.seek-found.result.there c.seek-found.result.deadline
+    c.is_some.ensures ∙ sought_there (visible g.B.BlockStore.blocks c.args.keyspace.now c.args.at.now) c.args.key.now c.seek-found.result.there c.seek-found.result.deadline
     c.seek-found.ensures.until c.seek-found.ensures.gone

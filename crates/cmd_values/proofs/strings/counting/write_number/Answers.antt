@@ -7,9 +7,9 @@ use Rattle.std.proofs.lemmas.Int.{to_z-of_z}
 use Rattle.int_text.specs.Decimal.{canonical}
 use Rattle.cmd_values.proofs.Lowering.{text_intact, text_sound, text_within, text_has, text_becomes}
 use Rattle.cmd_values.proofs.StringLemmas.{number_lowered, on_ok}
-use Rattle.keyspace.specs.Commands.{sight}
+use Rattle.keyspace.specs.Commands.{visible}
 use Rattle.std.proofs.Common.{sym}
-use Rattle.keyspace.specs.Values.{IsWhole}
+use Rattle.keyspace.specs.Values.{IsWrittenWhole}
 use Rattle.keyspace.specs.Forms.{Whole}
 use Rattle.keyspace.proofs.Forming.{formed_ok, formed_key}
 use Rattle.cmd_values.proofs.strings.counting.write_number.Goals as goal
@@ -41,7 +41,7 @@ returns-in-Some-clause-held g c = record {
 
 pub returns-in-Some-clause-world : goal.returns-in-Some-clause-world
 returns-in-Some-clause-world g c =
-    number_lowered (sight g.B.BlockStore.blocks c.args.keyspace.now c.args.at.now) (sight g.B.BlockStore.blocks c.lower.new.self c.args.at.now) c.args.key.now _ c.args.n
+    number_lowered (visible g.B.BlockStore.blocks c.args.keyspace.now c.args.at.now) (visible g.B.BlockStore.blocks c.lower.new.self c.args.at.now) c.args.key.now _ c.args.n
     c.number-in-Some.result (c.lift_at-lifted.ensures.lifts c.args.key.now c.args.at.now.moment (rw c.in-Some.is at c.requires.sees.there)).deadline
     ((c.lift_at-lifted.ensures.lifts c.args.key.now c.args.at.now.moment (rw c.in-Some.is at c.requires.sees.there)).stands
     ∙ ap
@@ -74,7 +74,7 @@ returns-in-Some-clause-forms g c =
     c.lower.new.self.bases _ (ap g.B.BlockStore.blocks c.lower.ensures.store) c.lower.ensures.has in
     formed_ok g.B.BlockStore.blocks Whole c.args.keyspace.now c.lower.new.self _
     (formed_key Whole c.args.at.now.db c.args.key.now c.args.keyspace.now.bases c.lower.new.self.bases _ _ held.within held.sound.arranged
-    (λ i e found bytes. subst IsWhole (sym (has i e found bytes)) (ap OfText c.set_number.ensures.whole)))
+    (λ i e found bytes. subst IsWrittenWhole (sym (has i e found bytes)) (ap OfText c.set_number.ensures.whole)))
 
 pub into_text-text-requires : goal.into_text-text-requires
 into_text-text-requires g c = lifted_string c.args.keyspace.now.bases c.lift_at-lifted.new.self.bases (g.B.BlockStore.blocks c.args.keyspace.now.store) c.args.at.now c.args.key.now

@@ -6,7 +6,7 @@ use Rattle.plain_world.specs.Worlds.{look}
 use Rattle.plain_model.specs.Outcomes.{Outcome, leaves}
 use Rattle.plain_model.specs.StringSteps.{on_string, or_null}
 use Rattle.plain_model.specs.Deadlines.{expire}
-use Rattle.keyspace.specs.Commands.{sight}
+use Rattle.keyspace.specs.Commands.{visible}
 use Rattle.cmd_values.proofs.StringLemmas.{old_value_then, due_fits}
 use Rattle.keyspace.proofs.Running.{unchanged, calm}
 use Rattle.keyspace.specs.Scopes.{no_key}
@@ -14,7 +14,7 @@ use Rattle.cmd_values.proofs.strings.lasting.get_expiring.Goals as goal
 
 pub returns-in_ok-expire_sought-in-Some-clause-gives : goal.returns-in_ok-expire_sought-in-Some-clause-gives
 returns-in_ok-expire_sought-in-Some-clause-gives g c =
-    old_value_then (sight g.B.BlockStore.blocks c.args.keyspace.now c.args.at.now) (sight g.B.BlockStore.blocks c.expire_sought.new.keyspace c.args.at.now) c.args.key.now c.in-Some.reply _
+    old_value_then (visible g.B.BlockStore.blocks c.args.keyspace.now c.args.at.now) (visible g.B.BlockStore.blocks c.expire_sought.new.keyspace c.args.at.now) c.args.key.now c.in-Some.reply _
     (rw c.in-Some.is at c.in_ok-sought_value.ensures) (rw (to_z-of_z w64 c.args.due c.ranges.due) at c.in_ok-expire_sought-in-Some.ensures.world)
 
 pub returns-in_ok-expire_sought-in-Some-clause-kept : goal.returns-in_ok-expire_sought-in-Some-clause-kept

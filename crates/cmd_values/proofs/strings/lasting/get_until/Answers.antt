@@ -6,7 +6,7 @@ use Rattle.plain_world.specs.Worlds.{look}
 use Rattle.plain_model.specs.Outcomes.{Outcome, leaves}
 use Rattle.plain_model.specs.StringSteps.{on_string, or_null}
 use Rattle.plain_model.specs.Deadlines.{expire}
-use Rattle.keyspace.specs.Commands.{sight}
+use Rattle.keyspace.specs.Commands.{visible}
 use Rattle.cmd_values.proofs.StringLemmas.{given, old_value_then, due_fits}
 use Rattle.keyspace.proofs.Running.{unchanged, calm}
 use Rattle.keyspace.specs.Scopes.{no_key}
@@ -14,7 +14,7 @@ use Rattle.cmd_values.proofs.strings.lasting.get_until.Goals as goal
 
 pub returns-in-Some-clause-gives : goal.returns-in-Some-clause-gives
 returns-in-Some-clause-gives g c =
-    let old = (sight g.B.BlockStore.blocks c.args.keyspace.now c.args.at.now) in
+    let old = (visible g.B.BlockStore.blocks c.args.keyspace.now c.args.at.now) in
     let answer : ℤ → Outcome = λ deadline. on_string old (look old c.args.key.now)
     (λ before. leaves (or_null before ∷ []) (expire old c.args.at.now.moment c.args.key.now deadline (look old c.args.key.now))) in
     let typed = rw c.in-Some.is at c.due.type_inv in

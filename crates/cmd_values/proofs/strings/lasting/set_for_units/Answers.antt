@@ -5,7 +5,7 @@ use Rattle.keyspace.specs.Scopes.{one_key}
 use Rattle.std.specs.Prelude.{FitsSigned}
 use Rattle.std.specs.Int.{w64}
 use Rattle.std.proofs.lemmas.Int.{to_z-of_z}
-use Rattle.keyspace.specs.Commands.{sight}
+use Rattle.keyspace.specs.Commands.{visible}
 use Rattle.cmd_values.proofs.StringLemmas.{set_lasting}
 use Rattle.keyspace.specs.Forms.{Whole}
 use Rattle.keyspace.proofs.Forming.{unformed, formed_ok}
@@ -23,7 +23,7 @@ pub returns-in_ok-put_lasting-in-Some-clause-gives : goal.returns-in_ok-put_last
 returns-in_ok-put_lasting-in-Some-clause-gives g c =
     let typed = rw c.in-Some.is at c.due.type_inv in
     let fits : FitsSigned w64 c.in-Some.due = record { sfits = typed.1.1.1.1.0.1 } in
-    set_lasting (sight g.B.BlockStore.blocks c.args.keyspace.now c.args.at.now) (sight g.B.BlockStore.blocks c.put_lasting.new.keyspace c.args.at.now) c.args.at.now.moment c.args.key.now
+    set_lasting (visible g.B.BlockStore.blocks c.args.keyspace.now c.args.at.now) (visible g.B.BlockStore.blocks c.put_lasting.new.keyspace c.args.at.now) c.args.at.now.moment c.args.key.now
     c.args.value.now c.args.unit c.args.n c.in-Some.due _ _ c.simple.result (rw (to_z-of_z w64 c.args.n c.ranges.n) at c.in-Some.ensures.some) fits
     (rw (to_z-of_z w64 c.in-Some.due fits) at c.from_zero.ensures.value) c.in_ok-put_lasting-in-Some.ensures.world (ap Simple c.ok.ensures) c.simple.ensures
 

@@ -1,4 +1,4 @@
-use Rattle.keyspace.specs.Commands.{sight}
+use Rattle.keyspace.specs.Commands.{visible}
 use Rattle.cmd_values.proofs.StringLemmas.{old_value_then}
 use Rattle.keyspace.proofs.Running.{unchanged}
 use Rattle.keyspace.specs.Scopes.{one_key}
@@ -6,7 +6,7 @@ use Rattle.cmd_values.proofs.strings.writing.getset.Goals as goal
 
 pub returns-in_ok-put_string-in-Some-clause-gives : goal.returns-in_ok-put_string-in-Some-clause-gives
 returns-in_ok-put_string-in-Some-clause-gives g c =
-    old_value_then (sight g.B.BlockStore.blocks c.args.keyspace.now c.args.at.now) (sight g.B.BlockStore.blocks c.put_string.new.keyspace c.args.at.now) c.args.key.now c.in-Some.reply _
+    old_value_then (visible g.B.BlockStore.blocks c.args.keyspace.now c.args.at.now) (visible g.B.BlockStore.blocks c.put_string.new.keyspace c.args.at.now) c.args.key.now c.in-Some.reply _
     (rw c.in-Some.is at c.in_ok-seen_value.ensures) c.in_ok-put_string-in-Some.ensures.world
 
 pub returns-in_err-seen_value-clause-kept : goal.returns-in_err-seen_value-clause-kept

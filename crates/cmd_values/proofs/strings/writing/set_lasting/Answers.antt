@@ -1,11 +1,11 @@
 use Rattle.std.proofs.Common.{sym, ap, ◌∙◌, rules, subst}
 use Rattle.std.specs.Prelude.{if◌then◌else◌}
 use Rattle.plain_world.specs.Worlds.{Entry, Str, stand}
-use Rattle.keyspace.specs.Commands.{sight}
+use Rattle.keyspace.specs.Commands.{visible}
 use Rattle.cmd_values.proofs.StringLemmas.{set_given, set_other, given}
 use Rattle.keyspace.proofs.Running.{unchanged, same_held, calm}
 use Rattle.keyspace.specs.Scopes.{one_key}
-use Rattle.keyspace.specs.Commands.{Held}
+use Rattle.keyspace.specs.Commands.{KeepsTo}
 use Rattle.keyspace.specs.Forms.{Whole, Formed}
 use Rattle.keyspace.proofs.Forming.{formed_none}
 use Rattle.plain_model.specs.Outcomes.{leaves}
@@ -13,15 +13,15 @@ use Rattle.cmd_values.proofs.strings.writing.set_lasting.Goals as goal
 
 pub returns-in_ok-put_if-in-Some-clause-gives : goal.returns-in_ok-put_if-in-Some-clause-gives
 returns-in_ok-put_if-in-Some-clause-gives g c =
-    let old = (sight g.B.BlockStore.blocks c.args.keyspace.now c.args.at.now) in
+    let old = (visible g.B.BlockStore.blocks c.args.keyspace.now c.args.at.now) in
     let entry : Entry = record { value = Str c.args.value.now; deadline = c.args.deadline } in
-    set_given old (sight g.B.BlockStore.blocks c.put_if.new.keyspace c.args.at.now) c.args.at.now.moment c.args.key.now entry c.args.options.condition c.args.options.get
+    set_given old (visible g.B.BlockStore.blocks c.put_if.new.keyspace c.args.at.now) c.args.at.now.moment c.args.key.now entry c.args.options.condition c.args.options.get
     c.writes-written.result c.in-Some.reply c.writes-written.ensures (rw c.in-Some.is at c.in_ok-set_reply.ensures)
     c.in_ok-put_if-in-Some.ensures.world
 
 pub returns-in-None-clause-gives : goal.returns-in-None-clause-gives
 returns-in-None-clause-gives g c =
-    let old = (sight g.B.BlockStore.blocks c.args.keyspace.now c.args.at.now) in
+    let old = (visible g.B.BlockStore.blocks c.args.keyspace.now c.args.at.now) in
     let entry : Entry = record { value = Str c.args.value.now; deadline = c.args.deadline } in
     given c.refused.result
     (λ reply is. set_other old c.args.at.now.moment c.args.key.now entry c.args.options.condition c.args.options.get c.writes-written.result

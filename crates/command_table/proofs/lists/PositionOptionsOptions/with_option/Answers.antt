@@ -3,13 +3,13 @@ use Rattle.std.specs.Prelude.{codes}
 use Rattle.plain_world.specs.Words.{in_lower_case}
 use Rattle.plain_model.specs.Shapes.{Amount, option_of, read_option}
 use Rattle.plain_model.specs.ListWords.{position_options}
-use Rattle.command_table.specs.Readings.{Tells, at}
+use Rattle.command_table.specs.Readings.{Tells, word_at}
 use Rattle.command_table.proofs.OptionWords.{one_word_refused}
 use Rattle.command_table.proofs.lists.PositionOptionsOptions.with_option.Goals as goal
 
 pub returns-in_err-most : goal.returns-in_err-most
 returns-in_err-most c =
-    let lower = in_lower_case (at c.args.request.now c.args.index) in
+    let lower = in_lower_case (word_at c.args.request.now c.args.index) in
     let named : lower ≡ codes "maxlen" = search rules in
     let rest = drop (c.args.index + 1) c.args.request.now in
     let refused : Tells (read_option c.args.self (option_of position_options lower) rest) (Err c.in_err-most.field-0.0) =
