@@ -5,35 +5,35 @@ use Rattle.std.proofs.lemmas.Grind.{common_steps}
 use Rattle.std.proofs.lemmas.List.{drop-replicate, length-take, length-drop}
 use Rattle.blocks.specs.declared.BlockRef.{BlockRef}
 use Rattle.blocks.specs.Blocks.{Blocks, ref_eq, with_block, overwritten, widened, bytes_at}
-use Rattle.blocks.proofs.Refs.{cases_ref, with_block-same, with_block-other, apart_live}
-use Rattle.blocks.proofs.Change.{with_block-twice}
-use Rattle.blocks.proofs.Written.{bytes_at-placed}
+use Rattle.blocks.proofs.Refs.{cases_ref, with_block_same, with_block_other, apart_live}
+use Rattle.blocks.proofs.Change.{with_block_twice}
+use Rattle.blocks.proofs.Written.{bytes_at_placed}
 
 -- the same blocks where a block is written as it is
-pub with_block-kept : (m : Blocks) (at : BlockRef) (bytes : List ℕ) → m at ≡ Some bytes → with_block m at (Some bytes) ≡ m
-with_block-kept m at bytes was = λ i r. each r i
+pub with_block_kept : (m : Blocks) (at : BlockRef) (bytes : List ℕ) → m at ≡ Some bytes → with_block m at (Some bytes) ≡ m
+with_block_kept m at bytes was = λ i r. each r i
   where
     each : (r : BlockRef) → with_block m at (Some bytes) r ≡ m r
     each r = elim (cases_ref r at) [
-      | inl same ↦ subst (λ q. with_block m at (Some bytes) q ≡ m q) (sym same) (with_block-same m at (Some bytes) ∙ sym was)
-      | inr other ↦ with_block-other m at r (Some bytes) other
+      | inl same ↦ subst (λ q. with_block m at (Some bytes) q ≡ m q) (sym same) (with_block_same m at (Some bytes) ∙ sym was)
+      | inr other ↦ with_block_other m at r (Some bytes) other
     ]
 
 -- changes under two references may change places
-pub with_block-apart : (m : Blocks) (at other : BlockRef) (a b : Option (List ℕ)) → ref_eq at other ≡ false → with_block (with_block m other b) at a ≡ with_block (with_block m at a) other b
-with_block-apart m at other a b apart = λ i r. each r i
+pub with_block_apart : (m : Blocks) (at other : BlockRef) (a b : Option (List ℕ)) → ref_eq at other ≡ false → with_block (with_block m other b) at a ≡ with_block (with_block m at a) other b
+with_block_apart m at other a b apart = λ i r. each r i
   where
     each : (r : BlockRef) → with_block (with_block m other b) at a r ≡ with_block (with_block m at a) other b r
     each r = elim (cases_ref r at) [
       | inl same ↦ subst (λ q. with_block (with_block m other b) at a q ≡ with_block (with_block m at a) other b q) (sym same)
-          (with_block-same (with_block m other b) at a ∙ sym (with_block-other (with_block m at a) other at b apart ∙ with_block-same m at a))
-      | inr beside ↦ with_block-other (with_block m other b) at r a beside ∙ by_other (cases_ref r other) beside
+          (with_block_same (with_block m other b) at a ∙ sym (with_block_other (with_block m at a) other at b apart ∙ with_block_same m at a))
+      | inr beside ↦ with_block_other (with_block m other b) at r a beside ∙ by_other (cases_ref r other) beside
     ]
       where
         by_other : (r ≡ other) ⊎ (ref_eq r other ≡ false) → ref_eq r at ≡ false → with_block m other b r ≡ with_block (with_block m at a) other b r
         by_other (inl same) beside = subst (λ q. with_block m other b q ≡ with_block (with_block m at a) other b q) (sym same)
-            (with_block-same m other b ∙ sym (with_block-same (with_block m at a) other b))
-        by_other (inr ne) beside = with_block-other m other r b ne ∙ sym (with_block-other (with_block m at a) other r b ne ∙ with_block-other m at r a beside)
+            (with_block_same m other b ∙ sym (with_block_same (with_block m at a) other b))
+        by_other (inr ne) beside = with_block_other m other r b ne ∙ sym (with_block_other (with_block m at a) other r b ne ∙ with_block_other m at r a beside)
 
 some_bytes : (o : Option (List ℕ)) → IsSome o → o ≡ Some (unwrap_or o [])
 some_bytes None h = cc
@@ -45,18 +45,18 @@ live_bytes m at h = some_bytes (m at) h
 
 -- ---- bytes with a piece put over them
 
-overwritten-first : (over p : List ℕ) → overwritten over 0 p ≡ p ++ drop (length p) over
-overwritten-first over p = ap (λ k. p ++ drop k over) (zero-add (length p))
+overwritten_first : (over p : List ℕ) → overwritten over 0 p ≡ p ++ drop (length p) over
+overwritten_first over p = ap (λ k. p ++ drop k over) (zero-add (length p))
 
 -- a piece goes on where the one before it ended
 overwritten_more : (over p q : List ℕ) → overwritten (overwritten over 0 p) (length p) q ≡ overwritten over 0 (p ++ q)
 overwritten_more over p q =
-    ap (λ xs. overwritten xs (length p) q) (overwritten-first over p)
+    ap (λ xs. overwritten xs (length p) q) (overwritten_first over p)
     ∙ ap (λ xs. xs ++ q ++ drop (length p + length q) (p ++ drop (length p) over)) (take_at p (drop (length p) over) (length p) refl)
     ∙ ap (λ xs. p ++ q ++ xs)
     (sym (drop-drop (length q) (length p) (p ++ drop (length p) over)) ∙ ap (drop (length q)) (drop_at p (drop (length p) over) (length p) refl) ∙ drop-drop (length q) (length p) over)
     ∙ ap (λ k. (p ++ q) ++ drop k over) (sym (length-append p q))
-    ∙ sym (overwritten-first over (p ++ q))
+    ∙ sym (overwritten_first over (p ++ q))
 
 overwritten_step : (over from : List ℕ) (start count : ℕ) → start + count ≤ length from
     → overwritten (overwritten over 0 (take start from)) start (take count (drop start from)) ≡ overwritten over 0 (take (start + count) from)
@@ -93,7 +93,7 @@ HasFirst m mid from to done = mid ≡ with_block m to (Some (overwritten (bytes_
 
 -- the block that they come from stays
 from_stays : (m mid : Blocks) (from to : BlockRef) (done : ℕ) → ref_eq from to ≡ false → HasFirst m mid from to done → bytes_at mid from ≡ bytes_at m from
-from_stays m mid from to done apart is = ap (λ k. bytes_at k from) is ∙ ap (λ o. unwrap_or o []) (with_block-other m to from (Some (overwritten (bytes_at m to) 0 (take done (bytes_at m from)))) apart)
+from_stays m mid from to done apart is = ap (λ k. bytes_at k from) is ∙ ap (λ o. unwrap_or o []) (with_block_other m to from (Some (overwritten (bytes_at m to) 0 (take done (bytes_at m from)))) apart)
 
 -- the next piece is of the bytes that it had from the first, and ends within them
 pub next_piece : (m mid : Blocks) (from to : BlockRef) (done most : ℕ) (piece whole seen : List ℕ) → ref_eq from to ≡ false → HasFirst m mid from to done → m from ≡ Some whole
@@ -112,7 +112,7 @@ room_left m mid from to done n is room inside = omega (
   room,
   inside,
   ap (λ k. length (bytes_at k to)) is,
-  ap length (bytes_at-placed m to (overwritten (bytes_at m to) 0 (take done (bytes_at m from)))),
+  ap length (bytes_at_placed m to (overwritten (bytes_at m to) 0 (take done (bytes_at m from)))),
   long (bytes_at m to)
       (bytes_at m from) room,
 )
@@ -126,8 +126,8 @@ pub copy_step : (m mid after : Blocks) (from to : BlockRef) (done most : ℕ) (p
 copy_step m mid after from to done most piece is next written =
     written
     ∙ ap (λ k. with_block k to (Some (overwritten (bytes_at k to) done piece))) is
-    ∙ with_block-twice m to (Some so_far) (Some (overwritten (bytes_at (with_block m to (Some so_far)) to) done piece))
-    ∙ ap (λ over. with_block m to (Some (overwritten over done piece))) (bytes_at-placed m to so_far)
+    ∙ with_block_twice m to (Some so_far) (Some (overwritten (bytes_at (with_block m to (Some so_far)) to) done piece))
+    ∙ ap (λ over. with_block m to (Some (overwritten over done piece))) (bytes_at_placed m to so_far)
     ∙ ap (λ xs. with_block m to (Some (overwritten so_far done xs))) whole
     ∙ ap (λ xs. with_block m to (Some xs)) (overwritten_step (bytes_at m to) (bytes_at m from) done (length piece) next.1)
   where
@@ -151,14 +151,14 @@ pub placed_over : (m mid after : Blocks) (at : BlockRef) (len : ℕ) (piece byte
 placed_over m mid after at len piece bytes placed written same room =
     written
     ∙ ap (λ k. with_block k at (Some (overwritten (bytes_at k at) 0 piece))) placed
-    ∙ with_block-twice m at (Some (replicate len 0)) (Some (overwritten (bytes_at (with_block m at (Some (replicate len 0))) at) 0 piece))
-    ∙ ap (λ over. with_block m at (Some (overwritten over 0 piece))) (bytes_at-placed m at (replicate len 0))
+    ∙ with_block_twice m at (Some (replicate len 0)) (Some (overwritten (bytes_at (with_block m at (Some (replicate len 0))) at) 0 piece))
+    ∙ ap (λ over. with_block m at (Some (overwritten over 0 piece))) (bytes_at_placed m at (replicate len 0))
     ∙ ap (λ xs. with_block m at (Some (overwritten (replicate len 0) 0 xs))) same
     ∙ ap (λ xs. with_block m at (Some xs)) (overwritten_zeros bytes len room)
 
 -- a block placed beside another leaves its bytes
 pub bytes_beside : (m mid : Blocks) (at new : BlockRef) (content : Option (List ℕ)) → IsSome (m at) → m new ≡ None → mid ≡ with_block m new content → bytes_at mid at ≡ bytes_at m at
-bytes_beside m mid at new content live fresh placed = ap (λ k. bytes_at k at) placed ∙ ap (λ o. unwrap_or o []) (with_block-other m new at content (apart_live m at new live fresh))
+bytes_beside m mid at new content live fresh placed = ap (λ k. bytes_at k at) placed ∙ ap (λ o. unwrap_or o []) (with_block_other m new at content (apart_live m at new live fresh))
 
 -- a longer block was placed, the bytes were copied into it, and the old block was given back
 pub lengthened_by : (m mid copied after : Blocks) (at new : BlockRef) (len : ℕ) → IsSome (m at) → m new ≡ None → length (bytes_at m at) ≤ len
@@ -167,4 +167,4 @@ pub lengthened_by : (m mid copied after : Blocks) (at new : BlockRef) (len : ℕ
 lengthened_by m mid copied after at new len live fresh room placed written ended =
     ended
     ∙ ap (λ k. with_block k at None) (placed_over m mid copied new len (bytes_at mid at) (bytes_at m at) placed written (bytes_beside m mid at new _ live fresh placed) room)
-    ∙ with_block-apart m at new None (Some (widened (bytes_at m at) len)) (apart_live m at new live fresh)
+    ∙ with_block_apart m at new None (Some (widened (bytes_at m at) len)) (apart_live m at new live fresh)

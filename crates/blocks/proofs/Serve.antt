@@ -5,31 +5,31 @@ use Rattle.blocks.specs.Slabs.{Heap}
 use Rattle.blocks.specs.Steps.{IsStep, stayed, placed, returned, written}
 
 -- a store and itself
-pub Served-same : {S : Type 0} {step : S → S → Type 0} (a b : S) → b ≡ a → Served step a b
-Served-same {step = step} a b same = subst (λ s. Served step a s) (sym same) no_step
+pub served_same : {S : Type 0} {step : S → S → Type 0} (a b : S) → b ≡ a → Served step a b
+served_same {step = step} a b same = subst (λ s. Served step a s) (sym same) no_step
 
 -- one call
-pub Served-once : {S : Type 0} {step : S → S → Type 0} (a b : S) → step a b → Served step a b
-Served-once a b s = one_more a b no_step s
+pub served_once : {S : Type 0} {step : S → S → Type 0} (a b : S) → step a b → Served step a b
+served_once a b s = one_more a b no_step s
 
 -- one call more
-pub Served-next : {S : Type 0} {step : S → S → Type 0} (a b c : S) → Served step a b → step b c → Served step a c
-Served-next a b c p s = one_more b c p s
+pub served_next : {S : Type 0} {step : S → S → Type 0} (a b c : S) → Served step a b → step b c → Served step a c
+served_next a b c p s = one_more b c p s
 
 -- one list of calls after another
-pub Served-then : {S : Type 0} {step : S → S → Type 0} (a b c : S) → Served step a b → Served step b c → Served step a c
-Served-then a b _ p no_step = p
-Served-then a b _ p (one_more mid last q s) = one_more mid last (Served-then a b mid p q) s
+pub served_then : {S : Type 0} {step : S → S → Type 0} (a b c : S) → Served step a b → Served step b c → Served step a c
+served_then a b _ p no_step = p
+served_then a b _ p (one_more mid last q s) = one_more mid last (served_then a b mid p q) s
 
 -- what holds over each call holds over a list of them
-pub Served-keeps : {S : Type 0} {step : S → S → Type 0} (P : S → S → Type 0) → ((a : S) → P a a) → ((a b c : S) → P a b → step b c → P a c) → (a b : S) → Served step a b → P a b
-Served-keeps P same next a _ no_step = same a
-Served-keeps P same next a _ (one_more mid last q s) = next a mid last (Served-keeps P same next a mid q) s
+pub served_keeps : {S : Type 0} {step : S → S → Type 0} (P : S → S → Type 0) → ((a : S) → P a a) → ((a b c : S) → P a b → step b c → P a c) → (a b : S) → Served step a b → P a b
+served_keeps P same next a _ no_step = same a
+served_keeps P same next a _ (one_more mid last q s) = next a mid last (served_keeps P same next a mid q) s
 
 -- a weaker kind of call
-pub Served-weaker : {S : Type 0} {step weaker : S → S → Type 0} → ((a b : S) → step a b → weaker a b) → (a b : S) → Served step a b → Served weaker a b
-Served-weaker f a _ no_step = no_step
-Served-weaker f a _ (one_more mid last q s) = one_more mid last (Served-weaker f a mid q) (f mid last s)
+pub served_weaker : {S : Type 0} {step weaker : S → S → Type 0} → ((a b : S) → step a b → weaker a b) → (a b : S) → Served step a b → Served weaker a b
+served_weaker f a _ no_step = no_step
+served_weaker f a _ (one_more mid last q s) = one_more mid last (served_weaker f a mid q) (f mid last s)
 
 -- an open pass stays open
 pub step_passing : (m n : Blocks) (h k : Heap) → IsStep m h n k → k.passing ≡ h.passing
@@ -38,7 +38,7 @@ step_passing m n h k (placed at len fresh is open') = open'
 step_passing m n h k (returned at was is open') = open'
 step_passing m n h k (written at from piece was room is kept) = ap (λ x. x.passing) kept
 
-pub Served-passing : {S : Type 0} {step : S → S → Type 0} (blocks : S → Blocks) (heap : S → Heap) → ((a b : S) → step a b → IsStep (blocks a) (heap a) (blocks b) (heap b)) → (a b : S)
+pub served_passing : {S : Type 0} {step : S → S → Type 0} (blocks : S → Blocks) (heap : S → Heap) → ((a b : S) → step a b → IsStep (blocks a) (heap a) (blocks b) (heap b)) → (a b : S)
     → Served step a b → (heap b).passing ≡ (heap a).passing
-Served-passing blocks heap kinds a b p = Served-keeps (λ s t. (heap t).passing ≡ (heap s).passing) (λ s. refl)
+served_passing blocks heap kinds a b p = served_keeps (λ s t. (heap t).passing ≡ (heap s).passing) (λ s. refl)
     (λ s t u e step. step_passing (blocks t) (blocks u) (heap t) (heap u) (kinds t u step) ∙ e) a b p

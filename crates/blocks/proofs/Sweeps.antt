@@ -14,16 +14,16 @@ use Rattle.blocks.specs.Slabs.{SlabUse, Heap, per_slab, is_of, is_kept, used_in,
 use Rattle.blocks.specs.Slabs.{released, ended, IsSoundHeap, Swept, Begun, Moves, one_fewer, one_more_in, unmarked, slab_at, sizes, blocks_in}
 
 -- a heap is at least as calm as itself
-pub Calmer-same : (h : Heap) → Calmer h h
-Calmer-same h = record { passing = refl; calm = λ r e. e; kept = λ c. refl; used = λ c. refl }
+pub calmer_same : (h : Heap) → Calmer h h
+calmer_same h = record { passing = refl; calm = λ r e. e; kept = λ c. refl; used = λ c. refl }
 
 -- of three heaps, each at least as calm as the one before, the last is at least as calm as the first
-pub Calmer-next : (a b d : Heap) → Calmer a b → Calmer b d → Calmer a d
-Calmer-next a b d p q = record { passing = q.passing ∙ p.passing; calm = λ r e. q.calm r (p.calm r e); kept = λ c. q.kept c ∙ p.kept c; used = λ c. q.used c ∙ p.used c }
+pub calmer_next : (a b d : Heap) → Calmer a b → Calmer b d → Calmer a d
+calmer_next a b d p q = record { passing = q.passing ∙ p.passing; calm = λ r e. q.calm r (p.calm r e); kept = λ c. q.kept c ∙ p.kept c; used = λ c. q.used c ∙ p.used c }
 
 -- a calmer store is swept as far, and one more block may be passed
-pub Swept-calmer : (a b : Heap) (passed more : BlockRef → Type 0) → Calmer a b → Swept a passed → ((r : BlockRef) → more r → wants b r ≡ false) → Swept b (λ r. passed r ⊎ more r)
-Swept-calmer a b passed more q s m = record {
+pub swept_calmer : (a b : Heap) (passed more : BlockRef → Type 0) → Calmer a b → Swept a passed → ((r : BlockRef) → more r → wants b r ≡ false) → Swept b (λ r. passed r ⊎ more r)
+swept_calmer a b passed more q s m = record {
   passing = q.passing ∙ s.passing;
   kept = λ c lt. q.kept c ∙ (s.kept c lt ∙ ap (λ u. (u + (per_slab c - 1)) / per_slab c) (sym (q.used c)));
   calm = λ r e. elim e [ inl old ↦ q.calm r (s.calm r old) | inr new ↦ m r new ];
@@ -44,17 +44,17 @@ abbrev pub IsInhabited : Blocks → Heap → Type 0
 IsInhabited blocks h = (n : ℕ) (s : SlabUse) → slab_at h n ≡ Some s → 0 < s.used → Inhabitant blocks n
 
 -- where some of the first places of a slab have a live block, the slab has a live block
-blocks_in-some : (blocks : Blocks) (n k : ℕ) → 0 < blocks_in blocks n k → Inhabitant blocks n
+blocks_in_some : (blocks : Blocks) (n k : ℕ) → 0 < blocks_in blocks n k → Inhabitant blocks n
 unfolding blocks_in
-blocks_in-some blocks n zero h = absurd (omega arith)
-blocks_in-some blocks n (suc k) h = elim (cases_live blocks (record { slab = n; slot = k })) [
-  | inl dead ↦ blocks_in-some blocks n k (omega (arith, h, dead.0))
+blocks_in_some blocks n zero h = absurd (omega arith)
+blocks_in_some blocks n (suc k) h = elim (cases_live blocks (record { slab = n; slot = k })) [
+  | inl dead ↦ blocks_in_some blocks n k (omega (arith, h, dead.0))
   | inr alive ↦ record { at = record { slab = n; slot = k }; place = refl; live = alive.1 }
 ]
 
 -- in a sound heap each slab whose count is above 0 has a live block
 pub inhabited : (blocks : Blocks) (h : Heap) → IsSoundHeap blocks h → IsInhabited blocks h
-inhabited blocks h sound n s e more = blocks_in-some blocks n (per_slab s.class) (omega (arith, sound.counted n s e, more))
+inhabited blocks h sound n s e more = blocks_in_some blocks n (per_slab s.class) (omega (arith, sound.counted n s e, more))
 
 -- each size of the list is above 0 and at most 65536
 abbrev are_sizes : List ℕ → Bool
@@ -72,8 +72,8 @@ quotient_pos : (size : ℕ) → 0 < size → size ≤ 65536 → 0 < 65536 / size
 quotient_pos size some most = grind (arith, some, most)
 
 -- each slab has room for a block
-pub per_slab-pos : (class : ℕ) → 0 < per_slab class
-per_slab-pos class = (let s = size_in sizes refl class in quotient_pos (get_or sizes class 65536) s.0 s.1)
+pub per_slab_pos : (class : ℕ) → 0 < per_slab class
+per_slab_pos class = (let s = size_in sizes refl class in quotient_pos (get_or sizes class 65536) s.0 s.1)
 
 -- of one slab: where it has no waiting block, it stays only if it is kept
 slab_stays : (c : ℕ) (o : Option SlabUse) → waiting_in c o ≡ 0 → cond (is_of c (released o)) 1 0 ≤ cond (is_kept c o) 1 0
@@ -157,9 +157,9 @@ none_waits blocks h i p calm c = all h.slabs (λ n s e. still n s e)
         omega (arith, a, b) in sum_by-cons (waiting_in c) (Some s) rest ∙ g
 
 -- a pass that was swept over all live blocks leaves each class the slabs that it needs
-pub Swept-ends : (blocks : Blocks) (h : Heap) (passed : BlockRef → Type 0) → IsSoundHeap blocks h → Swept h passed → ((r : BlockRef) → IsSome (blocks r) → passed r) → (c : ℕ) → c < 36
+pub swept_ends : (blocks : Blocks) (h : Heap) (passed : BlockRef → Type 0) → IsSoundHeap blocks h → Swept h passed → ((r : BlockRef) → IsSome (blocks r) → passed r) → (c : ℕ) → c < 36
     → slabs_of (ended h) c ≡ needed (ended h) c
-Swept-ends blocks h passed i s all c lt = ended_exact h i.fits c (per_slab-pos c) (none_waits blocks h (inhabited blocks h i) s.passing (λ r live. s.calm r (all r live)) c) (s.kept c lt)
+swept_ends blocks h passed i s all c lt = ended_exact h i.fits c (per_slab_pos c) (none_waits blocks h (inhabited blocks h i) s.passing (λ r live. s.calm r (all r live)) c) (s.kept c lt)
 
 -- the blocks in a kept slab of the class
 kept_used : ℕ → Option SlabUse → ℕ
@@ -207,8 +207,8 @@ begun_room h f c pos k = let e : used_of h c ≤ kept_of h c * per_slab c = subs
     omega (arith, all_wait c h.slabs, all_spare c h.slabs f, e)
 
 -- the start of a pass leaves each class as many blocks
-pub Begun-used : (a b : Heap) → Begun a b → (c : ℕ) → used_of b c ≡ used_of a c
-Begun-used a b p c = sym (unmarked_used c b.slabs) ∙ (ap (sum_by (used_in c)) p.same ∙ used_kept c a.slabs)
+pub begun_used : (a b : Heap) → Begun a b → (c : ℕ) → used_of b c ≡ used_of a c
+begun_used a b p c = sym (unmarked_used c b.slabs) ∙ (ap (sum_by (used_in c)) p.same ∙ used_kept c a.slabs)
   where
     unmarked_used : (c : ℕ) (xs : List (Option SlabUse)) → sum_by (used_in c) (map unmarked xs) ≡ sum_by (used_in c) xs
     unmarked_used c [] = refl
@@ -218,8 +218,8 @@ Begun-used a b p c = sym (unmarked_used c b.slabs) ∙ (ap (sum_by (used_in c)) 
         omega (arith, unmarked_used c rest) in sum_by-cons (used_in c) (unmarked (Some s)) (map unmarked rest) ∙ (g ∙ sym (sum_by-cons (used_in c) (Some s) rest))
 
 -- a pass that has begun is swept over nothing
-pub Begun-swept : (a b : Heap) → Begun a b → Swept b (λ r. ⊥)
-Begun-swept a b p = record { passing = p.passing; kept = p.kept; calm = λ r none. absurd none }
+pub begun_swept : (a b : Heap) → Begun a b → Swept b (λ r. ⊥)
+begun_swept a b p = record { passing = p.passing; kept = p.kept; calm = λ r none. absurd none }
 
 -- a number that has a slab lies within the list
 in_slabs : (xs : List (Option SlabUse)) (n : ℕ) (s : SlabUse) → get_or xs n None ≡ Some s → n < length xs
@@ -304,5 +304,5 @@ module _ (a b : Heap) (at new : BlockRef) (m : Moves a b at new) where
   moved_settled = kept_calm b.passing (slab_at b new.slab) (one_more_in m.to) m.entered m.to_kept
 
   -- after a move from a slab with blocks the heap is at least as calm
-  pub Calmer-moved : 0 < m.from.used → Calmer a b
-  Calmer-moved some = record { passing = m.passing; calm = moved_calm; kept = moved_kept; used = λ c. moved_used c some }
+  pub calmer_moved : 0 < m.from.used → Calmer a b
+  calmer_moved some = record { passing = m.passing; calm = moved_calm; kept = moved_kept; used = λ c. moved_used c some }

@@ -12,8 +12,8 @@ use Rattle.blocks.specs.declared.BlockRef.{BlockRef}
 use Rattle.blocks.specs.Blocks.{with_block, overwritten, widened, bytes_at, Served, no_step, one_more}
 use Rattle.blocks.specs.Slabs.{slab_at, wants, waiting_in, spare_in}
 use Rattle.blocks.proofs.Copies.{placed_over, bytes_beside, lengthened_by}
-use Rattle.blocks.proofs.Refs.{with_block-same}
-use Rattle.blocks.proofs.Written.{bytes_at-placed}
+use Rattle.blocks.proofs.Refs.{with_block_same}
+use Rattle.blocks.proofs.Written.{bytes_at_placed}
 use Rattle.class_heap.specs.declared.entry.Entry.{Entry}
 use Rattle.class_heap.specs.declared.entry.Entry.TheVariants.{Vacant, Large, Classed}
 use Rattle.class_heap.specs.declared.directory.Directory.{Directory}
@@ -201,13 +201,13 @@ module _ {first mid : ClassHeap} {at : BlockRef} {n len : ℕ} {put : Entry} {ea
   -- it has zeros
   zeros_at : bytes_at (heap_blocks placed) longer ≡ replicate len 0
   unfolding placed zeros
-  zeros_at = ap (λ k. bytes_at k longer) (blocks_with zeros) ∙ (bytes_at-placed (blocks_of old) longer zeros.items ∙ are_zeros)
+  zeros_at = ap (λ k. bytes_at k longer) (blocks_with zeros) ∙ (bytes_at_placed (blocks_of old) longer zeros.items ∙ are_zeros)
 
   -- the bytes were written over them
   writes_bytes : IsWrite (heap_blocks placed) (heap_slabs placed) (heap_blocks written) (heap_slabs written) longer 0 (bytes_at (heap_blocks first) at)
   unfolding placed written zeros
   writes_bytes = record {
-    was = subst (λ o. IsSome o) (sym (ap (λ k. k longer) (blocks_with zeros) ∙ with_block-same (blocks_of old) longer (Some zeros.items))) refl;
+    was = subst (λ o. IsSome o) (sym (ap (λ k. k longer) (blocks_with zeros) ∙ with_block_same (blocks_of old) longer (Some zeros.items))) refl;
     room = omega (arith, ap length bytes_were, ap length zeros_at, length-replicate {A = ℕ} len 0, short);
     written =
         blocks_with h.grown
@@ -269,35 +269,35 @@ module _ {first mid : ClassHeap} {at : BlockRef} {n len : ℕ} {put : Entry} {ea
     lengthens_alone = record { placed = placed; written = written; places = places_longer; writes = writes_bytes; returns = returns_old }
 
   -- when it has gone, the heap is sound
-  pub leaving-sound : (gap : Entry) (late : Directory) → gap ≡ Vacant → late.bound ≡ early.bound
+  pub leaving_sound : (gap : Entry) (late : Directory) → gap ≡ Vacant → late.bound ≡ early.bound
       → ((m : ℕ) → m < late.bound → labels_at late m ≡ cond (eqb m at.slab) (2 ^ 36) (labels_at early m))
       → IsHeap mid.passing (slice_set (slice_set old at.slab gap) n put) late mid.margins
   unfolding written
-  leaving-sound gap late empty bound labels =
+  leaving_sound gap late empty bound labels =
       sound_left written.sound (slice_set (slice_set old at.slab gap) n put) at.slab h.from late
       (length-set (slice_set old at.slab gap) n put ∙ (length-set old at.slab gap ∙ sym (length-set old n (Large h.grown)))) (gone_by gap empty) stands bound labels
 
   -- and the block was lengthened by the rule
-  pub leaving-lengthens : (last : ClassHeap) (gap : Entry) → gap ≡ Vacant → last.passing ≡ mid.passing → last.entries.items ≡ slice_set (slice_set old at.slab gap) n put
+  pub leaving_lengthens : (last : ClassHeap) (gap : Entry) → gap ≡ Vacant → last.passing ≡ mid.passing → last.entries.items ≡ slice_set (slice_set old at.slab gap) n put
       → Lengthens first last at len longer
-  leaving-lengthens last gap empty open' stood = lengthens_alone last open' (subst (λ xs. IsChange (slice_set old n (Large h.grown)) xs at.slab Vacant) (sym stood) (gone_by gap empty))
+  leaving_lengthens last gap empty open' stood = lengthens_alone last open' (subst (λ xs. IsChange (slice_set old n (Large h.grown)) xs at.slab Vacant) (sym stood) (gone_by gap empty))
 
 -- ---- what a block has that was lengthened by the rule
 
 module _ {first last : ClassHeap} {at new : BlockRef} {len : ℕ} (l : Lengthens first last at len new) where
-  pub lengthened-served : Served IsClassHeapStep first last
-  lengthened-served = one_more l.written last
+  pub lengthened_served : Served IsClassHeapStep first last
+  lengthened_served = one_more l.written last
       (one_more l.placed l.written (one_more first l.placed no_step (places len new l.places)) (writes new 0 (bytes_at (heap_blocks first) at) l.writes)) (returns at l.returns)
 
-  pub lengthened-calm : wants (heap_slabs last) new ≡ false
-  lengthened-calm = calm_returned l.returns new (ap (λ h. wants h new) l.writes.slabs ∙ calm_placed l.places)
+  pub lengthened_calm : wants (heap_slabs last) new ≡ false
+  lengthened_calm = calm_returned l.returns new (ap (λ h. wants h new) l.writes.slabs ∙ calm_placed l.places)
 
-  pub lengthened-passing : last.passing ≡ first.passing
-  lengthened-passing = l.returns.passing ∙ (ap (λ h. h.passing) l.writes.slabs ∙ l.places.passing)
+  pub lengthened_passing : last.passing ≡ first.passing
+  lengthened_passing = l.returns.passing ∙ (ap (λ h. h.passing) l.writes.slabs ∙ l.places.passing)
 
-  pub lengthened-blocks : IsSome (heap_blocks first at) → length (bytes_at (heap_blocks first) at) ≤ len
+  pub lengthened_blocks : IsSome (heap_blocks first at) → length (bytes_at (heap_blocks first) at) ≤ len
       → heap_blocks last ≡ with_block (with_block (heap_blocks first) at None) new (Some (widened (bytes_at (heap_blocks first) at) len))
-  lengthened-blocks live room =
+  lengthened_blocks live room =
       lengthened_by (heap_blocks first) (heap_blocks l.placed) (heap_blocks l.written) (heap_blocks last) at new len live l.places.fresh room l.places.placed
       (l.writes.written ∙ ap (λ xs. with_block (heap_blocks l.placed) new (Some (overwritten (bytes_at (heap_blocks l.placed) new) 0 xs)))
       (sym (bytes_beside (heap_blocks first) (heap_blocks l.placed) at new _ live l.places.fresh l.places.placed)))
@@ -305,20 +305,20 @@ module _ {first last : ClassHeap} {at new : BlockRef} {len : ℕ} (l : Lengthens
 
 -- ---- the same of an answer that may be want of memory
 
-pub ok-blocks : {E : Type 0} (first last : ClassHeap) (at : BlockRef) (len : ℕ) (r : Result BlockRef E) → IfOk r (Lengthens first last at len) → IsSome (heap_blocks first at)
+pub ok_blocks : {E : Type 0} (first last : ClassHeap) (at : BlockRef) (len : ℕ) (r : Result BlockRef E) → IfOk r (Lengthens first last at len) → IsSome (heap_blocks first at)
     → length (bytes_at (heap_blocks first) at) ≤ len → IfOk r
     (λ new. heap_blocks last ≡ with_block (with_block (heap_blocks first) at None) new (Some (widened (bytes_at (heap_blocks first) at) len)))
-ok-blocks first last at len (Ok new) l live room = lengthened-blocks l live room
-ok-blocks first last at len (Err e) l live room = l
+ok_blocks first last at len (Ok new) l live room = lengthened_blocks l live room
+ok_blocks first last at len (Err e) l live room = l
 
-pub ok-calm : {E : Type 0} (first last : ClassHeap) (at : BlockRef) (len : ℕ) (r : Result BlockRef E) → IfOk r (Lengthens first last at len) → IfOk r (λ new. wants (heap_slabs last) new ≡ false)
-ok-calm first last at len (Ok new) l = lengthened-calm l
-ok-calm first last at len (Err e) l = l
+pub ok_calm_in_lengthening : {E : Type 0} (first last : ClassHeap) (at : BlockRef) (len : ℕ) (r : Result BlockRef E) → IfOk r (Lengthens first last at len) → IfOk r (λ new. wants (heap_slabs last) new ≡ false)
+ok_calm_in_lengthening first last at len (Ok new) l = lengthened_calm l
+ok_calm_in_lengthening first last at len (Err e) l = l
 
-pub ok-served : {E : Type 0} (first last : ClassHeap) (at : BlockRef) (len : ℕ) (r : Result BlockRef E) → IfOk r (Lengthens first last at len)
+pub ok_served : {E : Type 0} (first last : ClassHeap) (at : BlockRef) (len : ℕ) (r : Result BlockRef E) → IfOk r (Lengthens first last at len)
     → OnErr r (heap_blocks last ≡ heap_blocks first) → OnErr r (heap_slabs last ≡ heap_slabs first) → Served IsClassHeapStep first last
-ok-served first last at len (Ok new) l blocks slabs = lengthened-served l
-ok-served first last at len (Err e) l blocks slabs = one_more first last no_step (stays blocks slabs)
+ok_served first last at len (Ok new) l blocks slabs = lengthened_served l
+ok_served first last at len (Err e) l blocks slabs = one_more first last no_step (stays blocks slabs)
 
 -- what changes no block and no slab may come before
 pub lengthens_from : {E : Type 0} (first mid last : ClassHeap) (at : BlockRef) (len : ℕ) (r : Result BlockRef E) → heap_blocks mid ≡ heap_blocks first → heap_slabs mid ≡ heap_slabs first

@@ -6,7 +6,7 @@ use Rattle.std.proofs.lemmas.Bool.{cases_eq, cases_lt, cases_Bool}
 use Rattle.std.proofs.lemmas.List.{length-replicate}
 use Rattle.blocks.specs.Blocks.{overwritten}
 use Rattle.blocks.specs.Slabs.{IsClassOf, per_slab, size_of}
-use Rattle.blocks.proofs.Written.{overwritten-all}
+use Rattle.blocks.proofs.Written.{overwritten_all}
 use Rattle.class_heap.specs.Slots.{word_at, is_used, is_free, used_below, chain, occurs, block_in_slot, IsSlab}
 use Rattle.class_heap.specs.Live.{used_there, used_some, apart, known, unused, not_used, live_used, bounds, cut, slots_most, slot_fits, short, part_fits, live_there, block_known}
 use Rattle.class_heap.specs.Live.{block_length, used_fits}
@@ -198,7 +198,7 @@ carried {size = size} {words = words} {mem = mem} sound slot piece copied live l
     placed_over slot other _ _ _ _ _
     (ap (λ m. block_in_slot size words m other) (is ∙ ap (λ at. overwritten mem at piece) (let e : slot * size ≡ slot * size + 0 = omega arith in e))
     ∙ written sound slot 0 piece live (omega (arith, long)) other)
-    (ap Some (overwritten-all _ piece long)) (λ ne. refl)
+    (ap Some (overwritten_all _ piece long)) (λ ne. refl)
 
 -- a slab whose count is 0 has no block
 pub none_left : {class size used head : ℕ} {words mem : List ℕ} (sound : IsSlab class size used head words mem) → used ≡ 0 → (slot : ℕ) → block_in_slot size words mem slot ≡ None

@@ -3,7 +3,7 @@ use Rattle.std.proofs.Common.{◌≡◌, false, ℕ, ◌<◌, List, Option, None
 use Rattle.std.specs.FinMap.{empty, len}
 use Rattle.blocks.specs.Blocks.{Blocks, ref_eq}
 use Rattle.blocks.proofs.Change.{one_if}
-use Rattle.blocks.proofs.Refs.{ref_eq-refl}
+use Rattle.blocks.proofs.Refs.{ref_eq_refl}
 use Rattle.std.proofs.lemmas.Bool.{cond-true, cond-false, eq-eqb, ne_eqb}
 use Rattle.object_codec.specs.declared.form.Form.{Form}
 use Rattle.object_codec.specs.declared.limits.Limits.{Limits}
@@ -161,7 +161,7 @@ gone_is old new key fields none is = is ∙ sym (cond-true _ _ _ (eq-eqb (len fi
 only_on : (mid new : Bases) (m after : Blocks) (db : ℕ) (key : List ℕ) (value : Value) → HasOnly mid m db key value → Within (no_key db) mid new m after → HasOnly new after db key value
 only_on mid new m after db key value only within at e found bytes =
     let stayed = within.stayed db at e found (λ named. named.1) in
-    let itself : one_if (ref_eq e.key e.key) ≡ 1 = cond-true _ _ _ (ref_eq-refl e.key) in
+    let itself : one_if (ref_eq e.key e.key) ≡ 1 = cond-true _ _ _ (ref_eq_refl e.key) in
     only at e stayed.stood (sym (stayed.bytes e.key (omega (arith, itself))) ∙ bytes)
 
 module _ {S : Type 0} (own : Made) (left : ℕ) (blocks : S → Blocks) (old mid : Keyspace S) (at : Ctx) (key : List ℕ) (p : HashChanged (Counting own left) keep_any blocks old mid at key) where

@@ -50,16 +50,16 @@ Once (p ∷ rest) = (value_in p.0 rest ≡ None) × Once rest
 abbrev tied : List ℕ → List ℕ → Bool
 tied q k = eq_by_cmp (slice_cmp nat_cmp) q k
 
-tied-true : (q k : List ℕ) → tied q k ≡ true → q ≡ k
-tied-true q k h = slice_cmp-IsAntisymmetric nat_cmp-IsAntisymmetric q k (equal (slice_cmp nat_cmp q k) h)
+tied_true : (q k : List ℕ) → tied q k ≡ true → q ≡ k
+tied_true q k h = slice_cmp-IsAntisymmetric nat_cmp-IsAntisymmetric q k (equal (slice_cmp nat_cmp q k) h)
   where
     equal : (o : Ordering) → is_eq o ≡ true → o ≡ Equal
     equal Less h = cc
     equal Equal h = refl
     equal Greater h = cc
 
-tied-same : (q k : List ℕ) → q ≡ k → tied q k ≡ true
-tied-same q k is = ap (tied q) (sym is) ∙ (eq_by_cmp_equiv nat_list_cmp_total).refl q
+tied_same : (q k : List ℕ) → q ≡ k → tied q k ≡ true
+tied_same q k is = ap (tied q) (sym is) ∙ (eq_by_cmp_equiv nat_list_cmp_total).refl q
 
 two_ways : (b : Bool) → b ≡ true → b ≡ false → ⊥
 two_ways b h k = cc
@@ -77,7 +77,7 @@ stands x [] c = (let below : c.0 < 0 = c.1 in absurd (omega arith))
 stands x (p ∷ list) c = elim (cases_Bool (tied x p.0)) [
   | inl t ↦ ap is_some (cond-true _ _ _ t)
   | inr f ↦ elim (contains_cases p.0 x (names_of list) c) [
-    | inl same ↦ absurd (two_ways (tied x p.0) (tied-same x p.0 (sym same)) f)
+    | inl same ↦ absurd (two_ways (tied x p.0) (tied_same x p.0 (sym same)) f)
     | inr more ↦ ap is_some (cond-false _ _ _ f) ∙ stands x list more
   ]
 ]
@@ -85,7 +85,7 @@ stands x (p ∷ list) c = elim (cases_Bool (tied x p.0)) [
 contained : (x : List ℕ) (list : Pairs) → is_some (value_in x list) ≡ true → Contains (names_of list) x
 contained x [] h = absurd cc
 contained x (p ∷ list) h = elim (cases_Bool (tied x p.0)) [
-  | inl t ↦ subst (λ (k : List ℕ). Contains (names_of (p ∷ list)) k) (sym (tied-true x p.0 t)) (contains_first p.0 (names_of list))
+  | inl t ↦ subst (λ (k : List ℕ). Contains (names_of (p ∷ list)) k) (sym (tied_true x p.0 t)) (contains_first p.0 (names_of list))
   | inr f ↦ contains_later p.0 x (names_of list) (contained x list (ap is_some (sym (cond-false _ _ _ f)) ∙ h))
 ]
 
@@ -100,7 +100,7 @@ none_counted x [] h = refl
 none_counted x (p ∷ list) h = elim (cases_Bool (tied x p.0)) [
   | inl t ↦ absurd (some_none (value_in x (p ∷ list)) p.1 (cond-true _ _ _ t) h)
   | inr f ↦ elim (cases_Bool (bytes_eq x p.0)) [
-    | inl same ↦ absurd (two_ways (tied x p.0) (tied-same x p.0 ((bytes_eq-Decides x p.0).0 same)) f)
+    | inl same ↦ absurd (two_ways (tied x p.0) (tied_same x p.0 ((bytes_eq-Decides x p.0).0 same)) f)
     | inr differ ↦ passed x p.0 (names_of list) differ ∙ none_counted x list (sym (cond-false _ _ _ f) ∙ h)
   ]
 ]
@@ -133,7 +133,7 @@ behind : (p : List ℕ × List ℕ) (rest tail : Pairs) → value_in p.0 rest �
 behind p rest [] lacks are = tt
 behind p rest (q ∷ tail) lacks are = (
   elim (cases_Bool (tied q.0 p.0)) [
-    | inl t ↦ absurd (some_none (value_in q.0 rest) q.1 are.0 (ap (λ k. value_in k rest) (tied-true q.0 p.0 t) ∙ lacks))
+    | inl t ↦ absurd (some_none (value_in q.0 rest) q.1 are.0 (ap (λ k. value_in k rest) (tied_true q.0 p.0 t) ∙ lacks))
     | inr f ↦ cond-false _ _ _ f ∙ are.0
   ],
   behind p rest tail lacks are.1,
@@ -141,7 +141,7 @@ behind p rest (q ∷ tail) lacks are = (
 
 values_in : (list : Pairs) → Once list → AreValues (λ name. value_in name list) list
 values_in [] once = tt
-values_in (p ∷ rest) once = (cond-true _ _ _ (tied-same p.0 p.0 refl), behind p rest rest once.0 (values_in rest once.1))
+values_in (p ∷ rest) once = (cond-true _ _ _ (tied_same p.0 p.0 refl), behind p rest rest once.0 (values_in rest once.1))
 
 values_alike : (f g : List ℕ → Option (List ℕ)) (list : Pairs) → ((name : List ℕ) → f name ≡ g name) → AreValues g list → AreValues f list
 values_alike f g [] same are = tt

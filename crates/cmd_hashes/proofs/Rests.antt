@@ -1,7 +1,7 @@
 -- What calls leave that change nothing, and the rests of lists.
 use Rattle.std.proofs.Common.{◌≡◌, ℕ, suc, ◌+◌, ◌<◌, List, ◌∷◌, length, get_or, drop, drop-cons, add-one, sym, ap, subst, ◌∙◌}
 use Rattle.blocks.specs.Blocks.{Blocks, Changes}
-use Rattle.blocks.proofs.Change.{Changes-same}
+use Rattle.blocks.proofs.Change.{changes_same}
 use Rattle.hash_object.specs.Fields.{IsFields, KeepsSettings, refs}
 use Rattle.hash_object.specs.declared.fields.Fields.{Fields}
 
@@ -11,7 +11,7 @@ left_sound before after old new sound same stays = subst (λ h. IsFields after h
 
 pub left_changes : (before after : Blocks) (old new : Fields) → IsFields before old → new ≡ old → after ≡ before → Changes before after (refs old) (refs new)
 left_changes before after old new sound same stays = subst (λ h. Changes before after (refs old) (refs h)) (sym same)
-    (subst (λ b. Changes before b (refs old) (refs old)) (sym stays) (Changes-same _ _ sound.owned))
+    (subst (λ b. Changes before b (refs old) (refs old)) (sym stays) (changes_same _ _ sound.owned))
 
 pub left_settings : (old new : Fields) → new ≡ old → KeepsSettings old new
 left_settings old new same = record { limits = ap (λ (h : Fields). h.limits) same; seed = ap (λ (h : Fields). h.seed) same }

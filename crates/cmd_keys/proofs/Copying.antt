@@ -6,7 +6,7 @@ use Rattle.std.proofs.lemmas.Bool.{cond-true, cond-false}
 use Rattle.blocks.specs.declared.BlockRef.{BlockRef}
 use Rattle.blocks.specs.Blocks.{Blocks, times, Changes}
 use Rattle.blocks.proofs.Times.{times-append}
-use Rattle.blocks.proofs.Change.{Owned-others, Changes-same}
+use Rattle.blocks.proofs.Change.{owned_others, changes_same}
 use Rattle.plain_world.specs.Worlds.{Entry, World, look, put, live, look_in, put_in, selecting, with_base}
 use Rattle.plain_world.proofs.Lives.{was_in_time}
 use Rattle.plain_world.specs.declared.reply.Part.{Part}
@@ -30,7 +30,7 @@ use Rattle.held.proofs.Within.{within_store, within_wider}
 use Rattle.keyspace.specs.Scopes.{one_key, two_keys, Within}
 use Rattle.keyspace.specs.Commands.{seen}
 use Rattle.keyspace.proofs.Serving.{further}
-use Rattle.keyspace.proofs.Uses.{sound_is_intact, Changed-sound}
+use Rattle.keyspace.proofs.Uses.{sound_is_intact, changed_sound_in_uses}
 use Rattle.cmd_keys.proofs.KeyLemmas.{some_entry}
 use Rattle.cmd_keys.proofs.Emptying.{same_base}
 use Rattle.cmd_keys.proofs.Moving.{live_put_in}
@@ -52,12 +52,12 @@ module _ (old mid : Bases) (m own after : Blocks) (db moment : ℕ) (key : List 
 
   beside : SoundBeside mid after (value_refs m lifted.value ++ extra)
   beside =
-      Changed-sound mid m after (value_refs m lifted.value ++ []) (value_refs m lifted.value ++ extra) [] extra sound p nothing
+      changed_sound_in_uses mid m after (value_refs m lifted.value ++ []) (value_refs m lifted.value ++ extra) [] extra sound p nothing
       (λ r. omega (arith, times-append r (value_refs m lifted.value) [], times-append r (value_refs m lifted.value) extra))
 
   -- the value's own blocks stay
   own_kept : (r : BlockRef) → 0 < times r (value_refs m lifted.value) → after r ≡ m r
-  own_kept r within = Owned-others m after [] extra (value_refs m lifted.value) lifts.owned p r within refl
+  own_kept r within = owned_others m after [] extra (value_refs m lifted.value) lifts.owned p r within refl
 
   refs_kept : value_refs after lifted.value ≡ value_refs m lifted.value
   refs_kept = value_own.refs m after lifted.value own_kept
@@ -143,10 +143,10 @@ copy_changed own after (Ok value) changes same = (value_refs after value, change
 copy_changed own after (Err x) changes same = ([], same_changes own after same)
   where
     same_changes : (a b : Blocks) → b ≡ a → Changes a b [] []
-    same_changes a b is = subst (λ c. Changes a c [] []) (sym is) (Changes-same a [] (λ r. omega arith))
+    same_changes a b is = subst (λ c. Changes a c [] []) (sym is) (changes_same a [] (λ r. omega arith))
 
 pub err_changed : (own after : Blocks) → after ≡ own → Changes own after [] []
-err_changed own after is = subst (λ c. Changes own c [] []) (sym is) (Changes-same own [] (λ r. omega arith))
+err_changed own after is = subst (λ c. Changes own c [] []) (sym is) (changes_same own [] (λ r. omega arith))
 
 pub on_ok_so : {A E P Q : Type 0} (result : Result A E) → (P → Q) → OnOk result P → OnOk result Q
 on_ok_so (Ok a) f h = f h

@@ -5,7 +5,7 @@ use Rattle.std.specs.FinMap.{len}
 use Rattle.std.proofs.lemmas.Bool.{cases_eq, cases_lt, eq-eqb, ne_eqb, cond-true, cond-false}
 use Rattle.std.proofs.lemmas.List.{get_or_past}
 use Rattle.blocks.specs.Blocks.{Blocks}
-use Rattle.rehash_dict.proofs.MapOf.{map_of-empty}
+use Rattle.rehash_dict.proofs.MapOf.{map_of_empty}
 use Rattle.expiry.specs.Timed.{moments}
 use Rattle.plain_world.specs.Worlds.{World, live, live_keys, with_base}
 use Rattle.plain_world.specs.Worlds as model
@@ -50,7 +50,7 @@ same_base w = λ i. record { bases = λ number. each number i; selected = w.sele
 
 nothing_there : (m : Blocks) → base_means value_of m (no_base {V = Value} 0) ≡ model.no_keys
 nothing_there m =
-    ap (λ values. with_deadlines values (moments m (no_base {V = Value} 0).deadlines)) (map_of-empty m (value_of m) (no_keys {V = Value} 0) refl)
+    ap (λ values. with_deadlines values (moments m (no_base {V = Value} 0).deadlines)) (map_of_empty m (value_of m) (no_keys {V = Value} 0) refl)
     ∙ with_none (moments m (no_base {V = Value} 0).deadlines)
 
 -- all sixteen are

@@ -2,7 +2,7 @@
 use Rattle.std.proofs.Common.{◌≡◌, ◌≢◌, inl, inr, ℕ, zero, suc, ◌+◌, ◌-◌, ◌<◌, ◌≤◌, [], ◌∷◌, refl, ap, ◌∙◌, arith}
 use Rattle.std.proofs.lemmas.Bool.{cases_eq}
 use Rattle.rev_cursor.specs.Span.{times}
-use Rattle.rehash_dict.proofs.Counts.{times-here, times-past}
+use Rattle.rehash_dict.proofs.Counts.{times_here, times_past}
 use Rattle.cmd_keys.specs.Sieve.{numbers}
 
 numbers_suc : (less item : ℕ) → numbers (suc less) item ≡ item ∷ numbers less (suc item)
@@ -26,7 +26,7 @@ numbers_before : (count from i : ℕ) → i < from → times i (numbers count fr
 unfolding numbers
 numbers_before zero from i below = refl
 numbers_before (suc count) from i below =
-    (let apart : from ≢ i = λ e. omega (arith, below, e) in omega (arith, times-past i from (numbers count (suc from)) apart, numbers_before count (suc from) i (omega (arith, below))))
+    (let apart : from ≢ i = λ e. omega (arith, below, e) in omega (arith, times_past i from (numbers count (suc from)) apart, numbers_before count (suc from) i (omega (arith, below))))
 
 pub numbers_few : (count from i : ℕ) → times i (numbers count from) ≤ 1
 unfolding numbers
@@ -34,9 +34,9 @@ numbers_few zero from i = omega arith
 numbers_few (suc count) from i = elim (cases_eq from i) [
   | inl same ↦
       (let here : times i (from ∷ numbers count (suc from)) ≡ suc (times i (numbers count (suc from))) = ap (λ (o : ℕ). times i (o ∷ numbers count (suc from))) same
-      ∙ times-here i (numbers count (suc from)) in
+      ∙ times_here i (numbers count (suc from)) in
       omega (arith, here, numbers_before count (suc from) i (omega (arith, same))))
-  | inr apart ↦ omega (arith, times-past i from (numbers count (suc from)) apart, numbers_few count (suc from) i)
+  | inr apart ↦ omega (arith, times_past i from (numbers count (suc from)) apart, numbers_few count (suc from) i)
 ]
 
 pub numbers_met : (count from i : ℕ) → from ≤ i → i < from + count → 0 < times i (numbers count from)
@@ -45,6 +45,6 @@ numbers_met zero from i least below = absurd (omega (arith, least, below))
 numbers_met (suc count) from i least below = elim (cases_eq from i) [
   | inl same ↦
       (let here : times i (from ∷ numbers count (suc from)) ≡ suc (times i (numbers count (suc from))) = ap (λ (o : ℕ). times i (o ∷ numbers count (suc from))) same
-      ∙ times-here i (numbers count (suc from)) in omega (arith, here))
-  | inr apart ↦ omega (arith, times-past i from (numbers count (suc from)) apart, numbers_met count (suc from) i (omega (arith, least, apart)) (omega (arith, below)))
+      ∙ times_here i (numbers count (suc from)) in omega (arith, here))
+  | inr apart ↦ omega (arith, times_past i from (numbers count (suc from)) apart, numbers_met count (suc from) i (omega (arith, least, apart)) (omega (arith, below)))
 ]

@@ -3,7 +3,7 @@ use Rattle.std.proofs.Common.{◌≡◌, false, ℕ, ◌<◌, List, [], ◌∷�
 use Rattle.blocks.specs.declared.BlockRef.{BlockRef}
 use Rattle.blocks.specs.Blocks.{Blocks, Owned, no_blocks, ref_eq}
 use Rattle.blocks.proofs.Change.{one_if}
-use Rattle.blocks.proofs.Refs.{ref_eq-refl}
+use Rattle.blocks.proofs.Refs.{ref_eq_refl}
 use Rattle.std.proofs.lemmas.Bool.{cond-true}
 use Rattle.object_codec.specs.declared.form.Form.{Form}
 use Rattle.object_codec.specs.Forms.{IsLeast, FitsList}
@@ -32,7 +32,7 @@ use Rattle.keyspace.proofs.Absent.{remove_put}
 -- what owns no block in any store has no reference
 pub refs_none : (xs : List BlockRef) → Owned xs no_blocks → xs ≡ []
 refs_none [] own = refl
-refs_none (x ∷ xs) own = absurd (let itself : one_if (ref_eq x x) ≡ 1 = cond-true _ _ _ (ref_eq-refl x) in omega (arith, itself, own x))
+refs_none (x ∷ xs) own = absurd (let itself : one_if (ref_eq x x) ≡ 1 = cond-true _ _ _ (ref_eq_refl x) in omega (arith, itself, own x))
 
 -- the form that an encoding names
 abbrev pub form_in : Form → Encoding → Form
@@ -122,7 +122,7 @@ gone_is old new key (x ∷ rest) none is = absurd (omega (arith, none))
 only_on : (mid new : Bases) (m after : Blocks) (db : ℕ) (key : List ℕ) (value : Value) → HasOnly mid m db key value → Within (no_key db) mid new m after → HasOnly new after db key value
 only_on mid new m after db key value only within at e found bytes =
     let stayed = within.stayed db at e found (λ named. named.1) in
-    let itself : one_if (ref_eq e.key e.key) ≡ 1 = cond-true _ _ _ (ref_eq-refl e.key) in
+    let itself : one_if (ref_eq e.key e.key) ≡ 1 = cond-true _ _ _ (ref_eq_refl e.key) in
     only at e stayed.stood (sym (stayed.bytes e.key (omega (arith, itself))) ∙ bytes)
 
 module _ {S : Type 0} (own : Elements → Form → Elements → Form → Type 0) (left : ℕ) (blocks : S → Blocks) (old mid : Keyspace S) (at : Ctx) (key : List ℕ)

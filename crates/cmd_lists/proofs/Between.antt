@@ -11,7 +11,7 @@ use Rattle.std.specs.FinMap.{get, insert, get-insert, get-remove, slice_cmp-IsAn
 use Rattle.std.specs.FinMap as map
 use Rattle.blocks.specs.Blocks.{Blocks, bytes_at, ref_eq}
 use Rattle.blocks.proofs.Change.{one_if}
-use Rattle.blocks.proofs.Refs.{ref_eq-refl}
+use Rattle.blocks.proofs.Refs.{ref_eq_refl}
 use Rattle.object_codec.specs.declared.form.Form as codec
 use Rattle.quicklist.specs.Nodes.{pack_len}
 use Rattle.plain_world.specs.Worlds.{World, Database, Entry, look, with_base}
@@ -155,7 +155,7 @@ has_before : (scope : Scope) (db : ℕ) (key : List ℕ) (value : Value) (old mi
 has_before scope db key value old mid m own apart within has =
     let bytes : bytes_at own has.element.key ≡ key = ap (λ (o : Option (List ℕ)). unwrap_or o []) has.bytes in
     let stayed = within.stayed db has.at has.element has.found (λ named. apart (subst (scope.writes db) bytes named)) in
-    let itself : one_if (ref_eq has.element.key has.element.key) ≡ 1 = cond-true _ _ _ (ref_eq-refl has.element.key) in
+    let itself : one_if (ref_eq has.element.key has.element.key) ≡ 1 = cond-true _ _ _ (ref_eq_refl has.element.key) in
     record { at = has.at; element = has.element; found = stayed.stood; bytes = sym (stayed.bytes has.element.key (omega (arith, itself))) ∙ has.bytes; is = has.is }
 
 form_before : (there : Bool) (scope : Scope) (db : ℕ) (key : List ℕ) (form : codec.Form) (old mid : Bases) (m own : Blocks) → (scope.writes db key → ⊥) → Within scope old mid m own

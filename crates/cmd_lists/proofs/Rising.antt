@@ -6,7 +6,7 @@ use Rattle.object_codec.specs.declared.form.Form.TheVariants.{Intset, Listpack, 
 use Rattle.quicklist.specs.Nodes.{pack_len}
 use Rattle.blocks.specs.Blocks.{Blocks}
 use Rattle.quicklist.specs.Chain.{Chain, IsWritten, IsRisen, elements}
-use Rattle.quicklist.proofs.Written.{pack_len-append, alone_len}
+use Rattle.quicklist.proofs.Written.{pack_len_append, alone_len}
 use Rattle.plain_model.specs.declared.list_command.ListEnd.{ListEnd}
 use Rattle.plain_model.specs.declared.list_command.ListEnd.TheVariants.{Head, Tail}
 use Rattle.plain_model.specs.ListSteps.{added}
@@ -28,8 +28,8 @@ risen_then a b c few many le p q = record {
 }
 
 len_added : (end : ListEnd) (xs : List (List ℕ)) (x : List ℕ) → pack_len xs ≤ pack_len (added end xs (x ∷ []))
-len_added Head xs x = omega (arith, pack_len-append (x ∷ []) xs, alone_len x)
-len_added Tail xs x = omega (arith, pack_len-append xs (x ∷ []), alone_len x)
+len_added Head xs x = omega (arith, pack_len_append (x ∷ []) xs, alone_len x)
+len_added Tail xs x = omega (arith, pack_len_append xs (x ∷ []), alone_len x)
 
 -- no element was put in so far, or the form is the one of what is there now
 abbrev pub RisesSoFar : List (List ℕ) → List (List ℕ) → Form → List (List ℕ) → Form → Type 0

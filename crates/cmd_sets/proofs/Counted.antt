@@ -7,7 +7,7 @@ use Rattle.std.specs.Ordering.{nat_cmp}
 use Rattle.std.specs.Cmp.Lexicographic.{slice_cmp}
 use Rattle.std.proofs.lemmas.Bool.{cond-true, cond-false, cases_Bool, cases_eq, eq-eqb, ne_eqb}
 use Rattle.set_object.specs.Strings.{set_of, IsOnce}
-use Rattle.set_object.proofs.Sets.{tied, tied-true, among, has_among, has_empty, once_cons, once_parts}
+use Rattle.set_object.proofs.Sets.{tied, tied_true, among, has_among, has_empty, once_cons, once_parts}
 use Rattle.plain_world.specs.Worlds.{World}
 use Rattle.plain_model.specs.SetSteps.{has, in_all, at_most}
 use Rattle.plain_model.specs.declared.set_command.SetJoin.TheVariants.{Inter}
@@ -20,10 +20,10 @@ passing_one test q x xs h = elim (cases_Bool (tied q x)) [
   | inl same ↦ elim (cases_Bool (test x)) [
     | inl passes ↦
         ap (among q) (cond-true _ _ _ passes) ∙ cond-true _ _ _ same
-        ∙ sym (ap (λ b. b && test q) (cond-true _ _ _ same) ∙ ap test (tied-true q x same) ∙ passes)
+        ∙ sym (ap (λ b. b && test q) (cond-true _ _ _ same) ∙ ap test (tied_true q x same) ∙ passes)
     | inr fails ↦
-        ap (among q) (cond-false _ _ _ fails) ∙ h ∙ ap (λ b. among q xs && b) (ap test (tied-true q x same) ∙ fails) ∙ and_false (among q xs)
-        ∙ sym (ap (λ b. b && test q) (cond-true _ _ _ same) ∙ ap test (tied-true q x same) ∙ fails)
+        ap (among q) (cond-false _ _ _ fails) ∙ h ∙ ap (λ b. among q xs && b) (ap test (tied_true q x same) ∙ fails) ∙ and_false (among q xs)
+        ∙ sym (ap (λ b. b && test q) (cond-true _ _ _ same) ∙ ap test (tied_true q x same) ∙ fails)
   ]
   | inr other ↦ elim (cases_Bool (test x)) [
     | inl passes ↦ ap (among q) (cond-true _ _ _ passes) ∙ cond-false _ _ _ other ∙ h ∙ ap (λ b. b && test q) (sym (cond-false _ _ _ other))

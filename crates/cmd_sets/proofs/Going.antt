@@ -8,7 +8,7 @@ use Rattle.std.proofs.lemmas.Slice.Eq.{bytes_eq-Decides}
 use Rattle.blocks.specs.declared.BlockRef.{BlockRef}
 use Rattle.blocks.specs.Blocks.{Blocks, bytes_at, times, ref_eq}
 use Rattle.blocks.proofs.Change.{one_if}
-use Rattle.blocks.proofs.Refs.{ref_eq-refl}
+use Rattle.blocks.proofs.Refs.{ref_eq_refl}
 use Rattle.object_codec.specs.declared.form.Form.{Form}
 use Rattle.object_codec.specs.declared.limits.Limits.{Limits}
 use Rattle.set_object.specs.Strings.{FitsMembers}
@@ -157,7 +157,7 @@ bytes_are : (m : Blocks) (r : BlockRef) (key : List ℕ) → m r ≡ Some key �
 bytes_are m r key is = ap (λ (o : Option (List ℕ)). unwrap_or o []) is
 
 among_own : (r : BlockRef) (rest : List BlockRef) → 0 < times r (r ∷ rest)
-among_own r rest = let itself : one_if (ref_eq r r) ≡ 1 = cond-true _ _ _ (ref_eq-refl r) in omega (arith, itself)
+among_own r rest = let itself : one_if (ref_eq r r) ≡ 1 = cond-true _ _ _ (ref_eq_refl r) in omega (arith, itself)
 
 -- a value that stands at another key than the written one stood there before
 had_before : (old mid : Bases) (m after : Blocks) (db : ℕ) (from to : List ℕ) (value : Value) → (to ≡ from → ⊥) → Within (one_key db from) old mid m after → HasValue mid after db to value

@@ -5,26 +5,26 @@ use Rattle.std.specs.Prelude.{IfOk, OnErr}
 use Rattle.std.specs.FinMap.{insert, remove, len}
 use Rattle.std.proofs.lemmas.Bool.{cond-true, cond-false, cases_Bool}
 use Rattle.blocks.specs.Blocks.{Blocks, Changes}
-use Rattle.blocks.proofs.Change.{Changes-same}
+use Rattle.blocks.proofs.Change.{changes_same}
 use Rattle.object_codec.specs.declared.form.Form.{Form}
 use Rattle.object_codec.specs.declared.form.Form.TheVariants.{Intset, Listpack, Hashtable, Skiplist, Quicklist, Stream}
 use Rattle.set_object.specs.declared.members.Members as object
 use Rattle.set_object.specs.Strings.{Strings, has, IsRisen}
 use Rattle.set_object.specs.Members.{IsMembers, IsChanged, KeepsSettings, members, refs, form_of, form_left}
-use Rattle.set_object.proofs.Sets.{tied, tied-true, sets_alike, has_put, has_taken, len_put, len_taken}
+use Rattle.set_object.proofs.Sets.{tied, tied_true, sets_alike, has_put, has_taken, len_put, len_taken}
 use Rattle.plain_model.specs.SetSteps.{Members, add_all, drop_all}
 use Rattle.keyspace.specs.Forms.{RisesTo, RisesIf}
 
 -- a member that is there can't be put in, nor one taken out that isn't
 pub insert_there : (m : Strings) (x : List ℕ) → has m x ≡ true → insert m x tt ≡ m
 insert_there m x there = sets_alike _ _ (λ q. has_put m x q ∙ elim (cases_Bool (tied q x)) [
-  | inl same ↦ cond-true _ _ _ same ∙ sym there ∙ ap (has m) (sym (tied-true q x same))
+  | inl same ↦ cond-true _ _ _ same ∙ sym there ∙ ap (has m) (sym (tied_true q x same))
   | inr other ↦ cond-false _ _ _ other
 ])
 
 pub remove_lacking : (m : Strings) (x : List ℕ) → has m x ≡ false → remove m x ≡ m
 remove_lacking m x lacks = sets_alike _ _ (λ q. has_taken m x q ∙ elim (cases_Bool (tied q x)) [
-  | inl same ↦ cond-true _ _ _ same ∙ sym lacks ∙ ap (has m) (sym (tied-true q x same))
+  | inl same ↦ cond-true _ _ _ same ∙ sym lacks ∙ ap (has m) (sym (tied_true q x same))
   | inr other ↦ cond-false _ _ _ other
 ])
 
@@ -62,7 +62,7 @@ stays m after old new sound same_set same_blocks =
     subst (λ (n : object.Members). Goes m after old n) (sym same_set) (subst (λ (b : Blocks). Goes m b old old) (sym same_blocks) (record {
       sound = sound;
       settings = record { limits = refl; seed = refl };
-      changes = Changes-same _ _ sound.owned;
+      changes = changes_same _ _ sound.owned;
     }))
 
 changed : (m after : Blocks) (old new : object.Members) (set : Strings) → IsChanged m after old new set → Goes m after old new

@@ -12,7 +12,7 @@ use Rattle.blocks.proofs.Sums.{count_cons}
 use Rattle.set_object.specs.declared.members.Members as object
 use Rattle.set_object.specs.Members as object_of
 use Rattle.set_object.specs.Strings.{IsOnce, set_of}
-use Rattle.set_object.proofs.Sets.{among, has_among, once_parts, tied, tied-true, tied-same, two_ways}
+use Rattle.set_object.proofs.Sets.{among, has_among, once_parts, tied, tied_true, tied_same, two_ways}
 use Rattle.set_object.proofs.Listed.{arranged}
 use Rattle.plain_world.specs.Worlds.{World, Entry, look}
 use Rattle.plain_world.specs.Parts.{AreReplies, IsReply}
@@ -33,7 +33,7 @@ stands x [] c = (let below : c.0 < 0 = c.1 in absurd (omega arith))
 stands x (y ∷ list) c = elim (cases_Bool (tied x y)) [
   | inl t ↦ cond-true _ _ _ t
   | inr f ↦ elim (contains_cases y x list c) [
-    | inl same ↦ absurd (two_ways (tied x y) (tied-same x y (sym same)) f)
+    | inl same ↦ absurd (two_ways (tied x y) (tied_same x y (sym same)) f)
     | inr more ↦ cond-false _ _ _ f ∙ stands x list more
   ]
 ]
@@ -41,7 +41,7 @@ stands x (y ∷ list) c = elim (cases_Bool (tied x y)) [
 contained : (x : List ℕ) (list : List (List ℕ)) → among x list ≡ true → Contains list x
 contained x [] h = absurd cc
 contained x (y ∷ list) h = elim (cases_Bool (tied x y)) [
-  | inl t ↦ subst (λ (k : List ℕ). Contains (y ∷ list) k) (sym (tied-true x y t)) (contains_first y list)
+  | inl t ↦ subst (λ (k : List ℕ). Contains (y ∷ list) k) (sym (tied_true x y t)) (contains_first y list)
   | inr f ↦ contains_later y x list (contained x list (sym (cond-false _ _ _ f) ∙ h))
 ]
 
@@ -55,7 +55,7 @@ met x y list same = let one : cond {A = ℕ} (bytes_eq x y) 1 0 ≡ 1 = ap (λ (
 none_counted : (x : List ℕ) (list : List (List ℕ)) → among x list ≡ false → count_by (bytes_eq x) list ≡ 0
 none_counted x [] h = refl
 none_counted x (y ∷ list) h = elim (cases_Bool (bytes_eq x y)) [
-  | inl same ↦ absurd (two_ways (among x (y ∷ list)) (cond-true _ _ _ (tied-same x y ((bytes_eq-Decides x y).0 same))) h)
+  | inl same ↦ absurd (two_ways (among x (y ∷ list)) (cond-true _ _ _ (tied_same x y ((bytes_eq-Decides x y).0 same))) h)
   | inr differ ↦ elim (cases_Bool (tied x y)) [
     | inl t ↦ absurd (two_ways (among x (y ∷ list)) (cond-true _ _ _ t) h)
     | inr f ↦ passed x y list differ ∙ none_counted x list (sym (cond-false _ _ _ f) ∙ h)

@@ -13,7 +13,7 @@ use Rattle.object_codec.specs.declared.form.Form.TheVariants.{Intset, Listpack, 
 use Rattle.object_codec.specs.declared.limits.Limits.{Limits}
 use Rattle.object_codec.specs.Forms.{IsLeast}
 use Rattle.set_object.specs.Strings.{FitsMembers, are_numbers, longest, set_of}
-use Rattle.set_object.proofs.Sets.{tied, tied-same, among, has_among, has_empty, has_put, sets_alike}
+use Rattle.set_object.proofs.Sets.{tied, tied_same, among, has_among, has_empty, has_put, sets_alike}
 use Rattle.set_object.proofs.Forms.{keys_among, numbers_each, longest_each}
 use Rattle.plain_world.specs.Worlds.{World, Database, Entry, SetOf, look, put, remove, deadline_of}
 use Rattle.plain_world.proofs.Maps.{maps_alike}
@@ -40,7 +40,7 @@ numbers_all [] each = refl
 numbers_all (x ∷ xs) each = and_from _ _ (each x (first x xs)) (numbers_all xs (λ q h. each q (later q x xs h)))
   where
     first : (y : List ℕ) (ys : List (List ℕ)) → among y (y ∷ ys) ≡ true
-    first y ys = cond-true _ _ _ (tied-same y y refl)
+    first y ys = cond-true _ _ _ (tied_same y y refl)
 
     later : (q y : List ℕ) (ys : List (List ℕ)) → among q ys ≡ true → among q (y ∷ ys) ≡ true
     later q y ys h = elim (cases_Bool (tied q y)) [ inl t ↦ cond-true _ _ _ t | inr f ↦ cond-false _ _ _ f ∙ h ]
@@ -50,7 +50,7 @@ longest_all [] v each = omega arith
 longest_all (x ∷ xs) v each = omega (arith, each x (first x xs), longest_all xs v (λ q h. each q (later q x xs h)))
   where
     first : (y : List ℕ) (ys : List (List ℕ)) → among y (y ∷ ys) ≡ true
-    first y ys = cond-true _ _ _ (tied-same y y refl)
+    first y ys = cond-true _ _ _ (tied_same y y refl)
 
     later : (q y : List ℕ) (ys : List (List ℕ)) → among q ys ≡ true → among q (y ∷ ys) ≡ true
     later q y ys h = elim (cases_Bool (tied q y)) [ inl t ↦ cond-true _ _ _ t | inr f ↦ cond-false _ _ _ f ∙ h ]

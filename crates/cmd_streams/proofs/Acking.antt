@@ -72,16 +72,16 @@ counted_hit old new name id hit told is was now =
     ∙ ap (λ (s : Log). cond (is_pending id (fin.get old.groups name)) 1 0 + waits (fin.get s.groups name)) now
     ∙ one_acked old.groups name id
 
-acked-append : (ids : List Id) (id : Id) (group : Group) → without_ids (ids ++ id ∷ []) group ≡ without id (without_ids ids group)
-acked-append [] id group = refl
-acked-append (a ∷ ids) id group = acked-append ids id (without a group)
+acked_append : (ids : List Id) (id : Id) (group : Group) → without_ids (ids ++ id ∷ []) group ≡ without id (without_ids ids group)
+acked_append [] id group = refl
+acked_append (a ∷ ids) id group = acked_append ids id (without a group)
 
 -- one id more is acknowledged
 pub more_acked : (groups : Groups) (name : List ℕ) (ids : List Id) (i : ℕ) (id : Id) → i < length ids → id ≡ get_or ids i id
     → changed (changed groups name (without_ids (take i ids))) name (without id) ≡ changed groups name (without_ids (take (i + 1) ids))
 more_acked groups name ids i id inside is =
     changed_twice groups name (without_ids (take i ids)) (without id)
-    ∙ (λ k. changed groups name (λ group. sym (acked-append (take i ids) id group) k))
+    ∙ (λ k. changed groups name (λ group. sym (acked_append (take i ids) id group) k))
     ∙ ap (λ (x : Id). changed groups name (without_ids (take i ids ++ x ∷ []))) is
     ∙ ap (λ xs. changed groups name (without_ids xs)) (sym (take_more ids i id inside))
 

@@ -1,14 +1,14 @@
 -- What calls leave that change nothing, and the rests of lists.
 use Rattle.std.proofs.Common.{◌≡◌, ℕ, suc, ◌+◌, ◌<◌, List, ◌∷◌, length, get_or, drop, drop-cons, add-one, Result, Ok, Err, IfOk, refl, sym, ap, subst}
 use Rattle.blocks.specs.Blocks.{Blocks, Changes}
-use Rattle.blocks.proofs.Change.{Changes-same}
+use Rattle.blocks.proofs.Change.{changes_same}
 use Rattle.stream_object.specs.Streams.{IsStream, refs}
 use Rattle.stream_object.specs.declared.stream.Stream.{Stream as Log}
 use Rattle.stream_object.proofs.Clears.{stream_laws_hold}
 
 -- what a call leaves that changes nothing
 pub same_changes : (m : Blocks) (s : Log) → IsStream m s → Changes m m (refs m s) (refs m s)
-same_changes m s sound = Changes-same m (refs m s) (stream_laws_hold.owned m s sound)
+same_changes m s sound = changes_same m (refs m s) (stream_laws_hold.owned m s sound)
 
 pub left_changes : (before after : Blocks) (old new : Log) → IsStream before old → new ≡ old → after ≡ before → Changes before after (refs before old) (refs after new)
 left_changes before after old new sound same stays = subst (λ h. Changes before after (refs before old) (refs after h)) (sym same)

@@ -17,7 +17,7 @@ use Rattle.held.specs.Calls.{HasOnly}
 use Rattle.keyspace.specs.Calls.{Lifts, IsPlace, AreParts}
 use Rattle.keyspace.specs.Commands.{seen}
 use Rattle.keyspace.specs.Scopes.{one_key, Within}
-use Rattle.keyspace.proofs.Uses.{Lower-intact, Lower-sound, Lower-has, Lower-within, Lower-means}
+use Rattle.keyspace.proofs.Uses.{lower_intact, lower_sound, lower_has, lower_within, Lower-means}
 use Rattle.cmd_values.specs.Found.{Becomes, IsThere, IsString}
 
 -- the string of a value, and of what stands at a key
@@ -38,23 +38,23 @@ module _ (at : Ctx) (old mid : Bases) (m own after : Blocks) (key : List ℕ) (l
   changes = subst (λ b. Changes b after (value_refs m lifted.value) (text_refs changed)) same (subst (λ v. Changes own after (value_refs m v) (text_refs changed)) (sym is) p)
 
   pub text_intact : IsIntactWith mid after (values.Text changed)
-  text_intact = Lower-intact old mid m after at.db at.moment key lifted lowered [] lifts sound changes refl refl tt
+  text_intact = lower_intact old mid m after at.db at.moment key lifted lowered [] lifts sound changes refl refl tt
 
   module _ (new : Bases) (later : Blocks) (stays : later ≡ after) where
     pub text_sound : ((all out : List BlockRef) → SoundBeside mid after all → AreParts all (text_refs changed) out → SoundBeside new after out) → Sound new later
-    text_sound clause = subst (λ b. Sound new b) (sym stays) (Lower-sound old mid m after at.db at.moment key lifted lowered [] lifts sound changes refl refl new clause)
+    text_sound clause = subst (λ b. Sound new b) (sym stays) (lower_sound old mid m after at.db at.moment key lifted lowered [] lifts sound changes refl refl new clause)
 
     -- from the clauses `within` of `lift` and `lower`
     pub text_within : Within (one_key at.db key) old mid m m →
         ((k : List ℕ) (deadline : Option ℕ) → IsPlace mid after lifted.db lifted.item k deadline → Within (one_key lifted.db k) mid new after after)
         → Within (one_key at.db key) old new m later
     text_within taken clause = subst (Within (one_key at.db key) old new m) (sym stays)
-        (Lower-within old mid m after at.db at.moment key lifted lowered [] lifts sound changes refl refl new taken clause)
+        (lower_within old mid m after at.db at.moment key lifted lowered [] lifts sound changes refl refl new taken clause)
 
     -- from the clause `has` of `lower`
     pub text_has : ((k : List ℕ) (deadline : Option ℕ) → IsPlace mid after lifted.db lifted.item k deadline → HasOnly new after lifted.db k (values.Text changed))
         → HasOnly new later at.db key (values.Text changed)
-    text_has clause = subst (λ b. HasOnly new b at.db key (values.Text changed)) (sym stays) (Lower-has old mid m after at.db at.moment key lifted lowered [] lifts sound changes refl refl new clause)
+    text_has clause = subst (λ b. HasOnly new b at.db key (values.Text changed)) (sym stays) (lower_has old mid m after at.db at.moment key lifted lowered [] lifts sound changes refl refl new clause)
 
     pub text_becomes :
         ((k : List ℕ) (deadline : Option ℕ) → IsPlace mid after lifted.db lifted.item k deadline

@@ -51,7 +51,7 @@ use Rattle.plain_model.specs.declared.times.TimeOrigin.TheVariants.{Now}
 use Rattle.cmd_values.proofs.Ranges.{written_length}
 use Rattle.plain_world.proofs.Lives.{live_put_in_time, live_remove}
 use Rattle.plain_world.proofs.Lives.{look_put, put_twice}
-use Rattle.keyspace.proofs.Uses.{Put-means}
+use Rattle.keyspace.proofs.Uses.{put_means_in_uses}
 use Rattle.plain_model.specs.StringSteps.{with_string}
 use Rattle.plain_world.specs.declared.refusal.Refusal.TheVariants.{WrongType}
 use Rattle.keyspace.specs.Values.{value_of, IsText}
@@ -148,7 +148,7 @@ pub replaced : {E : Type 0} (at : Ctx) (bases : Bases) (m after : Blocks) (text 
     → OnOk result (means at.db new later ≡ put (means at.db bases after) key (record { value = Str (text_bytes after text); deadline = deadline }))
     → OnOk result (seen at new later ≡ stand (seen at bases m) at.moment key (record { value = Str value; deadline = deadline }))
 replaced at bases m after text sound p new later key value deadline is (Ok u) h =
-    Put-means bases m after (values.Text text) sound p new later at.db at.moment key _ h
+    put_means_in_uses bases m after (values.Text text) sound p new later at.db at.moment key _ h
     ∙ ap (λ b. stand (seen at bases m) at.moment key (record { value = Str b; deadline = deadline })) is
 replaced at bases m after text sound p new later key value deadline is (Err x) h = tt
 

@@ -13,7 +13,7 @@ use Rattle.std.specs.FinMap.{empty, entries, from_entries, get, insert, len, fin
 use Rattle.std.specs.FinMap.Entries.{by_order, find-put}
 use Rattle.std.proofs.lemmas.List.{length-map}
 use Rattle.std.proofs.lemmas.Map.Keys.{sorted_head, sorted_tail}
-use Rattle.set_object.proofs.Sets.{tied, tied-true}
+use Rattle.set_object.proofs.Sets.{tied, tied_true}
 use Rattle.plain_world.proofs.Maps.{maps_alike}
 use Rattle.plain_model.specs.ZsetSteps.{Scores}
 use Rattle.cmd_zsets.specs.Joined.{entry_of, gathered, or_else}
@@ -102,7 +102,7 @@ module _ {Z : Type 0} where
       → (q : List ℕ) → or_else (get (gathered new) q) (get (insert zset k.items v) q) ≡ or_else (get (gathered old) q) (get zset q)
   one_over old new k v zset e none q =
       ap (or_else (get (gathered new) q)) (get-insert nat_list_cmp_total zset k.items v q)
-      ∙ over_one (tied q k.items) (get (gathered new) q) (get zset q) v (λ same. ap (get (gathered new)) (tied-true q k.items same) ∙ get_gathered new k.items ∙ none)
+      ∙ over_one (tied q k.items) (get (gathered new) q) (get zset q) v (λ same. ap (get (gathered new)) (tied_true q k.items same) ∙ get_gathered new k.items ∙ none)
       ∙ ap (λ o. or_else o (get zset q))
       (sym (ap (λ (es : List (Vec ℕ Z × ℤ)). get (from_entries {R = slice_cmp nat_cmp} (map entry_of es)) q) e ∙ get-insert nat_list_cmp_total (gathered new) k.items v q))
 

@@ -10,7 +10,7 @@ use Rattle.set_object.specs.declared.members.Members as set_type
 use Rattle.set_object.specs.Members.{IsMembers, members}
 use Rattle.set_object.specs.Items as set_items
 use Rattle.set_object.specs.Strings.{Strings}
-use Rattle.set_object.proofs.Sets.{tied, tied-true, tied-same}
+use Rattle.set_object.proofs.Sets.{tied, tied_true, tied_same}
 use Rattle.set_object.proofs.Listed.{arranged}
 use Rattle.zset_object.specs.declared.scored.Scored as zset_type
 use Rattle.zset_object.specs.Scored.{IsScored, scores}
@@ -185,7 +185,7 @@ module _ (join : ScoreJoin) (how : Aggregate) where
           record {
             met = λ j s q below e. elim (cases_Bool (tied q member)) [
               | inl t ↦
-                  let same : q ≡ member = tied-true q member t in
+                  let same : q ≡ member = tied_true q member t in
                   let as_one : Some s ≡ Some score = sym (all.pair j s q e) ∙ ap (get source) same ∙ all.pair i score member here in
                   ap (get new) same ∙ ap (λ (n : Scores). get n member) made ∙ put_got asked (weight *ℤ score) now member was
                   ∙ ap (λ (o : Option ℤ). met_with join how asked (weighted weight o)) (sym as_one)
@@ -194,12 +194,12 @@ module _ (join : ScoreJoin) (how : Aggregate) where
                 | inl at_i ↦
                     let pairs : Some (s, q) ≡ Some (score, member) = sym e ∙ ap at at_i ∙ here in
                     let same : q ≡ member = ap name_of pairs in
-                    absurd (let b : true ≡ false = sym (tied-same q member same) ∙ f in cc)
+                    absurd (let b : true ≡ false = sym (tied_same q member same) ∙ f in cc)
                 | inr other ↦ others q f ∙ so.met j s q (omega (arith, below, other)) e
               ]
             ];
             left = λ q nowhere. elim (cases_Bool (tied q member)) [
-              | inl t ↦ absurd (nowhere i score (omega arith) (here ∙ ap (λ (k : List ℕ). Some (score, k)) (sym (tied-true q member t))))
+              | inl t ↦ absurd (nowhere i score (omega arith) (here ∙ ap (λ (k : List ℕ). Some (score, k)) (sym (tied_true q member t))))
               | inr f ↦ others q f ∙ so.left q (λ j s below e. nowhere j s (omega (arith, below)) e)
             ];
           }

@@ -1,7 +1,7 @@
 -- What calls leave that change nothing, and the rests of lists.
 use Rattle.std.proofs.Common.{◌≡◌, ℕ, suc, ◌+◌, ◌<◌, List, ◌∷◌, length, get_or, drop, drop-cons, add-one, sym, ap, subst, ◌∙◌}
 use Rattle.blocks.specs.Blocks.{Blocks, Changes}
-use Rattle.blocks.proofs.Change.{Changes-same}
+use Rattle.blocks.proofs.Change.{changes_same}
 use Rattle.zset_object.specs.Scored.{IsScored, KeepsSettings, refs}
 use Rattle.zset_object.specs.declared.scored.Scored.{Scored}
 
@@ -11,7 +11,7 @@ left_sound before after old new sound same stays = subst (λ h. IsScored after h
 
 pub left_changes : (before after : Blocks) (old new : Scored) → IsScored before old → new ≡ old → after ≡ before → Changes before after (refs old) (refs new)
 left_changes before after old new sound same stays = subst (λ h. Changes before after (refs old) (refs h)) (sym same)
-    (subst (λ b. Changes before b (refs old) (refs old)) (sym stays) (Changes-same _ _ sound.owned))
+    (subst (λ b. Changes before b (refs old) (refs old)) (sym stays) (changes_same _ _ sound.owned))
 
 pub left_settings : (old new : Scored) → new ≡ old → KeepsSettings old new
 left_settings old new same = record { limits = ap (λ (h : Scored). h.limits) same; seed = ap (λ (h : Scored). h.seed) same }

@@ -4,9 +4,9 @@ use Rattle.std.specs.Prelude.{IsTrue}
 use Rattle.std.proofs.lemmas.Bool.{cond-true}
 use Rattle.blocks.specs.declared.BlockRef.{BlockRef}
 use Rattle.blocks.specs.Blocks.{Blocks, times, with_block, Changes, Owned}
-use Rattle.blocks.proofs.Refs.{ref_eq-refl}
+use Rattle.blocks.proofs.Refs.{ref_eq_refl}
 use Rattle.blocks.proofs.Times.{times-append}
-use Rattle.blocks.proofs.Change.{one, live-is, Changes-same, Changes-then, Changes-counted, Changes-beside, Changes-owned, Counts-ended}
+use Rattle.blocks.proofs.Change.{one, live_is_in_change, changes_same, changes_then, changes_counted, changes_beside, changes_owned, counts_ended}
 use Rattle.rehash_dict.specs.Table.{Element, Table, at_item, item}
 use Rattle.rehash_dict.specs.Steps.{Holds}
 use Rattle.rehash_dict.specs.MapOf.{own_of, refs_of, key_refs}
@@ -55,16 +55,16 @@ module _ {V : Type 0} (own : V → List BlockRef) where
   left_end (x ∷ items) (suc n) q below = left_end items n q (λ i some. omega (arith, below (suc i) some))
 
   pub end_begins : (t : Table V) (m : Blocks) → Owned (refs_of own t) m → Changes m m (refs_of own t) (refs_from t 0)
-  end_begins t m owned = subst (λ items. Changes m m (refs_of own t) (flat_map (own_of own) items)) (sym (all_left t.items)) (Changes-same m (refs_of own t) owned)
+  end_begins t m owned = subst (λ items. Changes m m (refs_of own t) (flat_map (own_of own) items)) (sym (all_left t.items)) (changes_same m (refs_of own t) owned)
 
   module _ (t : Table V) (n : ℕ) (m mid : Blocks) (p : Changes m mid (refs_of own t) (refs_from t n)) where
     left_owned : Owned (refs_from t n) mid
-    left_owned = Changes-owned m mid (refs_of own t) (refs_from t n) p
+    left_owned = changes_owned m mid (refs_of own t) (refs_from t n) p
 
     -- an item number without an element
     pub end_skips : item t n ≡ None → Changes m mid (refs_of own t) (refs_from t (suc n))
-    end_skips none = Changes-then m mid mid (refs_of own t) (refs_from t n) (refs_from t (suc n)) p
-        (Changes-beside mid mid [] [] (refs_from t n) (refs_from t (suc n)) (Changes-same mid [] (λ q. omega arith)) left_owned (λ q. times q (refs_from t (suc n)))
+    end_skips none = changes_then m mid mid (refs_of own t) (refs_from t n) (refs_from t (suc n)) p
+        (changes_beside mid mid [] [] (refs_from t n) (refs_from t (suc n)) (changes_same mid [] (λ q. omega arith)) left_owned (λ q. times q (refs_from t (suc n)))
         (λ q. omega (arith, left_next t.items n q, ap (λ o. times q (own_of own o)) none)) (λ q. omega arith))
 
     module _ (key : BlockRef) (value : V) (h : Holds t n key value) where
@@ -75,12 +75,12 @@ module _ {V : Type 0} (own : V → List BlockRef) where
       end_owned q = omega (arith, named q, left_owned q)
 
       pub end_goes_on : (after : Blocks) → Changes mid after (key ∷ own value) [] → Changes m after (refs_of own t) (refs_from t (suc n))
-      end_goes_on after given = Changes-then m mid after (refs_of own t) (refs_from t n) (refs_from t (suc n)) p
-          (Changes-beside mid after (key ∷ own value) [] (refs_from t n) (refs_from t (suc n)) given left_owned (λ q. times q (refs_from t (suc n))) named (λ q. omega arith))
+      end_goes_on after given = changes_then m mid after (refs_of own t) (refs_from t n) (refs_from t (suc n)) p
+          (changes_beside mid after (key ∷ own value) [] (refs_from t n) (refs_from t (suc n)) given left_owned (λ q. times q (refs_from t (suc n))) named (λ q. omega arith))
 
   pub end_all : (t : Table V) (n : ℕ) (m mid : Blocks) → Changes m mid (refs_of own t) (refs_from t n) → ((i : ℕ) → IsSome (item t i) → i < n) → Changes m mid (refs_of own t) []
-  end_all t n m mid p below = Changes-then m mid mid (refs_of own t) (refs_from t n) [] p
-      (Changes-beside mid mid [] [] (refs_from t n) [] (Changes-same mid [] (λ q. omega arith)) (Changes-owned m mid (refs_of own t) (refs_from t n) p) (λ q. 0)
+  end_all t n m mid p below = changes_then m mid mid (refs_of own t) (refs_from t n) [] p
+      (changes_beside mid mid [] [] (refs_from t n) [] (changes_same mid [] (λ q. omega arith)) (changes_owned m mid (refs_of own t) (refs_from t n) p) (λ q. 0)
       (λ q. left_end t.items n q below) (λ q. omega arith))
 
 -- ---- elements that own the blocks of their keys alone
@@ -90,11 +90,11 @@ module _ {V : Type 0} (t : Table V) (n : ℕ) (m mid : Blocks) (p : Changes m mi
   key_owned = end_owned (λ (_ : V). []) t n m mid p key value h
 
   pub key_live : IsSome (mid key)
-  key_live = live-is mid key (omega (arith, key_owned key, self))
+  key_live = live_is_in_change mid key (omega (arith, key_owned key, self))
     where
       self : one key key ≡ 1
-      self = cond-true _ _ _ (ref_eq-refl key)
+      self = cond-true _ _ _ (ref_eq_refl key)
 
   pub key_goes_on : (after : Blocks) → after ≡ with_block mid key None → Changes m after (key_refs t) (refs_from (λ (_ : V). []) t (suc n))
   key_goes_on after given = end_goes_on (λ (_ : V). []) t n m mid p key value h after
-      (Changes-counted mid after (key ∷ []) [] key_owned (Counts-ended mid after key (key ∷ []) [] key_live given (λ q. omega arith)))
+      (changes_counted mid after (key ∷ []) [] key_owned (counts_ended mid after key (key ∷ []) [] key_live given (λ q. omega arith)))

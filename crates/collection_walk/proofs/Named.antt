@@ -3,15 +3,15 @@ use Rattle.std.proofs.Common.{◌≡◌, ℕ, zero, suc, ◌≤◌, List, [], �
 use Rattle.std.proofs.lemmas.Bool.{cond-true}
 use Rattle.blocks.specs.declared.BlockRef.{BlockRef}
 use Rattle.blocks.specs.Blocks.{Blocks, times, IsIn, Owned}
-use Rattle.blocks.proofs.Refs.{ref_eq-refl}
+use Rattle.blocks.proofs.Refs.{ref_eq_refl}
 use Rattle.blocks.proofs.Times.{times-append}
-use Rattle.blocks.proofs.Change.{one, live-is}
+use Rattle.blocks.proofs.Change.{one, live_is_in_change}
 use Rattle.rehash_dict.specs.Table.{Element, Table, at_item, item}
 use Rattle.rehash_dict.specs.MapOf.{own_of, refs_of, key_refs}
 use Rattle.collection_walk.proofs.Ranks.{Slots}
 
 pub self : (r : BlockRef) → one r r ≡ 1
-self r = cond-true _ _ _ (ref_eq-refl r)
+self r = cond-true _ _ _ (ref_eq_refl r)
 
 module _ {V : Type 0} (own : V → List BlockRef) (e : Element V) (r : BlockRef) where
   in_list : (items : Slots V) (at : ℕ) → at_item items at ≡ Some e → times r (e.key ∷ own e.value) ≤ times r (flat_map (own_of own) items)
@@ -33,4 +33,4 @@ names_key t at e found = omega (arith, key_within t at e found e.key, self e.key
 
 -- the one block of a packed form is live
 pub packed_live : (m : Blocks) (refs : List BlockRef) (at : BlockRef) → refs ≡ at ∷ [] → Owned refs m → IsSome (m at)
-packed_live m refs at is owned = live-is m at (let one' = subst (λ rs. Owned rs m) is owned at in omega (arith, one', self at))
+packed_live m refs at is owned = live_is_in_change m at (let one' = subst (λ rs. Owned rs m) is owned at in omega (arith, one', self at))

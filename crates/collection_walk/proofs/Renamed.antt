@@ -4,13 +4,13 @@ use Rattle.std.proofs.lemmas.Bool.{cases_eq}
 use Rattle.blocks.specs.declared.BlockRef.{BlockRef}
 use Rattle.blocks.specs.Blocks.{Blocks, times, IsOut, Changes, Owned}
 use Rattle.blocks.proofs.Refs.{cases_ref}
-use Rattle.blocks.proofs.Change.{one_if, Counts, Changes-counted, Counts-changed, Owned-others}
+use Rattle.blocks.proofs.Change.{one_if, Counts, changes_counted, counts_changed, owned_others}
 use Rattle.collection_walk.proofs.Lists.{same_some}
 use Rattle.rehash_dict.specs.Table.{Table, Element, item}
 use Rattle.rehash_dict.specs.Keyed.{Keyed, key_tables}
 use Rattle.rehash_dict.specs.Steps.{Holds, Renames}
 use Rattle.rehash_dict.specs.MapOf.{key_refs, own_of}
-use Rattle.rehash_dict.proofs.MapOf.{refs_changed, key_refs-owned}
+use Rattle.rehash_dict.proofs.MapOf.{refs_changed, key_refs_owned}
 use Rattle.collection_walk.proofs.Named.{names_key, key_within}
 
 module _ {V : Type 0} (m n : Blocks) (old new : Table V) (at : ℕ) (key ref : BlockRef) (value : V) (k : Keyed m old) (h : Holds old at key value) (same : n ref ≡ m key)
@@ -25,7 +25,7 @@ module _ {V : Type 0} (m n : Blocks) (old new : Table V) (at : ℕ) (key ref : B
   bytes_kept = same ∙ ap (λ (e : Element V). m e.key) (sym renamed)
 
   pub other_kept : (other : ℕ) (e : Element V) → other ≢ at → item old other ≡ Some e → n e.key ≡ m e.key
-  other_kept other e apart there = Owned-others m n (key ∷ []) (ref ∷ []) (key_refs old) (key_refs-owned m old k) p e.key (names_key old other e there) out
+  other_kept other e apart there = owned_others m n (key ∷ []) (ref ∷ []) (key_refs old) (key_refs_owned m old k) p e.key (names_key old other e there) out
     where
       out : IsOut e.key (key ∷ [])
       out = elim (cases_ref key e.key) [
@@ -43,16 +43,16 @@ module _ {V : Type 0} (m n : Blocks) (old new : Table V) (at : ℕ) (key ref : B
       omega (arith, both, was)
 
   key_owned : Owned (key ∷ []) m
-  key_owned q = omega (arith, key_within old at element h.found q, key_refs-owned m old k q)
+  key_owned q = omega (arith, key_within old at element h.found q, key_refs_owned m old k q)
 
   pub moved_changes : Changes m n (key_refs old) (key_refs new)
-  moved_changes = Changes-counted m n (key_refs old) (key_refs new) (key_refs-owned m old k) (record {
+  moved_changes = changes_counted m n (key_refs old) (key_refs new) (key_refs_owned m old k) (record {
     balance = λ q. omega (arith, counts.balance q, refs_moved q);
     kept = λ q out_old out_new. counts.kept q (omega (arith, key_within old at element h.found q, out_old)) (omega (arith, refs_moved q, key_within old at element h.found q, out_old, out_new));
   })
     where
       counts : Counts m n (key ∷ []) (ref ∷ [])
-      counts = Counts-changed m n (key ∷ []) (ref ∷ []) key_owned p
+      counts = counts_changed m n (key ∷ []) (ref ∷ []) key_owned p
 
   -- an element stands at each item number at which one stood
   pub items_stand : (i : ℕ) → is_some (item new i) ≡ is_some (item old i)

@@ -3,20 +3,20 @@ use Rattle.std.proofs.Common.{◌≡◌, cond, is_some, inl, inr, ap, List, [], 
 use Rattle.blocks.specs.declared.BlockRef.{BlockRef}
 use Rattle.blocks.specs.Blocks.{Blocks, live, times, IsIn, Changes, Owned}
 use Rattle.blocks.proofs.Times.{times-append}
-use Rattle.blocks.proofs.Change.{cases_in, Changes-beside, Changes-both, Changes-owned, Owned-others, live-once}
+use Rattle.blocks.proofs.Change.{cases_in, changes_beside, changes_both, changes_owned, owned_others, live_once}
 
 module _ (a b c : Blocks) (old new : List BlockRef) (own : Owned old a) (p : Changes a b [] new) where
   pub both_owned : Owned (new ++ old) b
-  both_owned = Changes-owned a b old (new ++ old) (Changes-beside a b [] new old (new ++ old) p own (λ r. times r old) (λ r. omega arith) (λ r. times-append r new old))
+  both_owned = changes_owned a b old (new ++ old) (changes_beside a b [] new old (new ++ old) p own (λ r. times r old) (λ r. omega arith) (λ r. times-append r new old))
 
   pub old_owned : Owned old b
   old_owned r = omega (arith, both_owned r, times-append r new old)
 
   pub new_kept : Changes b c old [] → (r : BlockRef) → IsIn r new → c r ≡ b r
-  new_kept q r isin = Owned-others b c old [] (new ++ old) both_owned q r (omega (arith, isin, times-append r new old)) (omega (arith, isin, both_owned r, times-append r new old, live-once b r))
+  new_kept q r isin = owned_others b c old [] (new ++ old) both_owned q r (omega (arith, isin, times-append r new old)) (omega (arith, isin, both_owned r, times-append r new old, live_once b r))
 
   pub replaced : Changes b c old [] → Changes a c old new
-  replaced q = subst (Changes a c old) (append-nil new) (Changes-both a b c [] new old [] own p q)
+  replaced q = subst (Changes a c old) (append-nil new) (changes_both a b c [] new old [] own p q)
 
 -- ---- blocks beside those that change
 
@@ -29,4 +29,4 @@ still_owned a b list same o r = elim (cases_in r list) [
 
 pub beside : (a b : Blocks) (refs old new : List BlockRef) → Owned (refs ++ old) a → Changes a b old new → (r : BlockRef) → IsIn r refs → b r ≡ a r
 beside a b refs old new o p r isin =
-    Owned-others a b old new (refs ++ old) o p r (omega (arith, isin, times-append r refs old)) (omega (arith, isin, o r, times-append r refs old, live-once a r))
+    owned_others a b old new (refs ++ old) o p r (omega (arith, isin, times-append r refs old)) (omega (arith, isin, o r, times-append r refs old, live_once a r))

@@ -11,8 +11,8 @@ use Rattle.blocks.specs.declared.Moved.{Moved}
 use Rattle.blocks.specs.Blocks.{Blocks, times, IsIn}
 use Rattle.blocks.specs.Slabs.{Heap, wants, per_slab, used_of, needed, Calmer}
 use Rattle.blocks.proofs.Refs.{cases_ref}
-use Rattle.blocks.proofs.Change.{one, cases_in, live-Some, Changes-same}
-use Rattle.blocks.proofs.Sweeps.{Calmer-same}
+use Rattle.blocks.proofs.Change.{one, cases_in, live_some, changes_same}
+use Rattle.blocks.proofs.Sweeps.{calmer_same}
 use Rattle.blocks.proofs.Times.{times-append}
 use Rattle.rehash_dict.specs.Table.{at_item}
 use Rattle.held.specs.declared.databases.Base.{Base}
@@ -305,7 +305,7 @@ module _ {V E : Type 0} (refs_of : Blocks → V → List BlockRef) (marks : Bloc
     -- where no block wants to move, a pass that is swept up to a key is swept up to the next item number
     pub calm_swept : IsSwept (refs_of m) (marks m) bases heap walk → IsSwept (refs_of m) (marks m) bases heap next
     calm_swept s = subst (IsSwept (refs_of m) (marks m) bases heap) is_behind
-        (swept_over refs_of marks tables encoding refs_own marked m m bases bases heap heap walk room passed here_passes (Calmer-same heap) s refl)
+        (swept_over refs_of marks tables encoding refs_own marked m m bases bases heap heap walk room passed here_passes (calmer_same heap) s refl)
 
     -- where no block wants to move, going past a key is one leg of the walk, with a unit for the key's own block
     pub calm_leg : Leg (shapes (marks m) bases) walk (units + 1) next
@@ -342,7 +342,7 @@ module _ {V : Type 0} (refs_of : V → List BlockRef) (marks : V → Marks) wher
   pub all_passed : (bases : Bases V) (blocks : Blocks) (walk : Walk) → ((r : BlockRef) → times r (owned refs_of bases) ≡ live blocks r) → length bases.bases ≡ 16 → walk.database ≡ 16
       → (r : BlockRef) → IsSome (blocks r) → HasPassed refs_of marks bases walk r
   all_passed bases blocks walk owns sixteen ends r is =
-      let own : 0 < times r (owned refs_of bases) = omega (arith, owns r, live-Some blocks r is) in
+      let own : 0 < times r (owned refs_of bases) = omega (arith, owns r, live_some blocks r is) in
       let base = bases_in r bases.bases own in
       let there = table_in r (table_at bases base.0).items base.2 in
       of_database base.0 there.0 there.1 (omega (arith, base.1, sixteen, ends)) there.2 there.3
@@ -374,7 +374,7 @@ module _ {V : Type 0} {IsSound : Limits → ℕ → Blocks → V → Type 0} (re
   relocates_none bases m intact = record {
     means = λ number. refl;
     arranged = intact.arranged;
-    changes = Changes-same m (owned (refs_of m) bases) (λ r. omega (arith, intact.owned r));
+    changes = changes_same m (owned (refs_of m) bases) (λ r. omega (arith, intact.owned r));
     settings = (preserves_none refs_of value_of own m bases bases intact.arranged refl).settings;
     keys = λ number. refl;
     deadlines = λ number. refl;

@@ -5,7 +5,7 @@ use Rattle.std.proofs.lemmas.Bool.{ltb-true, lt-ltb, cond-true, cases_eq}
 use Rattle.std.proofs.lemmas.Bool.Decides.{nat_tests}
 use Rattle.blocks.specs.declared.BlockRef.{BlockRef}
 use Rattle.blocks.specs.Blocks.{IsIn, ref_eq}
-use Rattle.blocks.proofs.Refs.{ref_eq-refl}
+use Rattle.blocks.proofs.Refs.{ref_eq_refl}
 use Rattle.blocks.proofs.Times.{times-append}
 use Rattle.rev_cursor.specs.Place.{place}
 use Rattle.rev_cursor.specs.Span as span
@@ -51,7 +51,7 @@ module _ (t : Table ℕ) (moment : ℕ) where
   here : (at : ℕ) (e : Element ℕ) → item t at ≡ Some e → e.value < moment → IsIn e.key (gone_at moment (item t at))
   here at e is past =
       let one : gone_at moment (item t at) ≡ e.key ∷ [] = ap (gone_at moment) is ∙ cond-true (nat_lt e.value moment) (e.key ∷ []) [] (lt-ltb e.value moment past) in
-      subst (λ l. IsIn e.key l) (sym one) (one_in (ref_eq e.key e.key) (ref_eq-refl e.key))
+      subst (λ l. IsIn e.key l) (sym one) (one_in (ref_eq e.key e.key) (ref_eq_refl e.key))
 
   named : (xs : List ℕ) (at : ℕ) (e : Element ℕ) → item t at ≡ Some e → e.value < moment → 0 < span.times at xs → IsIn e.key (gone_of t moment xs)
   named [] at e is past some = absurd (omega arith)

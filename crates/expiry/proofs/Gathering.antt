@@ -56,9 +56,9 @@ todo_next xs met at next once is h = todo_rest xs met at (after_in at xs) next o
 
 -- ---- the items
 
-pub gone_of-append : (t : Table ℕ) (moment : ℕ) (xs ys : List ℕ) → gone_of t moment (xs ++ ys) ≡ gone_of t moment xs ++ gone_of t moment ys
-gone_of-append t moment [] ys = refl
-gone_of-append t moment (x ∷ xs) ys = ap (λ l. gone_at moment (item t x) ++ l) (gone_of-append t moment xs ys)
+pub gone_of_append : (t : Table ℕ) (moment : ℕ) (xs ys : List ℕ) → gone_of t moment (xs ++ ys) ≡ gone_of t moment xs ++ gone_of t moment ys
+gone_of_append t moment [] ys = refl
+gone_of_append t moment (x ∷ xs) ys = ap (λ l. gone_at moment (item t x) ++ l) (gone_of_append t moment xs ys)
     ∙ sym (append_assoc (gone_at moment (item t x)) (gone_of t moment xs) (gone_of t moment ys))
 
 there : (o : Option (Element ℕ)) (n : ℕ) → (place_in o ≡ None → n ≡ 0) → 0 < n → IsSome o
@@ -107,7 +107,7 @@ module _ (t : Table ℕ) (moment : ℕ) (xs : List ℕ) where
     met = g.met ++ at ∷ [];
     parts = g.parts ∙ sym (append_assoc g.met (at ∷ []) (after_in at xs)) ∙ ap (λ l. (g.met ++ at ∷ []) ++ l) (sym (todo_next xs g.met at next once g.parts h));
     gone = is ∙ ap (λ l. l ++ gone_at moment (item t at)) g.gone ∙ ap (λ l. gone_of t moment g.met ++ l) (sym (append-nil (gone_at moment (item t at))))
-        ∙ sym (gone_of-append t moment g.met (at ∷ []));
+        ∙ sym (gone_of_append t moment g.met (at ∷ []));
     few = few;
   }
 
@@ -122,7 +122,7 @@ module _ (t : Table ℕ) (moment : ℕ) (xs : List ℕ) where
       ∷ gone_of t moment (after_in at xs)
   over at found key value g h lt =
       ap (gone_of t moment) g.parts
-      ∙ gone_of-append t moment g.met (at ∷ after_in at xs)
+      ∙ gone_of_append t moment g.met (at ∷ after_in at xs)
       ∙ ap (λ l. l ++ (gone_at moment (item t at) ++ gone_of t moment (after_in at xs))) (sym g.gone)
       ∙ ap (λ l. found ++ (l ++ gone_of t moment (after_in at xs))) (gone_yes t moment at key value h lt)
 

@@ -8,8 +8,8 @@ use Rattle.rehash_dict.specs.Keyed.{hash_of, key_of, Lacks, Keyed, key_tables}
 use Rattle.rehash_dict.specs.Steps.{Adds}
 use Rattle.rehash_dict.specs.MapOf.{content}
 use Rattle.rehash_dict.specs.Grown.{Grown}
-use Rattle.rehash_dict.proofs.Growing.{Grown-insert, Grown-same}
-use Rattle.rehash_dict.proofs.MapOf.{map_of-adds, map_of-swaps}
+use Rattle.rehash_dict.proofs.Growing.{grown_insert, grown_same}
+use Rattle.rehash_dict.proofs.MapOf.{map_of_adds, map_of_swaps}
 use Rattle.expiry.specs.Changes.{Sets}
 use Rattle.expiry.specs.Changes.Sets.{changes, joins}
 
@@ -31,10 +31,10 @@ module _ (m : Blocks) (t new : Table ℕ) (key : BlockRef) (deadline : ℕ) wher
 
   pub moments_set : Keyed m t → Keyed m new → IsSome (m key) → Sets m t new key deadline → content m new ≡ insert (content m t) (bytes_at m key) deadline
   moments_set k l live (changes at was stands swaps tables) =
-      map_of-swaps m (λ v. v) t new k at was deadline l swaps
+      map_of_swaps m (λ v. v) t new k at was deadline l swaps
       ∙ ap (λ q. insert (content m t) q deadline) (ap (key_of m) stands.found ∙ read m stands.element.key (bytes_at m key) stands.bytes)
-  moments_set k l live (joins at lacks adds tables) = map_of-adds m (λ v. v) t new k at _ l live adds
+  moments_set k l live (joins at lacks adds tables) = map_of_adds m (λ v. v) t new k at _ l live adds
 
   pub grown_set : Keyed m t → Sets m t new key deadline → Grown (hash_of t.seed) (key_tables m t) (key_tables m new)
-  grown_set k (changes at was stands swaps tables) = Grown-same (hash_of t.seed) (key_tables m t) (key_tables m new) tables
-  grown_set k (joins at lacks adds tables) = Grown-insert m t new (bytes_at m key) k lacks tables
+  grown_set k (changes at was stands swaps tables) = grown_same (hash_of t.seed) (key_tables m t) (key_tables m new) tables
+  grown_set k (joins at lacks adds tables) = grown_insert m t new (bytes_at m key) k lacks tables

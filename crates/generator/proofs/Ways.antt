@@ -4,7 +4,7 @@ use Rattle.std.specs.Prelude.{codes}
 use Rattle.std.specs.Fmt.{decimal}
 use Rattle.std.proofs.lemmas.Grind.{flat_map-append}
 use Rattle.digests.specs.Crc.{crc_of}
-use Rattle.digests.proofs.Linear.{crc-append}
+use Rattle.digests.proofs.Linear.{crc_append}
 use Rattle.outside.specs.declared.pacing.Plan.{Plan}
 use Rattle.plain_world.specs.Spelling.{spelling, spelled, line_end}
 use Rattle.plain_world.specs.Words.{Words, IsRequest}
@@ -130,7 +130,7 @@ pub sum_more : (crc sum : ℕ) (replies : List (List Part)) (reply : List Part) 
 sum_more crc sum replies reply is more =
     let S : ℕ → ℕ = λ s. crc_of s (spelling reply) in
     let B : List ℕ → ℕ = λ bytes. crc_of 0 bytes in
-    more ∙ ap S is ∙ crc-append 0 (spelled replies) (spelling reply) ∙ ap B (sym (spelled_more replies reply))
+    more ∙ ap S is ∙ crc_append 0 (spelled replies) (spelling reply) ∙ ap B (sym (spelled_more replies reply))
 
 pub sum_none : 0 ≡ crc_of 0 (spelled [])
 unfolding crc_of

@@ -5,7 +5,7 @@ use Rattle.std.specs.Ordering.{nat_cmp}
 use Rattle.std.specs.Cmp.Lexicographic.{slice_cmp}
 use Rattle.blocks.specs.declared.BlockRef.{BlockRef}
 use Rattle.blocks.specs.Blocks.{Blocks, IsIn, bytes_at, Changes}
-use Rattle.blocks.proofs.Change.{Changes-owned}
+use Rattle.blocks.proofs.Change.{changes_owned}
 use Rattle.collection_walk.proofs.Replaced.{new_kept, replaced}
 use Rattle.object_codec.specs.declared.limits.Limits.{Limits}
 use Rattle.object_codec.specs.declared.form.Form.TheVariants.{Listpack, Hashtable}
@@ -14,7 +14,7 @@ use Rattle.pack_pairs.proofs.Maps.{map_len}
 use Rattle.rehash_dict.specs.Table.{table_len}
 use Rattle.rehash_dict.specs.Keyed.{hash_of}
 use Rattle.rehash_dict.specs.Grown.{Grown}
-use Rattle.rehash_dict.proofs.MapOf.{len-map_of}
+use Rattle.rehash_dict.proofs.MapOf.{len_map_of}
 use Rattle.hash_object.specs.declared.fields.Body.{Body}
 use Rattle.hash_object.specs.declared.fields.Body.TheVariants.{Empty, Pack, Table}
 use Rattle.hash_object.specs.declared.fields.Fields.{Fields}
@@ -45,7 +45,7 @@ body_len (Table t) = table_len t
 pub len_of : (m : Blocks) (limits : Limits) (seed : ℕ) (body : Body) → IsBody m limits seed body → body_len body ≡ len (fields_of m body)
 len_of m limits seed Empty is = sym (len-empty (slice_cmp nat_cmp) (List ℕ))
 len_of m limits seed (Pack packed) is = is.counted ∙ sym (map_len (pairs (bytes_at m packed.at)) is.once)
-len_of m limits seed (Table t) is = sym (len-map_of m (λ v. bytes_at m v) t is.keyed)
+len_of m limits seed (Table t) is = sym (len_map_of m (λ v. bytes_at m v) t is.keyed)
 
 -- ---- another body was placed, and the blocks of the old one were given back
 
@@ -55,7 +55,7 @@ body_changed a b c f body map sound is p q fields_are grown =
     let kept = body_kept b c f.limits f.seed body is (new_kept a b c (refs f) (refs_of_body body) sound.owned p q) in
     let changes = replaced a b c (refs f) (refs_of_body body) sound.owned p q in
     record {
-      sound = record { limits = sound.limits; owned = Changes-owned a c (refs f) (refs_of_body body) changes; body = kept.0 };
+      sound = record { limits = sound.limits; owned = changes_owned a c (refs f) (refs_of_body body) changes; body = kept.0 };
       fields_are = kept.1 ∙ fields_are;
       changes = changes;
       grown = subst (Grown (hash_of f.seed) (tables a f)) (sym kept.2) grown;

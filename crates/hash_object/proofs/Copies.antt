@@ -4,13 +4,13 @@ use Rattle.std.proofs.lemmas.List.{take_all}
 use Rattle.std.specs.FinMap.{insert, get, empty}
 use Rattle.blocks.specs.declared.BlockRef.{BlockRef}
 use Rattle.blocks.specs.Blocks.{Blocks, bytes_at, with_block, IsIn, Changes, Owned}
-use Rattle.blocks.proofs.Change.{Owned-others, Changes-same}
+use Rattle.blocks.proofs.Change.{owned_others, changes_same}
 use Rattle.pack_pairs.specs.Pairs.{Pair, second_of, map_of_pairs}
 use Rattle.pack_pairs.proofs.Lists.{no_pair}
 use Rattle.pack_pairs.proofs.Maps.{get_pairs, once_before, map_more}
 use Rattle.rehash_dict.specs.Table.{Element, item}
 use Rattle.rehash_dict.specs.Keyed.{Keyed, Lacks, hash_of}
-use Rattle.rehash_dict.proofs.Growing.{Grown-same}
+use Rattle.rehash_dict.proofs.Growing.{grown_same}
 use Rattle.hash_object.specs.declared.fields.Packed.{Packed}
 use Rattle.hash_object.specs.declared.fields.Body.TheVariants.{Empty, Pack}
 use Rattle.hash_object.specs.declared.fields.Fields.{Fields}
@@ -30,7 +30,7 @@ pairs_before m t at = take (rank t.items at) (entries_in m t)
 
 module _ (m mid : Blocks) (seed : ℕ) (t u : FieldTable) (at : ℕ) (k : Keyed m t) (owned : Owned (blocks_of t) m) (p : IsHashed m mid (no_fields seed) u (map_of_pairs (pairs_before m t at))) where
   source_same : (r : BlockRef) → IsIn r (blocks_of t) → mid r ≡ m r
-  source_same r isin = Owned-others m mid [] (blocks_of u) (blocks_of t) owned p.changes r isin refl
+  source_same r isin = owned_others m mid [] (blocks_of u) (blocks_of t) owned p.changes r isin refl
 
   pub source_keyed : Keyed mid t
   source_keyed = (table_kept m mid t k source_same).0
@@ -81,8 +81,8 @@ pub empty_copied : (m : Blocks) (f : Fields) → f.body ≡ Empty → IsPlacedBo
 empty_copied m f is = record {
   sound = tt;
   fields_are = ap (fields_of m) (sym is);
-  changes = Changes-same m [] (λ r. omega arith);
-  grown = Grown-same (hash_of f.seed) no_tables no_tables refl;
+  changes = changes_same m [] (λ r. omega arith);
+  grown = grown_same (hash_of f.seed) no_tables no_tables refl;
 }
 
 -- what an element gives

@@ -10,12 +10,12 @@ use Rattle.blocks.proofs.Sums.{count_cons}
 use Rattle.collection_walk.proofs.Lists.{get_below, some_none}
 use Rattle.object_codec.specs.declared.limits.Limits.{Limits}
 use Rattle.pack_pairs.specs.Pairs.{Pair, IsOnce, second_of, map_of_pairs}
-use Rattle.pack_pairs.proofs.Maps.{tied, tied-true, tied-same, get_pairs, map_len}
+use Rattle.pack_pairs.proofs.Maps.{tied, tied_true, tied_same, get_pairs, map_len}
 use Rattle.rehash_dict.specs.Table.{Element, item}
 use Rattle.rehash_dict.specs.MapOf.{pair_of, map_of}
 use Rattle.rehash_dict.specs.Keyed.{Keyed}
 use Rattle.rehash_dict.proofs.Keys.{live_bytes}
-use Rattle.rehash_dict.proofs.MapOf.{len-map_of, map_of-stands, map_of-has}
+use Rattle.rehash_dict.proofs.MapOf.{len_map_of, map_of_stands, map_of_has}
 use Rattle.hash_object.specs.declared.fields.Body.{Body}
 use Rattle.hash_object.specs.declared.fields.Body.TheVariants.{Empty, Pack, Table}
 use Rattle.hash_object.specs.declared.fields.Fields.{Fields}
@@ -59,7 +59,7 @@ once_of_len (p ∷ rest) h = elim (cases_Bool (is_some (get (map_of_pairs rest) 
 list_found : (list : List Pair) (k v : List ℕ) → second_of k list ≡ Some v → (i : ℕ) × (slice_get list i ≡ Some (k, v))
 list_found [] k v h = absurd (some_none None v h refl)
 list_found (p ∷ rest) k v h = elim (cases_Bool (tied k p.0)) [
-  | inl t ↦ (let same : p.1 ≡ v = (let e : Some p.1 ≡ Some v = sym (cond-true _ _ _ t) ∙ h in cc) in (0, (λ j. Some (sym (tied-true k p.0 t) j, same j))))
+  | inl t ↦ (let same : p.1 ≡ v = (let e : Some p.1 ≡ Some v = sym (cond-true _ _ _ t) ∙ h in cc) in (0, (λ j. Some (sym (tied_true k p.0 t) j, same j))))
   | inr f ↦ (let q = list_found rest k v (sym (cond-false _ _ _ f) ∙ h) in (suc q.0, q.1))
 ]
 
@@ -67,7 +67,7 @@ list_there : (list : List Pair) (i : ℕ) (k v : List ℕ) → slice_get list i 
 list_there [] i k v is none = cc
 list_there (p ∷ rest) zero k v is none =
     let key : p.0 ≡ k = (let e : Some p ≡ Some (k, v) = is in ap (λ (o : Option Pair). (unwrap_or o (k, v)).0) e) in
-    some_none (second_of k (p ∷ rest)) p.1 (cond-true _ _ _ (tied-same k p.0 (sym key))) none
+    some_none (second_of k (p ∷ rest)) p.1 (cond-true _ _ _ (tied_same k p.0 (sym key))) none
 list_there (p ∷ rest) (suc i) k v is none = elim (cases_Bool (tied k p.0)) [
   | inl t ↦ some_none (second_of k (p ∷ rest)) p.1 (cond-true _ _ _ t) none
   | inr f ↦ list_there rest i k v is (sym (cond-false _ _ _ f) ∙ none)
@@ -77,9 +77,9 @@ list_has : (list : List Pair) (i : ℕ) (k v : List ℕ) → IsOnce list → sli
 list_has [] i k v once is = cc
 list_has (p ∷ rest) zero k v once is =
     let same : p ≡ (k, v) = (let e : Some p ≡ Some (k, v) = is in ap (λ (o : Option Pair). unwrap_or o (k, v)) e) in
-    cond-true _ _ _ (tied-same k p.0 (sym (ap (λ (q : Pair). q.0) same))) ∙ ap (λ (q : Pair). Some q.1) same
+    cond-true _ _ _ (tied_same k p.0 (sym (ap (λ (q : Pair). q.0) same))) ∙ ap (λ (q : Pair). Some q.1) same
 list_has (p ∷ rest) (suc i) k v once is = elim (cases_Bool (tied k p.0)) [
-  | inl t ↦ absurd (list_there rest i k v is (ap (λ q. second_of q rest) (tied-true k p.0 t) ∙ once.0))
+  | inl t ↦ absurd (list_there rest i k v is (ap (λ q. second_of q rest) (tied_true k p.0 t) ∙ once.0))
   | inr f ↦ cond-false _ _ _ f ∙ list_has rest i k v once.1 is
 ]
 
@@ -106,7 +106,7 @@ slots_len m (None ∷ items) = omega (arith, slots_len m items, count_cons (is_s
 slots_len m (Some e ∷ items) = omega (arith, slots_len m items, count_cons is_some (Some e) items)
 
 pub table_once : (m : Blocks) (t : FieldTable) → Keyed m t → IsOnce (entries_in m t)
-table_once m t k = once_of_len (entries_in m t) (ap len (sym (table_listed m t)) ∙ len-map_of m (λ v. bytes_at m v) t k ∙ sym (slots_len m t.items))
+table_once m t k = once_of_len (entries_in m t) (ap len (sym (table_listed m t)) ∙ len_map_of m (λ v. bytes_at m v) t k ∙ sym (slots_len m t.items))
 
 -- the fields of a hash are those of its list, in which none stands twice
 pub listed_is : (m : Blocks) (limits : Limits) (seed : ℕ) (body : Body) → IsBody m limits seed body → (fields_of m body ≡ map_of_pairs (listed_of m body)) × IsOnce (listed_of m body)
@@ -128,11 +128,11 @@ module _ (m : Blocks) (t : FieldTable) (k : Keyed m t) where
 
   table_found : (x v : List ℕ) → get (fields_in m t) x ≡ Some v → (at : ℕ) × (entry_at m (item t at) ≡ Some (x, v))
   table_found x v h =
-      let p = map_of-has m (λ a. bytes_at m a) t x v k h in
+      let p = map_of_has m (λ a. bytes_at m a) t x v k h in
       (p.0.at, ap (entry_at m) p.0.found ∙ (λ j. Some (ap (λ o. unwrap_or o []) p.0.bytes j, p.1 j)))
 
   table_has : (at : ℕ) (x v : List ℕ) → entry_at m (item t at) ≡ Some (x, v) → get (fields_in m t) x ≡ Some v
-  table_has at x v h = let p = entry_some m (item t at) x v h in map_of-stands m (λ a. bytes_at m a) t at p.0 x k p.1 (key_live at p.0 x p.1 p.2) ∙ ap Some p.3
+  table_has at x v h = let p = entry_some m (item t at) x v h in map_of_stands m (λ a. bytes_at m a) t at p.0 x k p.1 (key_live at p.0 x p.1 p.2) ∙ ap Some p.3
 
   table_apart : (at other : ℕ) (x v w : List ℕ) → entry_at m (item t at) ≡ Some (x, v) → entry_at m (item t other) ≡ Some (x, w) → at ≡ other
   table_apart at other x v w h l =

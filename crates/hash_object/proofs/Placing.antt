@@ -9,7 +9,7 @@ use Rattle.std.specs.Prelude.{IfSome, OnOk}
 use Rattle.std.specs.FinMap.{insert, remove, entries, len, get-empty, contains_key, len-insert, empty_of_len}
 use Rattle.blocks.specs.declared.BlockRef.{BlockRef}
 use Rattle.blocks.specs.Blocks.{Blocks, bytes_at, with_block, Changes}
-use Rattle.blocks.proofs.Change.{Changes-same, Changes-owned}
+use Rattle.blocks.proofs.Change.{changes_same, changes_owned}
 use Rattle.object_codec.specs.Limits.{AreInRange}
 use Rattle.object_codec.specs.declared.limits.Limits.{Limits}
 use Rattle.object_codec.specs.declared.form.Form.{Form}
@@ -23,7 +23,7 @@ use Rattle.pack_pairs.proofs.Maps.{longest_seconded, longest_removed}
 use Rattle.rehash_dict.specs.Keyed.{hash_of}
 use Rattle.rehash_dict.specs.Tables.{IsSettled}
 use Rattle.rehash_dict.proofs.Fresh.{placed_bytes}
-use Rattle.rehash_dict.proofs.Growing.{Grown-same}
+use Rattle.rehash_dict.proofs.Growing.{grown_same}
 use Rattle.hash_object.specs.declared.fields.Body.{Body}
 use Rattle.hash_object.specs.declared.fields.Body.TheVariants.{Empty, Pack, Table}
 use Rattle.hash_object.specs.declared.fields.Packed.{Packed}
@@ -184,10 +184,10 @@ pub pack_changed : (m n : Blocks) (self : Fields) (at : BlockRef) (count : ℕ) 
 pack_changed m n self at count bytes map sound packed read changes whole =
     let same : bytes_at n at ≡ bytes = ap (λ o. unwrap_or o []) read in
     record {
-      sound = record { limits = sound.limits; owned = Changes-owned m n (refs self) (at ∷ []) changes; body = subst (IsFieldPack self.limits count) (sym same) whole.0 };
+      sound = record { limits = sound.limits; owned = changes_owned m n (refs self) (at ∷ []) changes; body = subst (IsFieldPack self.limits count) (sym same) whole.0 };
       fields_are = ap (λ bs. map_of_pairs (pairs bs)) same ∙ whole.1;
       changes = changes;
-      grown = Grown-same (hash_of self.seed) (tables m self) no_tables (sym (packed_tables m self.body (λ t is. packed (ap form_of_body is))));
+      grown = grown_same (hash_of self.seed) (tables m self) no_tables (sym (packed_tables m self.body (λ t is. packed (ap form_of_body is))));
       settings = record { limits = refl; seed = refl };
     }
 
@@ -206,7 +206,7 @@ module _ (m n : Blocks) (self : Fields) (at : BlockRef) (count : ℕ) (bytes : L
         sound = subst (IsFieldPack self.limits count) (sym same) whole;
         fields_are = ap (λ bs. map_of_pairs (pairs bs)) same ∙ is;
         changes = changes;
-        grown = Grown-same (hash_of self.seed) no_tables no_tables refl;
+        grown = grown_same (hash_of self.seed) no_tables no_tables refl;
       }
 
   module _ (k : List ℕ) (sound : IsFields m self) where
@@ -237,8 +237,8 @@ pub none_left : (m : Blocks) (self : Fields) (map : FieldMap) → len map ≡ 0 
 none_left m self map none = record {
   sound = tt;
   fields_are = sym (empty_of_len map none);
-  changes = Changes-same m [] (λ r. omega arith);
-  grown = Grown-same (hash_of self.seed) no_tables no_tables refl;
+  changes = changes_same m [] (λ r. omega arith);
+  grown = grown_same (hash_of self.seed) no_tables no_tables refl;
 }
 
 -- where the only field of a packed hash is taken out, the empty body is placed for what is left

@@ -6,13 +6,13 @@ use Rattle.blocks.specs.Blocks.{Blocks, times, IsOut, IsIn, bytes_at, Changes, O
 use Rattle.blocks.specs.Slabs.{Heap, wants, Calmer}
 use Rattle.blocks.proofs.Refs.{cases_ref}
 use Rattle.blocks.proofs.Times.{times-append}
-use Rattle.blocks.proofs.Change.{one_if, Counts, live-once, Changes-same, Changes-then, Changes-counted, Counts-changed, Owned-others}
+use Rattle.blocks.proofs.Change.{one_if, Counts, live_once, changes_same, changes_then, changes_counted, counts_changed, owned_others}
 use Rattle.object_codec.specs.declared.limits.Limits.{Limits}
 use Rattle.rehash_dict.specs.Table.{Element, at_item, item, Updates}
 use Rattle.rehash_dict.specs.Keyed.{Keyed, key_tables}
 use Rattle.rehash_dict.specs.Steps.{Holds, Renames, Swaps}
-use Rattle.rehash_dict.proofs.Keys.{Keyed-frame}
-use Rattle.rehash_dict.proofs.MapOf.{map_of-same, refs_changed}
+use Rattle.rehash_dict.proofs.Keys.{keyed_frame}
+use Rattle.rehash_dict.proofs.MapOf.{map_of_same, refs_changed}
 use Rattle.hash_object.specs.declared.fields.Packed.{Packed}
 use Rattle.hash_object.specs.declared.fields.Body.TheVariants.{Pack}
 use Rattle.hash_object.specs.Hashed.{FieldTable, fields_in, blocks_of}
@@ -29,7 +29,7 @@ settled_same m t stays k owned = record {
   keyed = k;
   fields_are = refl;
   tables_are = refl;
-  changes = Changes-same m (blocks_of t) owned;
+  changes = changes_same m (blocks_of t) owned;
   seed = refl;
   top = refl;
   same_items = λ at. refl;
@@ -74,7 +74,7 @@ module _ (m n : Blocks) (old new : FieldTable) (at : ℕ) (e g : Element BlockRe
     (mine : 0 < times was (e.key ∷ e.value ∷ [])) (p : Changes m n (was ∷ []) (ref ∷ [])) where
   -- the block that moved stands at most once among the dictionary's blocks
   was_once : times was (blocks_of old) ≤ 1
-  was_once = omega (arith, owned was, live-once m was)
+  was_once = omega (arith, owned was, live_once m was)
 
   -- the block that moved is one of the dictionary's
   was_within : (q : BlockRef) → times q (was ∷ []) ≤ times q (blocks_of old)
@@ -94,7 +94,7 @@ module _ (m n : Blocks) (old new : FieldTable) (at : ℕ) (e g : Element BlockRe
 
   -- the dictionary's blocks other than the one that moved keep their bytes
   kept : (r : BlockRef) → IsIn r (blocks_of old) → times was (r ∷ []) ≡ 0 → n r ≡ m r
-  kept r isin none = Owned-others m n (was ∷ []) (ref ∷ []) (blocks_of old) owned p r isin (apart_from r was none)
+  kept r isin none = owned_others m n (was ∷ []) (ref ∷ []) (blocks_of old) owned p r isin (apart_from r was none)
 
   -- the blocks of the elements at other item numbers keep their bytes
   pub others_kept : (i : ℕ) (f : Element BlockRef) → i ≢ at → item old i ≡ Some f → (n f.key ≡ m f.key) × (n f.value ≡ m f.value)
@@ -122,17 +122,17 @@ module _ (m n : Blocks) (old new : FieldTable) (at : ℕ) (e g : Element BlockRe
 
     -- between the two stores the old dictionary's blocks give way to the new one's, and nothing else changes
     moved_changes : Changes m n (blocks_of old) (blocks_of new)
-    moved_changes = Changes-counted m n (blocks_of old) (blocks_of new) owned (record {
+    moved_changes = changes_counted m n (blocks_of old) (blocks_of new) owned (record {
       balance = λ q. omega (arith, counts.balance q, refs_moved q);
       kept = λ q out_old out_new. counts.kept q (omega (arith, was_within q, out_old)) (omega (arith, refs_moved q, was_within q, out_old, out_new));
     })
       where
         counts : Counts m n (was ∷ []) (ref ∷ [])
-        counts = Counts-changed m n (was ∷ []) (ref ∷ []) was_owned p
+        counts = counts_changed m n (was ∷ []) (ref ∷ []) was_owned p
 
     -- where the new block has the bytes of the one that moved, the dictionary has the same fields and values
     fields_kept : fields_in n new ≡ fields_in m old
-    fields_kept = map_of-same m n (λ at. bytes_at m at) (λ at. bytes_at n at) old new k l
+    fields_kept = map_of_same m n (λ at. bytes_at m at) (λ at. bytes_at n at) old new k l
         (λ i f there. elim (cases_eq i at) [
           | inl here ↦ (let one' : e ≡ f = is_one (item old at) e f found (ap (item old) (sym here) ∙ there) in
               (at, g, u.changed, key_is ∙ ap (λ (x : Element BlockRef). m x.key) one', ap (λ o. unwrap_or o []) (value_is ∙ ap (λ (x : Element BlockRef). m x.value) one')))
@@ -191,8 +191,8 @@ module _ (old new : FieldTable) (at : ℕ) (e g : Element BlockRef) (found : ite
 -- the two blocks of an element are apart
 twins_apart : (m : Blocks) (t : FieldTable) (at : ℕ) (e : Element BlockRef) → Owned (blocks_of t) m → item t at ≡ Some e → (times e.key (e.value ∷ []) ≡ 0) × (times e.value (e.key ∷ []) ≡ 0)
 twins_apart m t at e owned found = (
-  omega (arith, entry_within value_block t at e found e.key, owned e.key, live-once m e.key, self e.key),
-  omega (arith, entry_within value_block t at e found e.value, owned e.value, live-once m e.value, self e.value),
+  omega (arith, entry_within value_block t at e found e.key, owned e.key, live_once m e.key, self e.key),
+  omega (arith, entry_within value_block t at e found e.value, owned e.value, live_once m e.value, self e.value),
 )
 
 -- the block of a field moved
@@ -207,7 +207,7 @@ field_settled m n old new at key ref value k owned h same p r =
     let mine : 0 < times key (key ∷ value ∷ []) = omega (arith, self key) in
     let kept = r.keyed m n k (same ∙ ap (λ (x : Element BlockRef). m x.key) (sym one')) (λ i f apart there. (others_kept m n old new at e g key ref k owned h.found mine p i f apart there).0) in
     entry_settled m n old new at e g key ref k owned h.found mine p u kept.0 kept.1 r.seed r.top same
-    (Owned-others m n (key ∷ []) (ref ∷ []) (blocks_of old) owned p value (has_value old at e h.found) (twins_apart m old at e owned h.found).1)
+    (owned_others m n (key ∷ []) (ref ∷ []) (blocks_of old) owned p value (has_value old at e h.found) (twins_apart m old at e owned h.found).1)
     (λ q. omega arith) (λ mark. mark ≢ 2 * at) (stays_field old new at e g h.found u refl)
   where
     is_one : (o : Option (Element BlockRef)) (a b : Element BlockRef) → o ≡ Some a → o ≡ Some b → a ≡ b
@@ -229,8 +229,8 @@ value_settled m n old new at was ref k owned same p s keyed tables =
     let e : Element BlockRef = record { key = s.key; hash = s.hash; value = was } in
     let g : Element BlockRef = record { key = s.key; hash = s.hash; value = ref } in
     let mine : 0 < times was (s.key ∷ was ∷ []) = omega (arith, self was) in
-    let key_same : n s.key ≡ m s.key = Owned-others m n (was ∷ []) (ref ∷ []) (blocks_of old) owned p s.key (has_key old at e s.found) (twins_apart m old at e owned s.found).0 in
-    let frame = Keyed-frame m n old k (λ i f there. elim (cases_eq i at) [
+    let key_same : n s.key ≡ m s.key = owned_others m n (was ∷ []) (ref ∷ []) (blocks_of old) owned p s.key (has_key old at e s.found) (twins_apart m old at e owned s.found).0 in
+    let frame = keyed_frame m n old k (λ i f there. elim (cases_eq i at) [
       | inl here ↦
           (let one' : e ≡ f = is_one (item old at) e f s.found (ap (item old) (sym here) ∙ there) in ap (λ (x : Element BlockRef). n x.key) (sym one') ∙ key_same
           ∙ ap (λ (x : Element BlockRef). m x.key) one')
@@ -274,7 +274,7 @@ settled_more a b c t u v start k low p q = record {
   keyed = q.keyed;
   fields_are = q.fields_are ∙ p.fields_are;
   tables_are = q.tables_are ∙ p.tables_are;
-  changes = Changes-then a b c (blocks_of t) (blocks_of u) (blocks_of v) p.changes q.changes;
+  changes = changes_then a b c (blocks_of t) (blocks_of u) (blocks_of v) p.changes q.changes;
   seed = q.seed ∙ p.seed;
   top = q.top ∙ p.top;
   same_items = λ i. q.same_items i ∙ p.same_items i;

@@ -5,15 +5,15 @@ use Rattle.std.proofs.lemmas.Bool.{cases_eq, eq-eqb, ne_eqb, cond-true, cond-fal
 use Rattle.blocks.specs.declared.BlockRef.{BlockRef}
 use Rattle.std.specs.FinMap.{get, insert, remove}
 use Rattle.blocks.specs.Blocks.{Blocks, ref_eq, times, Changes}
-use Rattle.blocks.proofs.Refs.{ref_eq-refl}
+use Rattle.blocks.proofs.Refs.{ref_eq_refl}
 use Rattle.blocks.proofs.Times.{times-append, times_changed}
-use Rattle.blocks.proofs.Change.{one_if, live-once, Counts-changed, Owned-others}
+use Rattle.blocks.proofs.Change.{one_if, live_once, counts_changed, owned_others}
 use Rattle.object_codec.specs.Limits.{AreInRange}
 use Rattle.plain_world.specs.Worlds.{Value, Database, with_base, put}
 use Rattle.rehash_dict.specs.Keyed.{key_of}
 use Rattle.rehash_dict.specs.Table.{at_item}
-use Rattle.rehash_dict.proofs.Keys.{Keyed-frame}
-use Rattle.rehash_dict.proofs.MapOf.{map_of-frame, map_of-adds, map_of-swaps, refs_changed}
+use Rattle.rehash_dict.proofs.Keys.{keyed_frame}
+use Rattle.rehash_dict.proofs.MapOf.{map_of_frame, map_of_adds, map_of_swaps, refs_changed}
 use Rattle.expiry.specs.Timed.{Timed, moments}
 use Rattle.held.specs.declared.databases.Base.{Base}
 use Rattle.held.specs.Table.{Table, Element, item, Lacks, Keyed, Adds, Swaps, Removes, own_of, refs, map_of}
@@ -170,24 +170,24 @@ module _ {V : Type 0} {IsSound : Limits → ℕ → Blocks → V → Type 0} (re
     -- what is named and doesn't change keeps its bytes
     pub kept_named : (r : BlockRef) → 0 < times r (owned (refs_of m) bases) + times r out → times r xs ≡ 0 → after r ≡ m r
     kept_named r named apart =
-        Owned-others m after xs ys (owned (refs_of m) bases ++ out) (λ q. omega (arith, times-append q (owned (refs_of m) bases) out, intact.owned q)) p r
+        owned_others m after xs ys (owned (refs_of m) bases ++ out) (λ q. omega (arith, times-append q (owned (refs_of m) bases) out, intact.owned q)) p r
         (omega (arith, times-append r (owned (refs_of m) bases) out, named)) apart
 
     module _ (part : (r : BlockRef) → times r xs ≤ times r out) where
       -- what changes was out, so what the databases own stays
       pub kept_inside : (r : BlockRef) → 0 < times r (owned (refs_of m) bases) → after r ≡ m r
-      kept_inside r named = kept_named r (omega (arith, named)) (omega (arith, named, intact.owned r, live-once m r, part r))
+      kept_inside r named = kept_named r (omega (arith, named)) (omega (arith, named, intact.owned r, live_once m r, part r))
 
       -- where only blocks that were out change, each element's key keeps its bytes and its value its meaning
       kept_table : (db at : ℕ) (e : Element V) → item (table_at bases db) at ≡ Some e → (after e.key ≡ m e.key) × (value_of after e.value ≡ value_of m e.value)
       kept_table db at e found =
           let named : (r : BlockRef) → 0 < times r (e.key ∷ refs_of m e.value)
           → after r ≡ m r = (λ r one. kept_inside r (omega (arith, one, named_in (refs_of m) (table_at bases db) at e r found, table_owned (refs_of m) bases db r))) in
-          (named e.key (let itself : one_if (ref_eq e.key e.key) ≡ 1 = cond-true _ _ _ (ref_eq-refl e.key) in omega (arith, itself)), own.means m after e.value (λ r one. named r (omega (arith, one))))
+          (named e.key (let itself : one_if (ref_eq e.key e.key) ≡ 1 = cond-true _ _ _ (ref_eq_refl e.key) in omega (arith, itself)), own.means m after e.value (λ r one. named r (omega (arith, one))))
 
       -- where only blocks that were out change, the keys of each table stay live blocks whose bytes differ
       kept_keyed : (db : ℕ) → Keyed after (table_at bases db)
-      kept_keyed db = (Keyed-frame m after (table_at bases db) (intact.arranged.keyed db) (λ at e found. (kept_table db at e found).0)).0
+      kept_keyed db = (keyed_frame m after (table_at bases db) (intact.arranged.keyed db) (λ at e found. (kept_table db at e found).0)).0
 
       -- where only blocks that were out change, each deadline stays that of a key, and all mean what they meant
       pub kept_timed : (db : ℕ) → IsTimed after (table_at bases db) (deadlines_at bases db) × (moments after (deadlines_at bases db) ≡ moments m (deadlines_at bases db))
@@ -226,7 +226,7 @@ module _ {V : Type 0} {IsSound : Limits → ℕ → Blocks → V → Type 0} (re
 
       -- where only blocks that were out change, each key table means the keys and values that it meant
       values_out : (db : ℕ) → map_of after (value_of after) (table_at bases db) ≡ map_of m (value_of m) (table_at bases db)
-      values_out db = map_of-frame m after (value_of m) (value_of after) (table_at bases db) (intact.arranged.keyed db) (kept_keyed db) (kept_table db)
+      values_out db = map_of_frame m after (value_of m) (value_of after) (table_at bases db) (intact.arranged.keyed db) (kept_keyed db) (kept_table db)
 
       -- where only blocks that were out change, each database means what it meant
       pub base_out : (db : ℕ) → base_means value_of after (base_at bases db) ≡ base_means value_of m (base_at bases db)
@@ -239,7 +239,7 @@ module _ {V : Type 0} {IsSound : Limits → ℕ → Blocks → V → Type 0} (re
       -- the references that are out afterwards
       pub intact_out : (later : List BlockRef) → ((r : BlockRef) → times r later + times r xs ≡ times r out + times r ys) → IsIntact refs_of IsSound bases after later
       intact_out later same = record {
-        owned = λ r. omega (arith, intact.owned r, same r, ap (times r) owned_out, (Counts-changed m after xs ys (λ q. omega (arith, intact.owned q, part q)) p).balance r);
+        owned = λ r. omega (arith, intact.owned r, same r, ap (times r) owned_out, (counts_changed m after xs ys (λ q. omega (arith, intact.owned q, part q)) p).balance r);
         arranged = arranged_out;
       }
 
@@ -318,7 +318,7 @@ module _ {V : Type 0} {IsSound : Limits → ℕ → Blocks → V → Type 0} (re
           → means value_of db new m ≡ put (means value_of db old m) key (record { value = value_of m value; deadline = deadline })
       swapped_means c keyed was value s key bytes deadline lasts =
           put_means c.base key (value_of m value) deadline
-          (map_of-swaps m (value_of m) (table_at old db) (table_at new db) (a.keyed db) at was value keyed s
+          (map_of_swaps m (value_of m) (table_at old db) (table_at new db) (a.keyed db) at was value keyed s
           ∙ ap (λ k. insert (map_of m (value_of m) (table_at old db)) k (value_of m value)) (ap (key_of m) s.found ∙ some_bytes m s.key key bytes))
           (ap (moments m) c.deadlines ∙ sym (same_deadline (moments m (deadlines_at old db)) key deadline lasts))
 
@@ -328,7 +328,7 @@ module _ {V : Type 0} {IsSound : Limits → ℕ → Blocks → V → Type 0} (re
           → means value_of db new m ≡ put (means value_of db old m) key (record { value = value_of m e.value; deadline = deadline })
       joined_means c keyed e adds key bytes deadline times =
           put_means c key (value_of m e.value) deadline
-          (map_of-adds m (value_of m) (table_at old db) (table_at new db) (a.keyed db) at e keyed (ap is_some bytes) adds
+          (map_of_adds m (value_of m) (table_at old db) (table_at new db) (a.keyed db) at e keyed (ap is_some bytes) adds
           ∙ ap (λ k. insert (map_of m (value_of m) (table_at old db)) k (value_of m e.value)) (some_bytes m e.key key bytes)) times
 
     -- a key's deadline is set, or goes
@@ -355,7 +355,7 @@ module _ {V : Type 0} {IsSound : Limits → ℕ → Blocks → V → Type 0} (re
   pub sound_after : (old new : Bases V) (m after : Blocks) (xs part all out : List BlockRef) → SoundBeside refs_of IsSound old m all → AreParts all part out
       → AreParts xs (owned (refs_of m) old) part → Changes m after xs (owned (refs_of after) new) → IsArranged IsSound new after → SoundBeside refs_of IsSound new after out
   sound_after old new m after xs part all out sound parts taken p arranged = record {
-    owns = λ r. omega (arith, sound.owns r, parts r, taken r, (Counts-changed m after xs (owned (refs_of after) new) (λ q. omega (arith, sound.owns q, parts q, taken q)) p).balance r);
+    owns = λ r. omega (arith, sound.owns r, parts r, taken r, (counts_changed m after xs (owned (refs_of after) new) (λ q. omega (arith, sound.owns q, parts q, taken q)) p).balance r);
     arranged = arranged;
   }
 

@@ -7,8 +7,8 @@ use Rattle.std.proofs.lemmas.Bool.{cases_eq}
 use Rattle.blocks.specs.declared.BlockRef.{BlockRef}
 use Rattle.blocks.specs.Blocks.{Blocks, times, live, bytes_at, with_block, no_blocks, no_step, Changes, Owned}
 use Rattle.blocks.proofs.Times.{times-append}
-use Rattle.blocks.proofs.Refs.{with_block-same}
-use Rattle.blocks.proofs.Change.{with_block-undone, Counts-ended, Changes-counted, Changes-same, Changes-then, Changes-beside}
+use Rattle.blocks.proofs.Refs.{with_block_same}
+use Rattle.blocks.proofs.Change.{with_block_undone, counts_ended, changes_counted, changes_same, changes_then, changes_beside}
 use Rattle.object_codec.specs.Limits.{AreInRange}
 use Rattle.plain_world.specs.Worlds.{Value, Entry, with_base, look, put, Database, in_time, deadline_of}
 use Rattle.plain_world.specs.Worlds as model
@@ -24,11 +24,11 @@ use Rattle.stored.specs.Owning.{ReadsOwn, IsBlank}
 use Rattle.held.specs.Sound.{IsTimed, HasSeed, IsArranged, IsIntact, IsIntactWith, SoundBeside}
 use Rattle.held.specs.Worlds.{without}
 use Rattle.held.specs.Calls.{HasOnly, Found, StandsAt, IsPlace, IsVacant, Lifts, AreParts, IsDeadline, Joins, KeepsTimes}
-use Rattle.rehash_dict.proofs.MapOf.{cases_key, map_of-stands, map_of-lacks, map_of-empty, map_of-removes, map_of-had, map_of-kept}
+use Rattle.rehash_dict.proofs.MapOf.{cases_key, map_of_stands, map_of_lacks, map_of_empty, map_of_removes, map_of_had, map_of_kept}
 use Rattle.held.specs.Scopes.{Scope, one_key, no_key, all_keys, BaseGrows, AreGrown, Within}
 use Rattle.held.proofs.Within.{within_then, within_keys, within_times, within_swaps, within_removes, within_joins, within_anew, within_store}
 use Rattle.held.proofs.Maps.{entry_with, get_with, with_none, got_deadline}
-use Rattle.held.proofs.Tables.{key_itself, some_bytes, named_in, Keyed-none}
+use Rattle.held.proofs.Tables.{key_itself, some_bytes, named_in, keyed_none}
 use Rattle.held.proofs.Timing.{timed_sets, timed_clears, timed_none, untimed, moments_lack}
 use Rattle.held.proofs.Joining.{sets_seed}
 use Rattle.held.proofs.Bases.{InOrder, order_swaps, order_removes, order_times, base_then, order_then, owned_out, table_owned, owned_changed, owned_times, owned_joins, owned_swaps}
@@ -37,7 +37,7 @@ use Rattle.held.proofs.Bases.{joined_intact, joined_means, retimed_means, same_t
 
 -- a database without a key means none
 pub no_base_means : {V : Type 0} (value_of : Blocks → V → Value) (m : Blocks) (number : ℕ) → base_means value_of m (no_base {V = V} number) ≡ model.no_keys
-no_base_means {V} value_of m number = ap (λ values. with_deadlines values (moments m (no_base {V = V} number).deadlines)) (map_of-empty m (value_of m) (no_keys number) refl)
+no_base_means {V} value_of m number = ap (λ values. with_deadlines values (moments m (no_base {V = V} number).deadlines)) (map_of_empty m (value_of m) (no_keys number) refl)
     ∙ with_none (moments m (no_base {V = V} number).deadlines)
 
 module _ {V : Type 0} (refs_of : V → List BlockRef) where
@@ -58,12 +58,12 @@ module _ {V : Type 0} {IsSound : Limits → ℕ → Blocks → V → Type 0} (re
 
     -- nothing stands at a key that no element has
     pub look_lacks : Lacks m (table_at bases db) key → look (means value_of db bases m) key ≡ None
-    look_lacks lacks = look_is ∙ ap (λ o. entry_with o (get (moments m (deadlines_at bases db)) key)) (map_of-lacks m (value_of m) (table_at bases db) key (a.keyed db) lacks)
+    look_lacks lacks = look_is ∙ ap (λ o. entry_with o (get (moments m (deadlines_at bases db)) key)) (map_of_lacks m (value_of m) (table_at bases db) key (a.keyed db) lacks)
 
     -- at the key of an element stands what its value means, with the deadline of the key
     pub look_stands : (at : ℕ) (e : Element V) → item (table_at bases db) at ≡ Some e → m e.key ≡ Some key → (deadline : Option ℕ) → get (moments m (deadlines_at bases db)) key ≡ deadline
         → look (means value_of db bases m) key ≡ Some (record { value = value_of m e.value; deadline = deadline })
-    look_stands at e found bytes deadline lasts = look_is ∙ (λ i. entry_with (map_of-stands m (value_of m) (table_at bases db) at e key (a.keyed db) found bytes i) (lasts i))
+    look_stands at e found bytes deadline lasts = look_is ∙ (λ i. entry_with (map_of_stands m (value_of m) (table_at bases db) at e key (a.keyed db) found bytes i) (lasts i))
 
     -- a key that isn't there has no deadline
     pub lacks_deadline : Lacks m (table_at bases db) key → get (moments m (deadlines_at bases db)) key ≡ None
@@ -100,7 +100,7 @@ module _ {V : Type 0} {IsSound : Limits → ℕ → Blocks → V → Type 0} (re
 
       -- giving back the blocks of what left puts what the databases own in place of what they owned
       pub left_changes : Changes m after (owned (refs_of m) old) (owned (refs_of after) new)
-      left_changes = Changes-beside m after xs [] (owned (refs_of m) old) (owned (refs_of after) new) p (λ r. omega (arith, intact.owned r)) (λ r. times r (owned (refs_of m) new))
+      left_changes = changes_beside m after xs [] (owned (refs_of m) old) (owned (refs_of after) new) p (λ r. omega (arith, intact.owned r)) (λ r. times r (owned (refs_of m) new))
           (λ r. omega (arith, gone r)) (λ r. omega (arith, ap (times r) (owned_out refs_of value_of own new m after xs xs [] left_out p (λ r. omega arith))))
 
       -- what the database means over the store before is what it means afterwards
@@ -147,7 +147,7 @@ module _ {V : Type 0} {IsSound : Limits → ℕ → Blocks → V → Type 0} (re
       absent_means =
           means_changed refs_of value_of own old mid db m c.base _
           (remove_base refs_of value_of own old mid db m key
-          (ap (map_of m (value_of m)) c.keys ∙ map_of-kept m (value_of m) (table_at old db) (table_at old db) (a.keyed db) key refl absent_lacks) times_are)
+          (ap (map_of m (value_of m)) c.keys ∙ map_of_kept m (value_of m) (table_at old db) (table_at old db) (a.keyed db) key refl absent_lacks) times_are)
 
     module _ (new : Bases V) (d : ChangesTable mid new db) (ref : BlockRef) (value : V) (removes : Removes m (table_at mid db) (table_at new db) key ref value)
         (keyed : Keyed m (table_at new db)) where
@@ -166,18 +166,18 @@ module _ {V : Type 0} {IsSound : Limits → ℕ → Blocks → V → Type 0} (re
       -- where a key leaves after its deadline, the database means what it meant without the key
       pub drop_base : base_means value_of m (base_at new db) ≡ remove (base_means value_of m (base_at old db)) key
       drop_base = remove_base refs_of value_of own old new db m key
-          (map_of-removes m (value_of m) (table_at mid db) (table_at new db) (clear_arranged.keyed db) key ref value keyed removes ∙ ap (λ (k : Table V). remove (map_of m (value_of m) k) key) c.keys)
+          (map_of_removes m (value_of m) (table_at mid db) (table_at new db) (clear_arranged.keyed db) key ref value keyed removes ∙ ap (λ (k : Table V). remove (map_of m (value_of m) k) key) c.keys)
           (ap (moments m) d.deadlines ∙ times_are)
 
       -- the key was there
       pub drop_had : get (map_of m (value_of m) (table_at old db)) key ≡ Some (value_of m value)
-      drop_had = ap (λ (k : Table V). get (map_of m (value_of m) k) key) (sym c.keys) ∙ map_of-had m (value_of m) (table_at mid db) (table_at new db) (clear_arranged.keyed db) key ref value removes
+      drop_had = ap (λ (k : Table V). get (map_of m (value_of m) k) key) (sym c.keys) ∙ map_of_had m (value_of m) (table_at mid db) (table_at new db) (clear_arranged.keyed db) key ref value removes
 
   -- where only deadlines changed the databases own the same blocks of the same store
   pub cleared_changes : (old mid new : Bases V) (db : ℕ) (m : Blocks) → IsIntact refs_of IsSound old m [] → ChangesDeadlines old mid db → new ≡ mid
       → Changes m m (owned (refs_of m) old) (owned (refs_of m) new)
   cleared_changes old mid new db m intact c same = subst (λ (b : Bases V). Changes m m (owned (refs_of m) old) (owned (refs_of m) b)) (sym same)
-      (Changes-beside m m [] [] (owned (refs_of m) old) (owned (refs_of m) mid) (Changes-same m [] (λ q. omega arith)) (λ r. omega (arith, intact.owned r))
+      (changes_beside m m [] [] (owned (refs_of m) old) (owned (refs_of m) mid) (changes_same m [] (λ q. omega arith)) (λ r. omega (arith, intact.owned r))
       (λ r. times r (owned (refs_of m) old)) (λ r. omega arith) (λ r. omega (arith, owned_times (refs_of m) old mid db c r)))
 
   -- a key's deadline goes, then the key, and its blocks are given back
@@ -246,7 +246,7 @@ module _ {V : Type 0} {IsSound : Limits → ℕ → Blocks → V → Type 0} (re
     -- a database that all keys left is in order, where it has the seed of the databases
     pub all_order : (m : Blocks) → seed ≡ old.seed → InOrder IsSound m old new db
     all_order m same = record {
-      keyed = subst (λ (b : Base V). Keyed m b.keys) (sym none) (Keyed-none m seed);
+      keyed = subst (λ (b : Base V). Keyed m b.keys) (sym none) (keyed_none m seed);
       timed = subst (λ (b : Base V). IsTimed m b.keys b.deadlines) (sym none) (timed_none m seed seed);
       values = λ at e found. (let nothing : Some e ≡ None = sym found ∙ ap (λ (b : Base V). item b.keys at) none in absurd cc);
       seeds = λ h. subst (λ (b : Base V). HasSeed b old.seed) (sym none) (record { keys = same; deadlines = same });
@@ -304,7 +304,7 @@ module _ {V : Type 0} {IsSound : Limits → ℕ → Blocks → V → Type 0} (re
 
       -- giving back the old value puts what is owned in place of what was owned and the new value's blocks
       pub over_changes : Changes m after (owned (refs_of m) old ++ refs_of m value) (owned (refs_of after) new)
-      over_changes = Changes-beside m after (refs_of m was) [] (owned (refs_of m) old ++ refs_of m value) (owned (refs_of after) new) p
+      over_changes = changes_beside m after (refs_of m was) [] (owned (refs_of m) old ++ refs_of m value) (owned (refs_of after) new) p
           (λ r. omega (arith, intact_over.owned r, times-append r (owned (refs_of m) old) (refs_of m value))) (λ r. times r (owned (refs_of m) new))
           (λ r. omega (arith, times-append r (owned (refs_of m) old) (refs_of m value), owned_swaps (refs_of m) old new db c.base r at was value s))
           (λ r. omega (arith, ap (times r) (owned_out refs_of value_of own new m after (refs_of m was) (refs_of m was) [] over_out p (λ r. omega arith))))
@@ -336,8 +336,8 @@ module _ {V : Type 0} {IsSound : Limits → ℕ → Blocks → V → Type 0} (re
     pub retimed_changes : (after : Blocks) (part : List BlockRef) (new : Bases V) → IsIntact refs_of IsSound old m part
         → Changes m after (owned (refs_of m) mid ++ part) (owned (refs_of after) new) → Changes m after (owned (refs_of m) old ++ part) (owned (refs_of after) new)
     retimed_changes after part new intact p =
-        Changes-then m m after (owned (refs_of m) old ++ part) (owned (refs_of m) mid ++ part) (owned (refs_of after) new)
-        (Changes-beside m m [] [] (owned (refs_of m) old ++ part) (owned (refs_of m) mid ++ part) (Changes-same m [] (λ q. omega arith))
+        changes_then m m after (owned (refs_of m) old ++ part) (owned (refs_of m) mid ++ part) (owned (refs_of after) new)
+        (changes_beside m m [] [] (owned (refs_of m) old ++ part) (owned (refs_of m) mid ++ part) (changes_same m [] (λ q. omega arith))
         (λ r. omega (arith, intact.owned r, times-append r (owned (refs_of m) old) part)) (λ r. times r (owned (refs_of m) old) + times r part)
         (λ r. omega (arith, times-append r (owned (refs_of m) old) part)) (λ r. omega (arith, times-append r (owned (refs_of m) mid) part, owned_times (refs_of m) old mid db c r))) p
 
@@ -354,7 +354,7 @@ module _ {V : Type 0} {IsSound : Limits → ℕ → Blocks → V → Type 0} (re
       -- where a key's deadline is set or goes, its value is put at the key with this deadline or without one
       pub retimed_put : means value_of db mid m ≡ put (means value_of db old m) key (record { value = value_of m stands.element.value; deadline = deadline })
       retimed_put = retimed_means refs_of value_of own old mid db m c key (value_of m stands.element.value)
-          (map_of-stands m (value_of m) (table_at old db) at stands.element key (arranged.keyed db) stands.found stands.bytes) deadline times_are
+          (map_of_stands m (value_of m) (table_at old db) at stands.element key (arranged.keyed db) stands.found stands.bytes) deadline times_are
 
       -- the key's own value, whatever its deadline was
       pub retimed_entry : (entry : Entry) → look (means value_of db old m) key ≡ Some entry
@@ -467,7 +467,7 @@ module _ {V : Type 0} {IsSound : Limits → ℕ → Blocks → V → Type 0} (re
 
     -- the block that was placed holds the bytes of the key
     pub placed_bytes : mid r ≡ Some key
-    placed_bytes = ap (λ b. b r) placed ∙ with_block-same m r (Some key)
+    placed_bytes = ap (λ b. b r) placed ∙ with_block_same m r (Some key)
 
     -- where a key's block is placed, the value that is out owns what it owned
     placed_refs : refs_of mid value ≡ refs_of m value
@@ -541,7 +541,7 @@ module _ {V : Type 0} {IsSound : Limits → ℕ → Blocks → V → Type 0} (re
 
       -- where a key joined, what is owned stands in place of what was owned and the value's blocks
       pub new_changes : Changes m mid (owned (refs_of m) old ++ refs_of m value) (owned (refs_of mid) new)
-      new_changes = Changes-beside m mid [] (r ∷ []) (owned (refs_of m) old ++ refs_of m value) (owned (refs_of mid) new) p
+      new_changes = changes_beside m mid [] (r ∷ []) (owned (refs_of m) old ++ refs_of m value) (owned (refs_of mid) new) p
           (λ q. omega (arith, intact_placed.owned q, times-append q (owned (refs_of m) old) (refs_of m value))) (λ q. times q (owned (refs_of m) old) + times q (refs_of m value))
           (λ q. omega (arith, times-append q (owned (refs_of m) old) (refs_of m value)))
           (λ q. omega
@@ -560,12 +560,12 @@ module _ {V : Type 0} {IsSound : Limits → ℕ → Blocks → V → Type 0} (re
       -- giving back the key's block ends this block alone
       back_given : Changes mid after (r ∷ []) []
       back_given =
-          Changes-counted mid after (r ∷ []) [] (λ q. omega (arith, placed_intact.owned q))
-          (Counts-ended mid after r (r ∷ []) [] (ap is_some placed_bytes) ended (λ q. omega arith))
+          changes_counted mid after (r ∷ []) [] (λ q. omega (arith, placed_intact.owned q))
+          (counts_ended mid after r (r ∷ []) [] (ap is_some placed_bytes) ended (λ q. omega arith))
 
       -- with the key's block given back the store holds what it held before it was placed
       pub back_blocks : after ≡ m
-      back_blocks = ended ∙ ap (λ b. with_block b r None) placed ∙ with_block-undone m r (Some key) fresh
+      back_blocks = ended ∙ ap (λ b. with_block b r None) placed ∙ with_block_undone m r (Some key) fresh
 
       -- with the key's block given back the databases mean the world that they meant
       pub back_means : means value_of db new after ≡ means value_of db old m
@@ -641,7 +641,7 @@ module _ {V : Type 0} {IsSound : Limits → ℕ → Blocks → V → Type 0} (re
 
     -- giving back the value puts what is owned in place of what was owned and the value's blocks
     pub refused_changes : Changes m after (owned (refs_of m) old ++ refs_of m value) (owned (refs_of after) new)
-    refused_changes = Changes-beside m after (refs_of m value) [] (owned (refs_of m) old ++ refs_of m value) (owned (refs_of after) new) p
+    refused_changes = changes_beside m after (refs_of m value) [] (owned (refs_of m) old ++ refs_of m value) (owned (refs_of after) new) p
         (λ q. omega (arith, intact_refused.owned q, times-append q (owned (refs_of m) old) (refs_of m value))) (λ q. times q (owned (refs_of m) old))
         (λ q. omega (arith, times-append q (owned (refs_of m) old) (refs_of m value)))
         (λ q. omega (arith, same q, ap (times q) (owned_out refs_of value_of own new m after (refs_of m value) (refs_of m value) [] refused_intact p (λ q. omega arith))))
@@ -779,7 +779,7 @@ module _ {V : Type 0} {IsSound : Limits → ℕ → Blocks → V → Type 0} (re
           (let nothing : times r (owned (refs_of m) bases) ≡ 0 = ap (λ list. times r (flat_map (λ (b : Base V). refs (refs_of m) b.keys) list)) none in let dead_r : live m r ≡ 0 =
           ap (λ (b : Blocks). live b r) dead in omega arith);
       arranged = record {
-        keyed = each_new (λ b. Keyed m b.keys) (λ number. Keyed-none m number);
+        keyed = each_new (λ b. Keyed m b.keys) (λ number. keyed_none m number);
         timed = each_new (λ b. IsTimed m b.keys b.deadlines) (λ number. timed_none m number number);
         values = each_new (λ b. (at : ℕ) (e : Element V) → item b.keys at ≡ Some e → IsSound bases.limits bases.seed m e.value) (λ number at e found. absurd cc);
         sixteen = ap length none;

@@ -6,11 +6,11 @@ use Rattle.blocks.specs.declared.BlockRef.{BlockRef}
 use Rattle.blocks.specs.Blocks.{Blocks, ref_eq, times, no_step}
 use Rattle.blocks.proofs.Refs.{cases_ref}
 use Rattle.blocks.proofs.Change.{one_if}
-use Rattle.blocks.proofs.Serve.{Served-same, Served-once, Served-then}
+use Rattle.blocks.proofs.Serve.{served_same, served_once, served_then}
 use Rattle.blocks.proofs.Times.{times-append}
 use Rattle.rehash_dict.specs.Tables.{removed}
 use Rattle.rehash_dict.specs.Keyed.{same_key, key_tables}
-use Rattle.rehash_dict.proofs.Keys.{Keyed-frame}
+use Rattle.rehash_dict.proofs.Keys.{keyed_frame}
 use Rattle.expiry.specs.Timed.{Timed}
 use Rattle.expiry.specs.Changes.{Clears}
 use Rattle.held.specs.declared.databases.Base.{Base}
@@ -109,8 +109,8 @@ module _ {V : Type 0} (refs_of : Blocks → V → List BlockRef) where
     others = λ number other. q.others number other ∙ p.others number other;
     keys = drops_then xs ys (table_at a db) (table_at b db) (table_at c db) p.keys q.keys;
     deadlines = drops_then xs ys (deadlines_at a db).table (deadlines_at b db).table (deadlines_at c db).table p.deadlines q.deadlines;
-    keys_shed = λ number. Served-then _ _ _ (p.keys_shed number) (q.keys_shed number);
-    deadlines_shed = λ number. Served-then _ _ _ (p.deadlines_shed number) (q.deadlines_shed number);
+    keys_shed = λ number. served_then _ _ _ (p.keys_shed number) (q.keys_shed number);
+    deadlines_shed = λ number. served_then _ _ _ (p.deadlines_shed number) (q.deadlines_shed number);
     stayed = λ number at e found. (let last = q.stayed number at e found in stayed_then a b m mid after number at e last (p.stayed number at e last.stood));
   }
 
@@ -146,30 +146,30 @@ module _ {V : Type 0} (refs_of : Blocks → V → List BlockRef) where
     kept number at e found = sym ((w.stayed number at e found (λ named. named.1)).bytes e.key (omega (arith, key_itself e.key)))
 
     keys_frame : (number : ℕ) → key_tables after (table_at new number) ≡ key_tables m (table_at new number)
-    keys_frame number = sym (Keyed-frame after m (table_at new number) (b.keyed number) (kept number)).1
+    keys_frame number = sym (keyed_frame after m (table_at new number) (b.keyed number) (kept number)).1
 
     times_frame : (number : ℕ) → key_tables after (deadlines_at new number).table ≡ key_tables m (deadlines_at new number).table
     times_frame number =
-        sym (Keyed-frame after m (deadlines_at new number).table (b.timed number).keyed (λ at e found.
+        sym (keyed_frame after m (deadlines_at new number).table (b.timed number).keyed (λ at e found.
         (let there = (b.timed number).names at e found in ap m (sym there.same) ∙ kept number there.at there.element there.found ∙ ap after there.same))).1
 
     keys_less : (number : ℕ) → Shed (key_tables m (table_at old number)) (key_tables after (table_at new number))
     keys_less number = elim (cases_eq number db) [
       | inl here ↦ subst (λ k. Shed (key_tables m (table_at old k)) (key_tables after (table_at new k))) (sym here)
-          (Served-once _ _ (record { key = key; without = keys_frame db ∙ tables ∙ ap (λ (t : Table V). removed same_key (key_tables m t) key) c.keys }))
-      | inr other ↦ Served-same _ _ (keys_frame number ∙ ap (λ (x : Base V). key_tables m x.keys) (w.same number other))
+          (served_once _ _ (record { key = key; without = keys_frame db ∙ tables ∙ ap (λ (t : Table V). removed same_key (key_tables m t) key) c.keys }))
+      | inr other ↦ served_same _ _ (keys_frame number ∙ ap (λ (x : Base V). key_tables m x.keys) (w.same number other))
     ]
 
     cleared_less : Clears m (deadlines_at old db).table (deadlines_at mid db).table key ⊎ ((mid ≡ old) × Lacks m (deadlines_at old db).table key)
         → Shed (key_tables m (deadlines_at old db).table) (key_tables m (deadlines_at mid db).table)
-    cleared_less (inl cl) = Served-once _ _ (record { key = key; without = cl.tables })
-    cleared_less (inr same) = Served-same _ _ (ap (λ (x : Bases V). key_tables m (deadlines_at x db).table) same.0)
+    cleared_less (inl cl) = served_once _ _ (record { key = key; without = cl.tables })
+    cleared_less (inr same) = served_same _ _ (ap (λ (x : Bases V). key_tables m (deadlines_at x db).table) same.0)
 
     times_less : (number : ℕ) → Shed (key_tables m (deadlines_at old number).table) (key_tables after (deadlines_at new number).table)
     times_less number = elim (cases_eq number db) [
       | inl here ↦ subst (λ k. Shed (key_tables m (deadlines_at old k).table) (key_tables after (deadlines_at new k).table)) (sym here)
-          (Served-then _ _ _ (cleared_less cleared) (Served-same _ _ (times_frame db ∙ ap (λ (t : Timed). key_tables m t.table) d.deadlines)))
-      | inr other ↦ Served-same _ _ (times_frame number ∙ ap (λ (x : Base V). key_tables m x.deadlines.table) (w.same number other))
+          (served_then _ _ _ (cleared_less cleared) (served_same _ _ (times_frame db ∙ ap (λ (t : Timed). key_tables m t.table) d.deadlines)))
+      | inr other ↦ served_same _ _ (times_frame number ∙ ap (λ (x : Base V). key_tables m x.deadlines.table) (w.same number other))
     ]
 
     pub named_thinned : Thinned refs_of (name ∷ []) old new m after db

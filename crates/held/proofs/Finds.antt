@@ -5,7 +5,7 @@ use Rattle.std.specs.Prelude.{◌==◌}
 use Rattle.std.proofs.lemmas.Bool.{cond-true, cond-false, eq-eqb}
 use Rattle.blocks.specs.declared.BlockRef.{BlockRef}
 use Rattle.blocks.specs.Blocks.{Blocks, ref_eq, times}
-use Rattle.blocks.proofs.Refs.{ref_eq-refl, cases_ref}
+use Rattle.blocks.proofs.Refs.{ref_eq_refl, cases_ref}
 use Rattle.blocks.proofs.Change.{one_if}
 use Rattle.blocks.proofs.Times.{times-append}
 use Rattle.rev_cursor.specs.Span.{times as span_times}
@@ -32,7 +32,7 @@ take_next xs n x h = (let next : n + 1 ≡ suc n = omega arith in ap (λ k. take
 -- what stands at an index of a list that has nothing twice doesn't stand before it
 pub out_front : (xs : List BlockRef) (n : ℕ) (x : BlockRef) → times x xs ≤ 1 → slice_get xs n ≡ Some x → times x (take n xs) ≡ 0
 out_front xs n x once h =
-    let itself : one_if (ref_eq x x) ≡ 1 = cond-true _ _ _ (ref_eq-refl x) in
+    let itself : one_if (ref_eq x x) ≡ 1 = cond-true _ _ _ (ref_eq_refl x) in
     let split : times x (take (n + 1) xs) ≡ times x (take n xs ++ x ∷ []) = ap (times x) (take_next xs n x h) in
     omega (arith, once, times_take x (n + 1) xs, split, times-append x (take n xs) (x ∷ []), itself)
 

@@ -3,7 +3,7 @@ use Rattle.std.proofs.Common.{◌≡◌, ◌⊎◌, inl, inr, ℕ, ◌<◌, ◌^
 use Rattle.std.specs.FinMap.{insert, remove}
 use Rattle.blocks.specs.declared.BlockRef.{BlockRef}
 use Rattle.blocks.specs.Blocks.{Blocks, bytes_at, no_step}
-use Rattle.blocks.proofs.Serve.{Served-then}
+use Rattle.blocks.proofs.Serve.{served_then}
 use Rattle.rehash_dict.specs.Grown.{Grown}
 use Rattle.rehash_dict.specs.Keyed.{hash_of, key_tables}
 use Rattle.expiry.specs.Timed.{Timed, moments, Grows, KeepsCursor}
@@ -92,7 +92,7 @@ module _ {V : Type 0} (m : Blocks) (db : ℕ) (name : BlockRef) (key : List ℕ)
           ⊎ ((deadlines_at new db ≡ deadlines_at mid db) × Lacks m (deadlines_at mid db).table key) =
           elim cleared [ inl x ↦ inl x | inr same ↦ inr (ap (λ (x : Bases V). deadlines_at x db) same.0, same.1) ] in
           record {
-            grown = Served-then _ _ _ b.grown (subst (λ seed. Grown (hash_of seed) (key_tables m (deadlines_at mid db).table) (key_tables m (deadlines_at new db).table)) b.seed grown);
+            grown = served_then _ _ _ b.grown (subst (λ seed. Grown (hash_of seed) (key_tables m (deadlines_at mid db).table) (key_tables m (deadlines_at new db).table)) b.seed grown);
             cursor = cursor ∙ b.cursor;
             changes = record { base = base_then old mid new db b.changes.base c.base; keys = c.keys ∙ b.changes.keys };
             timed = b.undone (deadlines_at new db) own keyed;

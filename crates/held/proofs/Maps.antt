@@ -17,16 +17,16 @@ use Rattle.plain_world.proofs.Maps.{maps_alike}
 abbrev tied : List ℕ → List ℕ → Bool
 tied q k = eq_by_cmp (slice_cmp nat_cmp) q k
 
-tied-true : (q k : List ℕ) → tied q k ≡ true → q ≡ k
-tied-true q k h = slice_cmp-IsAntisymmetric nat_cmp-IsAntisymmetric q k (equal (slice_cmp nat_cmp q k) h)
+tied_true : (q k : List ℕ) → tied q k ≡ true → q ≡ k
+tied_true q k h = slice_cmp-IsAntisymmetric nat_cmp-IsAntisymmetric q k (equal (slice_cmp nat_cmp q k) h)
   where
     equal : (o : Ordering) → is_eq o ≡ true → o ≡ Equal
     equal Less h = cc
     equal Equal h = refl
     equal Greater h = cc
 
-tied-refl : (q : List ℕ) → tied q q ≡ true
-tied-refl q = (eq_by_cmp_equiv nat_list_cmp_total).refl q
+tied_refl : (q : List ℕ) → tied q q ≡ true
+tied_refl q = (eq_by_cmp_equiv nat_list_cmp_total).refl q
 
 -- what stands at a key that has this value and this deadline, or none of them
 abbrev pub entry_with : Option Value → Option ℕ → Option Entry
@@ -41,7 +41,7 @@ module _ (moments : Moments) where
   find_timed [] q = refl
   find_timed (e ∷ es) q = elim (cases_Bool (tied q e.0)) [
     | inl same ↦
-        cond-true _ _ _ same ∙ ap (λ k. Some (record { value = e.1; deadline = get moments k })) (sym (tied-true q e.0 same))
+        cond-true _ _ _ same ∙ ap (λ k. Some (record { value = e.1; deadline = get moments k })) (sym (tied_true q e.0 same))
         ∙ sym (ap (λ o. entry_with o (get moments q)) (cond-true (tied q e.0) (Some e.1) (find (slice_cmp nat_cmp) q es) same))
     | inr other ↦
         cond-false _ _ _ other ∙ find_timed es q
@@ -98,7 +98,7 @@ with_put values moments key value deadline =
 pub same_deadline : (moments : Moments) (key : List ℕ) (deadline : Option ℕ) → get moments key ≡ deadline → with_deadline moments key deadline ≡ moments
 same_deadline moments key deadline is =
     maps_alike _ _ (λ q. get_deadline moments key deadline q ∙ elim (cases_Bool (tied q key)) [
-      | inl same ↦ cond-true _ _ _ same ∙ sym is ∙ ap (get moments) (sym (tied-true q key same))
+      | inl same ↦ cond-true _ _ _ same ∙ sym is ∙ ap (get moments) (sym (tied_true q key same))
       | inr other ↦ cond-false _ _ _ other
     ])
 
@@ -106,7 +106,7 @@ same_deadline moments key deadline is =
 pub undone_deadline : (moments : Moments) (key : List ℕ) (deadline : Option ℕ) → get moments key ≡ None → remove (with_deadline moments key deadline) key ≡ moments
 undone_deadline moments key deadline none =
     maps_alike _ _ (λ q. get-remove nat_list_cmp_total (with_deadline moments key deadline) key q ∙ elim (cases_Bool (tied q key)) [
-      | inl same ↦ cond-true _ _ _ same ∙ sym none ∙ ap (get moments) (sym (tied-true q key same))
+      | inl same ↦ cond-true _ _ _ same ∙ sym none ∙ ap (get moments) (sym (tied_true q key same))
       | inr other ↦ cond-false _ _ _ other ∙ get_deadline moments key deadline q ∙ cond-false _ _ _ other
     ])
 
@@ -114,7 +114,7 @@ undone_deadline moments key deadline none =
 pub same_value : (values : Values) (key : List ℕ) (value : Value) → get values key ≡ Some value → insert values key value ≡ values
 same_value values key value is =
     maps_alike _ _ (λ q. get-insert nat_list_cmp_total values key value q ∙ elim (cases_Bool (tied q key)) [
-      | inl same ↦ cond-true _ _ _ same ∙ sym is ∙ ap (get values) (sym (tied-true q key same))
+      | inl same ↦ cond-true _ _ _ same ∙ sym is ∙ ap (get values) (sym (tied_true q key same))
       | inr other ↦ cond-false _ _ _ other
     ])
 
@@ -122,7 +122,7 @@ same_value values key value is =
 pub same_entry : (base : Database) (key : List ℕ) (e : Entry) → get base key ≡ Some e → insert base key e ≡ base
 same_entry base key e is =
     maps_alike _ _ (λ q. get-insert nat_list_cmp_total base key e q ∙ elim (cases_Bool (tied q key)) [
-      | inl same ↦ cond-true _ _ _ same ∙ sym is ∙ ap (get base) (sym (tied-true q key same))
+      | inl same ↦ cond-true _ _ _ same ∙ sym is ∙ ap (get base) (sym (tied_true q key same))
       | inr other ↦ cond-false _ _ _ other
     ])
 
@@ -146,14 +146,14 @@ moved_base base key to a e apart =
     ∙ sym (get-insert nat_list_cmp_total (remove base key) to e q ∙ ap (λ o. cond (tied q to) (Some e) o) (get-remove nat_list_cmp_total base key q)))
   where
     both : (q : List ℕ) (s t : Bool) → tied q key ≡ s → tied q to ≡ t → (o : Option Entry) → cond s None (cond t (Some e) (cond s (Some a) o)) ≡ cond t (Some e) (cond s None o)
-    both q true true x y o = absurd (apart (sym (tied-true q key x) ∙ tied-true q to y))
+    both q true true x y o = absurd (apart (sym (tied_true q key x) ∙ tied_true q to y))
     both q true false x y o = refl
     both q false true x y o = refl
     both q false false x y o = refl
 
 -- a key has the deadline that it got
 pub got_deadline : (moments : Moments) (key : List ℕ) (deadline : Option ℕ) → get (with_deadline moments key deadline) key ≡ deadline
-got_deadline moments key deadline = get_deadline moments key deadline key ∙ cond-true _ _ _ (tied-refl key)
+got_deadline moments key deadline = get_deadline moments key deadline key ∙ cond-true _ _ _ (tied_refl key)
 
 -- a key leaves with its deadline
 pub with_removed : (values : Values) (moments : Moments) (key : List ℕ) → with_deadlines (remove values key) (remove moments key) ≡ remove (with_deadlines values moments) key
@@ -173,7 +173,7 @@ with_removed values moments key =
 pub removed_same : (base : Database) (key : List ℕ) → get base key ≡ None → remove base key ≡ base
 removed_same base key none =
     maps_alike _ _ (λ q. get-remove nat_list_cmp_total base key q ∙ elim (cases_Bool (tied q key)) [
-      | inl same ↦ cond-true _ _ _ same ∙ sym none ∙ ap (get base) (sym (tied-true q key same))
+      | inl same ↦ cond-true _ _ _ same ∙ sym none ∙ ap (get base) (sym (tied_true q key same))
       | inr other ↦ cond-false _ _ _ other
     ])
 

@@ -8,9 +8,9 @@ use Rattle.std.specs.Cmp.Lexicographic.{slice_cmp, nat_list_cmp_total}
 use Rattle.std.specs.FinMap.{get, remove, len, empty_of_len, get-empty, len-remove}
 use Rattle.blocks.specs.declared.BlockRef.{BlockRef}
 use Rattle.blocks.specs.Blocks.{Blocks, bytes_at, Changes}
-use Rattle.blocks.proofs.Change.{Changes-owned, Changes-same, Changes-then}
+use Rattle.blocks.proofs.Change.{changes_owned, changes_same, changes_then}
 use Rattle.rehash_dict.proofs.Keys.{live_bytes}
-use Rattle.rehash_dict.proofs.MapOf.{cases_key, map_of-stands}
+use Rattle.rehash_dict.proofs.MapOf.{cases_key, map_of_stands}
 use Rattle.plain_world.specs.Worlds.{Value, Entry, World, Database, with_base, in_time, live_keys}
 use Rattle.plain_world.proofs.Lives.{shown, live_removed, live_all}
 use Rattle.expiry.specs.Timed.{Timed, moments}
@@ -82,10 +82,10 @@ pub record IsPurged {V : Type 0} (refs_of : Blocks → V → List BlockRef) (val
 module _ {V : Type 0} {IsSound : Limits → ℕ → Blocks → V → Type 0} (refs_of : Blocks → V → List BlockRef) (value_of : Blocks → V → Value) (own : ReadsOwn refs_of value_of IsSound) where
   -- where databases are in order over changed blocks, they are intact
   pub intact_after : (old new : Bases V) (m after : Blocks) → Changes m after (owned (refs_of m) old) (owned (refs_of after) new) → IsArranged IsSound new after → IsIntact refs_of IsSound new after []
-  intact_after old new m after p a = record { owned = λ r. omega (arith, Changes-owned m after (owned (refs_of m) old) (owned (refs_of after) new) p r); arranged = a }
+  intact_after old new m after p a = record { owned = λ r. omega (arith, changes_owned m after (owned (refs_of m) old) (owned (refs_of after) new) p r); arranged = a }
 
   pub same_owned : (old : Bases V) (m : Blocks) → IsIntact refs_of IsSound old m [] → Changes m m (owned (refs_of m) old) (owned (refs_of m) old)
-  same_owned old m intact = Changes-same m (owned (refs_of m) old) (λ r. omega (arith, intact.owned r))
+  same_owned old m intact = changes_same m (owned (refs_of m) old) (λ r. omega (arith, intact.owned r))
 
   -- ---- no key leaves
 
@@ -121,7 +121,7 @@ module _ {V : Type 0} {IsSound : Limits → ℕ → Blocks → V → Type 0} (re
     passed_bytes = live_bytes m name (subst (λ r. IsSome (m r)) p.named ((a.timed db).keyed.live at p.element p.found))
 
     passed_moment : get (moments m (deadlines_at old db)) (bytes_at m name) ≡ Some p.element.value
-    passed_moment = map_of-stands m (λ v. v) (deadlines_at old db).table at p.element (bytes_at m name) (a.timed db).keyed p.found (ap m p.named ∙ passed_bytes)
+    passed_moment = map_of_stands m (λ v. v) (deadlines_at old db).table at p.element (bytes_at m name) (a.timed db).keyed p.found (ap m p.named ∙ passed_bytes)
 
     passed_stands : (n : Names (table_at old db) name) → Stands m (table_at old db) n.at (bytes_at m name)
     passed_stands n = record { element = n.element; found = n.found; bytes = ap m n.same ∙ passed_bytes }
@@ -169,7 +169,7 @@ module _ {V : Type 0} {IsSound : Limits → ℕ → Blocks → V → Type 0} (re
       | inr other ↦ p.in_time i e (omega (arith, below, other)) (t.part i e found)
     ];
     arranged = a;
-    changes = Changes-then m mid after (owned (refs_of m) old) (owned (refs_of mid) now) (owned (refs_of after) next) p.changes c;
+    changes = changes_then m mid after (owned (refs_of m) old) (owned (refs_of mid) now) (owned (refs_of after) next) p.changes c;
     few = (let one = at_most dropped in omega (arith, one, is, p.few));
   }
     where
@@ -181,7 +181,7 @@ module _ {V : Type 0} {IsSound : Limits → ℕ → Blocks → V → Type 0} (re
   module _ (bases : Bases V) (m : Blocks) (db moment : ℕ) (a : IsArranged IsSound bases m) (all : (i : ℕ) (e : Element ℕ) → item (deadlines_at bases db).table i ≡ Some e → moment ≤ e.value) where
     deadline_in_time : (key : List ℕ) → in_time moment (get (moments m (deadlines_at bases db)) key) ≡ true
     deadline_in_time key = elim (cases_key m (deadlines_at bases db).table key (a.timed db).keyed) [
-      | inl s ↦ ap (in_time moment) (map_of-stands m (λ v. v) (deadlines_at bases db).table s.at s.element key (a.timed db).keyed s.found s.bytes)
+      | inl s ↦ ap (in_time moment) (map_of_stands m (λ v. v) (deadlines_at bases db).table s.at s.element key (a.timed db).keyed s.found s.bytes)
           ∙ le-leb moment s.element.value (all s.at s.element s.found)
       | inr lacks ↦ ap (in_time moment) (moments_lack m (deadlines_at bases db) key (a.timed db).keyed lacks)
     ]

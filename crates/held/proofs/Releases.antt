@@ -6,7 +6,7 @@ use Rattle.blocks.proofs.Times.{times-append}
 use Rattle.object_codec.specs.declared.limits.Limits.{Limits}
 use Rattle.plain_world.specs.Worlds.{Value}
 use Rattle.stored.specs.Owning.{ReadsOwn}
-use Rattle.blocks.proofs.Change.{live-once, Changes-same, Changes-then, Changes-beside, Changes-owned}
+use Rattle.blocks.proofs.Change.{live_once, changes_same, changes_then, changes_beside, changes_owned}
 use Rattle.rehash_dict.specs.Table.{at_item}
 use Rattle.rehash_dict.specs.Steps.{Holds}
 use Rattle.held.specs.Table.{Table, Element, item, Swaps, own_of, refs}
@@ -76,36 +76,36 @@ module _ {V : Type 0} (own : V → List BlockRef) where
   release_begins first m owned = record {
     same = λ i above. refl;
     kept = λ i e above found q isin. refl;
-    changes = subst (λ items. Changes m m (refs own first) (flat_map (own_of own) items)) (sym (all_left first.items)) (Changes-same m (refs own first) owned);
+    changes = subst (λ items. Changes m m (refs own first) (flat_map (own_of own) items)) (sym (all_left first.items)) (changes_same m (refs own first) owned);
   }
 
   pub release_ends : (first now : Table V) (n : ℕ) (before after : Blocks) → Owned (refs own first) before → IsReleased first now n before after → ((i : ℕ) → IsSome (item first i) → i < n)
       → Changes before after (refs own first) []
   release_ends first now n before after owned r below =
-      Changes-then before after after (refs own first) (refs_from first n) [] r.changes
-      (Changes-beside after after [] [] (refs_from first n) [] (Changes-same after [] (λ q. omega arith)) (Changes-owned before after (refs own first) (refs_from first n) r.changes)
+      changes_then before after after (refs own first) (refs_from first n) [] r.changes
+      (changes_beside after after [] [] (refs_from first n) [] (changes_same after [] (λ q. omega arith)) (changes_owned before after (refs own first) (refs_from first n) r.changes)
       (λ q. 0) (λ q. left_end first.items n q below) (λ q. omega arith))
 
   module _ (first now : Table V) (n : ℕ) (before mid : Blocks) (r : IsReleased first now n before mid) where
     left_owned : Owned (refs_from first n) mid
-    left_owned = Changes-owned before mid (refs own first) (refs_from first n) r.changes
+    left_owned = changes_owned before mid (refs own first) (refs_from first n) r.changes
 
     goes_on : (later : Table V) (after : Blocks) (given : List BlockRef) → ((q : BlockRef) → times q (own_of own (item first n)) ≡ times q given)
         → ((i : ℕ) → i ≢ n → item later i ≡ item now i) → Changes mid after given [] → IsReleased first later (suc n) before after
     goes_on later after given is others p = record {
       kept = λ i e above found q isin.
           (let there : times q (own_of own (item first i)) ≡ times q (e.key ∷ own e.value) = ap (λ o. times q (own_of own o)) found in
-          p.kept q (omega (arith, left_next first.items n q, is q, left_owned q, live-once mid q, left_named first.items (suc n) i q above, there, isin)) refl
+          p.kept q (omega (arith, left_next first.items n q, is q, left_owned q, live_once mid q, left_named first.items (suc n) i q above, there, isin)) refl
           ∙ r.kept i e (omega (arith, above)) found q isin);
       same = λ i above. others i (λ at. omega (arith, above, at)) ∙ r.same i (omega (arith, above));
-      changes = Changes-then before mid after (refs own first) (refs_from first n) (refs_from first (suc n)) r.changes
-          (Changes-beside mid after given [] (refs_from first n) (refs_from first (suc n)) p left_owned (λ q. times q (refs_from first (suc n)))
+      changes = changes_then before mid after (refs own first) (refs_from first n) (refs_from first (suc n)) r.changes
+          (changes_beside mid after given [] (refs_from first n) (refs_from first (suc n)) p left_owned (λ q. times q (refs_from first (suc n)))
           (λ q. omega (arith, left_next first.items n q, is q)) (λ q. omega arith));
     }
 
     -- an item number without an element
     pub release_skips : item now n ≡ None → IsReleased first now (suc n) before mid
-    release_skips none = goes_on now mid [] (λ q. ap (λ o. times q (own_of own o)) (sym (r.same n (omega arith)) ∙ none)) (λ i other. refl) (Changes-same mid [] (λ q. omega arith))
+    release_skips none = goes_on now mid [] (λ q. ap (λ o. times q (own_of own o)) (sym (r.same n (omega arith)) ∙ none)) (λ i other. refl) (changes_same mid [] (λ q. omega arith))
 
     -- the value of its element was taken out, whose key is at hand
     module _ (later : Table V) (was zero : V) (s : Swaps now later n was zero) (key : BlockRef) (value : V) (h : Holds later n key value) where

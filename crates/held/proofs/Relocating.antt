@@ -8,13 +8,13 @@ use Rattle.blocks.specs.declared.Moved.{Moved}
 use Rattle.blocks.specs.Blocks.{Blocks, times, Changes, Owned}
 use Rattle.blocks.specs.Slabs.{Heap, wants, Calmer}
 use Rattle.blocks.proofs.Refs.{cases_ref}
-use Rattle.blocks.proofs.Change.{one, cases_in, live-once, Changes-same, Changes-then, Changes-beside, Owned-others}
+use Rattle.blocks.proofs.Change.{one, cases_in, live_once, changes_same, changes_then, changes_beside, owned_others}
 use Rattle.object_codec.specs.Limits.{AreInRange}
 use Rattle.plain_world.specs.Worlds.{Value}
 use Rattle.rehash_dict.specs.Keyed.{key_tables}
 use Rattle.rehash_dict.specs.Steps.{Renames}
-use Rattle.rehash_dict.proofs.Keys.{Keyed-frame}
-use Rattle.rehash_dict.proofs.MapOf.{map_of-same, map_of-frame, map_of-renames, refs_changed}
+use Rattle.rehash_dict.proofs.Keys.{keyed_frame}
+use Rattle.rehash_dict.proofs.MapOf.{map_of_same, map_of_frame, map_of_renames, refs_changed}
 use Rattle.expiry.specs.Timed.{Timed, moments, KeepsCursor}
 use Rattle.held.specs.declared.databases.Base.{Base}
 use Rattle.held.specs.Table.{Table, Element, item, key_at, Stands, Lacks, Keyed, Swaps, own_of, map_of}
@@ -84,16 +84,16 @@ module _ {V : Type 0} {IsSound : Limits → ℕ → Blocks → V → Type 0} (re
   renewed_same : (m after : Blocks) (base : Base V) → Keyed m base.keys → IsTimed m base.keys base.deadlines → ((at : ℕ) (e : Element V) → item base.keys at ≡ Some e → Stay m after e)
       → Renewed m after base base
   renewed_same m after base k t stay =
-      let keyed = Keyed-frame m after base.keys k (λ at e found. name_stays m after e (stay at e found)) in
+      let keyed = keyed_frame m after base.keys k (λ at e found. name_stays m after e (stay at e found)) in
       let timed = timed_frame m after base.keys base.deadlines t (λ at e found. name_stays m after e (stay at e found)) in
       record {
         keyed = keyed.0;
         timed = timed.0;
-        values = map_of-frame m after (value_of m) (value_of after) base.keys k keyed.0 (λ at e found. (name_stays m after e (stay at e found), value_stays m after e (stay at e found)));
+        values = map_of_frame m after (value_of m) (value_of after) base.keys k keyed.0 (λ at e found. (name_stays m after e (stay at e found), value_stays m after e (stay at e found)));
         times = timed.1;
         tables = keyed.1;
         times_tables =
-            (Keyed-frame m after base.deadlines.table t.keyed
+            (keyed_frame m after base.deadlines.table t.keyed
             (λ at f found. (let n = t.names at f found in subst (λ r. after r ≡ m r) n.same (name_stays m after n.element (stay n.at n.element n.found))))).1;
         cursor = refl;
         sound = λ limits seed all at e found. sound_stays limits seed m after e (stay at e found) (all at e found);
@@ -145,7 +145,7 @@ module _ {V : Type 0} {IsSound : Limits → ℕ → Blocks → V → Type 0} (re
   relocates_then a b c m mid after p q = record {
     means = λ number. q.means number ∙ p.means number;
     arranged = q.arranged;
-    changes = Changes-then m mid after (owned (refs_of m) a) (owned (refs_of mid) b) (owned (refs_of after) c) p.changes q.changes;
+    changes = changes_then m mid after (owned (refs_of m) a) (owned (refs_of mid) b) (owned (refs_of after) c) p.changes q.changes;
     settings = settings_then refs_of value_of own a b c p.settings q.settings;
     keys = λ number. q.keys number ∙ p.keys number;
     deadlines = λ number. q.deadlines number ∙ p.deadlines number;
@@ -157,7 +157,7 @@ module _ {V : Type 0} {IsSound : Limits → ℕ → Blocks → V → Type 0} (re
   relocates_none bases m intact = record {
     means = λ number. refl;
     arranged = intact.arranged;
-    changes = Changes-same m (owned (refs_of m) bases) (λ r. omega (arith, intact.owned r));
+    changes = changes_same m (owned (refs_of m) bases) (λ r. omega (arith, intact.owned r));
     settings = record { limits = refl; seed = refl; turn = refl };
     keys = λ number. refl;
     deadlines = λ number. refl;
@@ -182,9 +182,9 @@ module _ {V : Type 0} {IsSound : Limits → ℕ → Blocks → V → Type 0} (re
     -- what was owned and is owned has the bytes that it had
     stay : (r : BlockRef) → 0 < times r (owned (refs_of m) old) → 0 < times r (owned (refs_of m) new) → after r ≡ m r
     stay r was is = elim (cases_in r (name ∷ [])) [
-      | inl out ↦ Owned-others m after (name ∷ []) (ref ∷ []) (owned (refs_of m) old) (λ q. omega (arith, intact.owned q)) p r was out
+      | inl out ↦ owned_others m after (name ∷ []) (ref ∷ []) (owned (refs_of m) old) (λ q. omega (arith, intact.owned q)) p r was out
       | inr isin ↦
-          (let to : ref ≡ r = in_one r ref (omega (arith, balance r, is, isin, intact.owned r, live-once m r)) in
+          (let to : ref ≡ r = in_one r ref (omega (arith, balance r, is, isin, intact.owned r, live_once m r)) in
           ap after (sym to) ∙ bytes ∙ ap m (in_one r name isin))
     ]
 
@@ -217,7 +217,7 @@ module _ {V : Type 0} {IsSound : Limits → ℕ → Blocks → V → Type 0} (re
     -- the key table means the keys and values that it meant
     values_here : map_of after (value_of after) (table_at new db) ≡ map_of m (value_of m) (table_at old db)
     values_here =
-        map_of-same m after (value_of m) (value_of after) (table_at old db) (table_at new db) (intact.arranged.keyed db) keyed_here.0
+        map_of_same m after (value_of m) (value_of after) (table_at old db) (table_at new db) (intact.arranged.keyed db) keyed_here.0
         (λ i e there. elim (cases_eq i at) [
           | inl here ↦
               (let same : e ≡ keys.element = some_same (item (table_at old db) at) _ _ (ap (item (table_at old db)) (sym here) ∙ there) keys.found in
@@ -262,7 +262,7 @@ module _ {V : Type 0} {IsSound : Limits → ℕ → Blocks → V → Type 0} (re
         → TimesMoved m after (table_at new db) (deadlines_at old db) (deadlines_at new db)
     times_alone key is same lacks = subst (TimesMoved m after (table_at new db) (deadlines_at old db)) (sym same) (record {
       timed = record { keyed = frame.0; names = λ i f found. (kept i f found).1; latest = t.latest };
-      times = map_of-frame m after (λ v. v) (λ v. v) (deadlines_at old db).table t.keyed frame.0 (λ i f found. ((kept i f found).0, refl));
+      times = map_of_frame m after (λ v. v) (λ v. v) (deadlines_at old db).table t.keyed frame.0 (λ i f found. ((kept i f found).0, refl));
       tables = frame.1;
       cursor = refl;
       seed = refl;
@@ -275,7 +275,7 @@ module _ {V : Type 0} {IsSound : Limits → ℕ → Blocks → V → Type 0} (re
         kept i f found = other_timed i f found (λ e. lacks.each i f found (e ∙ is))
 
         frame : Keyed after (deadlines_at old db).table × (key_tables after (deadlines_at old db).table ≡ key_tables m (deadlines_at old db).table)
-        frame = Keyed-frame m after (deadlines_at old db).table t.keyed (λ i f found. (kept i f found).0)
+        frame = keyed_frame m after (deadlines_at old db).table t.keyed (λ i f found. (kept i f found).0)
 
     -- its deadline is named by the same block
     pub times_with : (key : List ℕ) (number : ℕ) → m name ≡ Some key → Stands m (deadlines_at old db).table number key
@@ -297,7 +297,7 @@ module _ {V : Type 0} {IsSound : Limits → ℕ → Blocks → V → Type 0} (re
           | inr other ↦ t.latest i f (sym (r.updates.others i other) ∙ found)
         ];
       };
-      times = map_of-renames m after (λ v. v) (deadlines_at old db).table (deadlines_at new db).table number ref t.keyed keyed.0 r (bytes ∙ sym same_bytes)
+      times = map_of_renames m after (λ v. v) (deadlines_at old db).table (deadlines_at new db).table number ref t.keyed keyed.0 r (bytes ∙ sym same_bytes)
           (λ i f other found. (kept i f other found).0);
       tables = keyed.1;
       cursor = cursor;
@@ -347,7 +347,7 @@ module _ {V : Type 0} {IsSound : Limits → ℕ → Blocks → V → Type 0} (re
           times_seed = t.seed;
         })
         stay_apart
-        (Changes-beside m after (name ∷ []) (ref ∷ []) (owned (refs_of m) old) (owned (refs_of after) new) p (λ r. omega (arith, intact.owned r))
+        (changes_beside m after (name ∷ []) (ref ∷ []) (owned (refs_of m) old) (owned (refs_of after) new) p (λ r. omega (arith, intact.owned r))
         (λ r. times r (owned (refs_of m) old) - times r (name ∷ [])) (λ r. omega (arith, among r))
         (λ r. omega (arith, among r, balance r, ap (times r) (owned_same (refs_of m) (refs_of after) new new_refs))))
       where
@@ -517,7 +517,7 @@ module _ {V : Type 0} {IsSound : Limits → ℕ → Blocks → V → Type 0} (re
 
       -- while the value is out the table's keys stay live blocks whose bytes differ, each in its bucket
       frame : Keyed after (table_at mid db) × (key_tables after (table_at mid db) ≡ key_tables m (table_at mid db))
-      frame = Keyed-frame m after (table_at mid db) keyed (λ other e found. name_stays m after e (mid_stays db other e found))
+      frame = keyed_frame m after (table_at mid db) keyed (λ other e found. name_stays m after e (mid_stays db other e found))
 
       -- while the value is out each deadline stays that of a key, and all mean what they meant
       timed_mid : IsTimed after (table_at mid db) (deadlines_at old db) × (moments after (deadlines_at old db) ≡ moments m (deadlines_at old db))
@@ -532,7 +532,7 @@ module _ {V : Type 0} {IsSound : Limits → ℕ → Blocks → V → Type 0} (re
       -- with the moved value in its place the key table means the keys and values that it meant
       values_moved : map_of after (value_of after) (table_at new db) ≡ map_of m (value_of m) (table_at old db)
       values_moved =
-          map_of-same m after (value_of m) (value_of after) (table_at old db) (table_at new db) (intact.arranged.keyed db) (keyed_on frame.0)
+          map_of_same m after (value_of m) (value_of after) (table_at old db) (table_at new db) (intact.arranged.keyed db) (keyed_on frame.0)
           (λ i e there. elim (cases_eq i at) [
             | inl here ↦
                 (let one' : e ≡ first = some_same (item (table_at old db) at) _ _ (ap (item (table_at old db)) (sym here) ∙ there) s.found in
@@ -583,7 +583,7 @@ module _ {V : Type 0} {IsSound : Limits → ℕ → Blocks → V → Type 0} (re
       pub value_relocates : Relocates refs_of value_of IsSound old new m after
       value_relocates =
           relocates_one old new db m after intact.arranged base renewed apart_stays
-          (Changes-beside m after (refs_of m was) (refs_of after value) (owned (refs_of m) old) (owned (refs_of after) new) p (λ r. omega (arith, intact.owned r))
+          (changes_beside m after (refs_of m was) (refs_of after value) (owned (refs_of m) old) (owned (refs_of after) new) p (λ r. omega (arith, intact.owned r))
           (λ r. times r (owned (refs_of m) mid))
           (λ r. omega (arith, owned_swaps (refs_of m) old mid db c.base r at was vacant s, nothing r))
           (λ r. omega (

@@ -7,9 +7,9 @@ use Rattle.std.specs.FinMap as map
 use Rattle.blocks.specs.declared.BlockRef.{BlockRef}
 use Rattle.blocks.specs.Blocks.{Blocks, times, live, Changes}
 use Rattle.blocks.proofs.Times.{times-append}
-use Rattle.blocks.proofs.Refs.{ref_eq-refl}
-use Rattle.blocks.proofs.Change.{one, Changes-same, Changes-then, Changes-beside}
-use Rattle.rehash_dict.proofs.MapOf.{map_of-has}
+use Rattle.blocks.proofs.Refs.{ref_eq_refl}
+use Rattle.blocks.proofs.Change.{one, changes_same, changes_then, changes_beside}
+use Rattle.rehash_dict.proofs.MapOf.{map_of_has}
 use Rattle.plain_world.specs.Worlds.{Value, Entry, World, Database, look, put, put_in, remove, selecting, deadline_of}
 use Rattle.expiry.specs.Timed.{Timed, moments}
 use Rattle.held.specs.Table.{Table, Element, item, Stands, Keyed, Swaps}
@@ -91,7 +91,7 @@ module _ {V : Type 0} {IsSound : Limits → ℕ → Blocks → V → Type 0} (re
       → IsDeadline deadline
   deadline_late bases db m a key None is = tt
   deadline_late bases db m a key (Some deadline) is =
-      (let had = map_of-has m (λ v. v) (deadlines_at bases db).table key deadline (a.timed db).keyed is in
+      (let had = map_of_has m (λ v. v) (deadlines_at bases db).table key deadline (a.timed db).keyed is in
       subst (λ d. d < 2 ^ 63) had.1 ((a.timed db).latest had.0.at had.0.element had.0.found))
 
   -- ---- the value is taken out of its place
@@ -166,7 +166,7 @@ module _ {V : Type 0} {IsSound : Limits → ℕ → Blocks → V → Type 0} (re
         had : (i : ℕ) (e : Element V) → item (table_at last to_db) i ≡ Some e → later e.key ≡ Some to → HasValue old m db key e.value
         had i e found bytes =
             let stayed = left.stayed to_db i e found (λ none. none.1) in
-            let itself : one e.key e.key ≡ 1 = cond-true _ _ _ (ref_eq-refl e.key) in
+            let itself : one e.key e.key ≡ 1 = cond-true _ _ _ (ref_eq_refl e.key) in
             let same = stayed.bytes e.key (omega (arith, itself)) in
             record { at = at; element = record { key = s.key; hash = s.hash; value = was }; found = s.found; bytes = out_key; is = sym (only i e stayed.stood (sym same ∙ bytes)) }
 
@@ -181,8 +181,8 @@ module _ {V : Type 0} {IsSound : Limits → ℕ → Blocks → V → Type 0} (re
       -- with the value at the other key what is owned stands in place of what was owned
       pub moved_changes : Changes m after (owned (refs_of m) old) (owned (refs_of after) new)
       moved_changes =
-          Changes-then m m after (owned (refs_of m) old) (owned (refs_of m) mid ++ refs_of m was) (owned (refs_of after) new)
-          (Changes-beside m m [] [] (owned (refs_of m) old) (owned (refs_of m) mid ++ refs_of m was) (Changes-same m [] (λ q. omega arith)) (λ r. omega (arith, intact.owned r))
+          changes_then m m after (owned (refs_of m) old) (owned (refs_of m) mid ++ refs_of m was) (owned (refs_of after) new)
+          (changes_beside m m [] [] (owned (refs_of m) old) (owned (refs_of m) mid ++ refs_of m was) (changes_same m [] (λ q. omega arith)) (λ r. omega (arith, intact.owned r))
           (λ r. times r (owned (refs_of m) old)) (λ r. omega arith)
           (λ r. omega (arith, out_owned r, times-append r (owned (refs_of m) mid) (refs_of m was)))) p
 
@@ -295,5 +295,5 @@ module _ {V : Type 0} {IsSound : Limits → ℕ → Blocks → V → Type 0} (re
         -- where the value is put back, what is owned stands in place of what was owned
         pub refused_same : Changes m after (owned (refs_of m) old) (owned (refs_of after) last)
         refused_same = subst (λ x. Changes m x (owned (refs_of m) old) (owned (refs_of x) last)) (sym same)
-            (Changes-beside m m [] [] (owned (refs_of m) old) (owned (refs_of m) last) (Changes-same m [] (λ q. omega arith)) (λ r. omega (arith, intact.owned r))
+            (changes_beside m m [] [] (owned (refs_of m) old) (owned (refs_of m) last) (changes_same m [] (λ q. omega arith)) (λ r. omega (arith, intact.owned r))
             (λ r. times r (owned (refs_of m) old)) (λ r. omega arith) (λ r. omega (arith, back_owned r)))

@@ -5,7 +5,7 @@ use Rattle.std.proofs.lemmas.Bool.{cases_eq}
 use Rattle.blocks.specs.declared.BlockRef.{BlockRef}
 use Rattle.blocks.specs.Blocks.{Blocks, times}
 use Rattle.rehash_dict.specs.Table.{at_item}
-use Rattle.rehash_dict.proofs.MapOf.{map_of-items}
+use Rattle.rehash_dict.proofs.MapOf.{map_of_items}
 use Rattle.plain_world.specs.Worlds.{Value}
 use Rattle.expiry.specs.Timed.{Timed}
 use Rattle.held.specs.Table.{Table, Keyed, own_of}
@@ -72,8 +72,8 @@ module _ {V : Type 0} {IsSound : Limits → ℕ → Blocks → V → Type 0} (re
   items_means = λ i. record { bases = λ number. each number i; selected = db }
     where
       here_same : base_means value_of m (base_at new db) ≡ base_means value_of m (base_at old db)
-      here_same = λ i. with_deadlines (map_of-items m (value_of m) (table_at old db) (table_at new db) k.keys i)
-          (map_of-items m (λ v. v) (deadlines_at old db).table (deadlines_at new db).table k.times i)
+      here_same = λ i. with_deadlines (map_of_items m (value_of m) (table_at old db) (table_at new db) k.keys i)
+          (map_of_items m (λ v. v) (deadlines_at old db).table (deadlines_at new db).table k.times i)
 
       each : (number : ℕ) → base_means value_of m (base_at new number) ≡ base_means value_of m (base_at old number)
       each number = elim (cases_eq number db) [

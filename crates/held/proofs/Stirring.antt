@@ -7,7 +7,7 @@ use Rattle.blocks.specs.Blocks.{Blocks}
 use Rattle.rehash_dict.specs.Tables.{Tables, is_rehashing, named, wants_shrink, shrunk}
 use Rattle.rehash_dict.specs.Table.{tables, item}
 use Rattle.rehash_dict.specs.Keyed.{key_of, key_tables}
-use Rattle.rehash_dict.proofs.Named.{wants-named}
+use Rattle.rehash_dict.proofs.Named.{wants_named}
 use Rattle.held.specs.declared.databases.Base.{Base}
 use Rattle.held.specs.Table.{Table}
 use Rattle.held.specs.Databases.{Bases, no_base, base_at}
@@ -33,7 +33,7 @@ going_shrunk {E = E} old new result value tables_are is =
     let name_old : ℕ → List ℕ = λ at. key_of none (item old at) in
     let name_new : ℕ → List ℕ = λ at. key_of none (item new at) in
     sym (going_named name_new (tables new))
-    ∙ ap is_rehashing (made ∙ shrinks_none (key_tables none old) (wants-named name_old (tables old) ∙ sym calm))
+    ∙ ap is_rehashing (made ∙ shrinks_none (key_tables none old) (wants_named name_old (tables old) ∙ sym calm))
     ∙ going_named name_old (tables old)
 
 -- where one database changes, and no rehash begins in it, none is going on where none was

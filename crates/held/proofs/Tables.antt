@@ -5,11 +5,11 @@ use Rattle.std.proofs.lemmas.List.{get_or-set_same, get_or-set_other, get_or_def
 use Rattle.blocks.specs.declared.BlockRef.{BlockRef}
 use Rattle.blocks.specs.Blocks.{Blocks, ref_eq, bytes_at, times}
 use Rattle.blocks.proofs.Times.{times-append}
-use Rattle.blocks.proofs.Refs.{ref_eq-refl}
+use Rattle.blocks.proofs.Refs.{ref_eq_refl}
 use Rattle.blocks.proofs.Change.{one_if}
 use Rattle.rehash_dict.specs.Placed.{no_table}
 use Rattle.rehash_dict.specs.Table.{at_item}
-pub use Rattle.rehash_dict.proofs.MapOf.{map_of-empty}
+pub use Rattle.rehash_dict.proofs.MapOf.{map_of_empty}
 use Rattle.held.specs.Table.{Table, Element, item, no_keys, Keyed, own_of, refs}
 use Rattle.held.specs.declared.databases.Base.{Base}
 use Rattle.held.specs.Databases.{Bases, base_at, no_base, SameSettings, ChangesBase}
@@ -18,7 +18,7 @@ use Rattle.held.specs.Databases.{Bases, base_at, no_base, SameSettings, ChangesB
 
 -- a reference is itself once
 pub key_itself : (r : BlockRef) → one_if (ref_eq r r) ≡ 1
-key_itself r = cond-true _ _ _ (ref_eq-refl r)
+key_itself r = cond-true _ _ _ (ref_eq_refl r)
 
 pub some_bytes : (blocks : Blocks) (r : BlockRef) (key : List ℕ) → blocks r ≡ Some key → bytes_at blocks r ≡ key
 some_bytes blocks r key h = ap (λ o. unwrap_or o []) h
@@ -36,8 +36,8 @@ module _ {V : Type 0} where
       in_list (x ∷ items) (suc at) found = omega (arith, in_list items at found, times-append r (own_of own x) (flat_map (own_of own) items))
 
   -- a table without a key
-  pub Keyed-none : (m : Blocks) (seed : ℕ) → Keyed m (no_keys {V = V} seed)
-  Keyed-none m seed = record {
+  pub keyed_none : (m : Blocks) (seed : ℕ) → Keyed m (no_keys {V = V} seed)
+  keyed_none m seed = record {
     placed = record {
       kept = record {
         stand = record {

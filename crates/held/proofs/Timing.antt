@@ -4,14 +4,14 @@ use Rattle.std.proofs.lemmas.Bool.{cases_eq}
 use Rattle.std.specs.FinMap.{get}
 use Rattle.blocks.specs.declared.BlockRef.{BlockRef}
 use Rattle.blocks.specs.Blocks.{Blocks, bytes_at}
-use Rattle.rehash_dict.proofs.Keys.{Keyed-frame}
-use Rattle.rehash_dict.proofs.MapOf.{map_of-lacks, map_of-frame}
+use Rattle.rehash_dict.proofs.Keys.{keyed_frame}
+use Rattle.rehash_dict.proofs.MapOf.{map_of_lacks, map_of_frame}
 use Rattle.expiry.specs.Timed.{Timed, moments, no_deadline}
 use Rattle.expiry.specs.Changes.{Sets, Clears}
 use Rattle.expiry.specs.Changes.Sets.{changes, joins}
 use Rattle.held.specs.Table.{Table, Element, item, Lacks, Keyed, Adds, Swaps, Removes, no_keys}
 use Rattle.held.specs.Sound.{Names, IsTimed}
-use Rattle.held.proofs.Tables.{Keyed-none, some_bytes}
+use Rattle.held.proofs.Tables.{keyed_none, some_bytes}
 
 pub some_same : {A : Type 0} (o : Option A) (x y : A) → o ≡ Some x → o ≡ Some y → x ≡ y
 some_same o x y h k = cc
@@ -21,7 +21,7 @@ some_none o x h k = cc
 
 -- no deadline stands at a key that none has
 pub moments_lack : (m : Blocks) (d : Timed) (key : List ℕ) → Keyed m d.table → Lacks m d.table key → get (moments m d) key ≡ None
-moments_lack m d key k lacks = map_of-lacks m (λ v. v) d.table key k lacks
+moments_lack m d key k lacks = map_of_lacks m (λ v. v) d.table key k lacks
 
 module _ {V : Type 0} (m : Blocks) where
   -- the keys that have deadlines stay
@@ -164,7 +164,7 @@ module _ {V : Type 0} (m : Blocks) where
   untimed keys d key t lacks = record { each = λ i f found bytes. (let n = t.names i f found in lacks.each n.at n.element n.found (ap m n.same ∙ bytes)) }
 
   pub timed_none : (seed number : ℕ) → IsTimed m (no_keys {V = V} seed) (no_deadline number)
-  timed_none seed number = record { keyed = Keyed-none m number; names = λ i f found. cc; latest = λ i f found. cc }
+  timed_none seed number = record { keyed = keyed_none m number; names = λ i f found. cc; latest = λ i f found. cc }
 
 -- the keys keep their bytes, and so do the deadlines
 pub timed_frame : {V : Type 0} (m after : Blocks) (keys : Table V) (d : Timed) → IsTimed m keys d → ((at : ℕ) (e : Element V) → item keys at ≡ Some e → after e.key ≡ m e.key)
@@ -172,5 +172,5 @@ pub timed_frame : {V : Type 0} (m after : Blocks) (keys : Table V) (d : Timed) �
 timed_frame m after keys d t kept =
     let same : (at : ℕ) (e : Element ℕ) → item d.table at ≡ Some e
     → after e.key ≡ m e.key = (λ at e found. (let n = t.names at e found in subst (λ r. after r ≡ m r) n.same (kept n.at n.element n.found))) in
-    let keyed = (Keyed-frame m after d.table t.keyed same).0 in
-    (record { keyed = keyed; names = t.names; latest = t.latest }, map_of-frame m after (λ v. v) (λ v. v) d.table t.keyed keyed (λ at e found. (same at e found, refl)))
+    let keyed = (keyed_frame m after d.table t.keyed same).0 in
+    (record { keyed = keyed; names = t.names; latest = t.latest }, map_of_frame m after (λ v. v) (λ v. v) d.table t.keyed keyed (λ at e found. (same at e found, refl)))

@@ -5,7 +5,7 @@ use Rattle.std.proofs.Math.Seq.{take-length}
 use Rattle.std.proofs.lemmas.Bool.{cases_eq, ne_eqb, cond-false}
 use Rattle.blocks.specs.declared.BlockRef.{BlockRef}
 use Rattle.blocks.specs.Blocks.{Blocks, bytes_at, times, Changes, IsOut}
-use Rattle.blocks.proofs.Change.{Changes-then}
+use Rattle.blocks.proofs.Change.{changes_then}
 use Rattle.rehash_dict.specs.Keyed.{key_tables}
 use Rattle.plain_world.specs.Worlds.{Value, World, live, live_keys}
 use Rattle.plain_world.proofs.Lives.{live_later}
@@ -97,7 +97,7 @@ module _ {V : Type 0} {IsSound : Limits → ℕ → Blocks → V → Type 0} (re
       thinned = subst (λ xs. Thinned refs_of xs old next m after db) (sym (take_next found n name at_n)) (thinned_then refs_of (take n found) (name ∷ []) old now next m mid after db d.thinned t);
       cursor = cursor_stays refs_of now next mid after db within ∙ d.cursor;
       arranged = a;
-      changes = Changes-then m mid after (owned (refs_of m) old) (owned (refs_of mid) now) (owned (refs_of after) next) d.changes p;
+      changes = changes_then m mid after (owned (refs_of m) old) (owned (refs_of mid) now) (owned (refs_of after) next) d.changes p;
     }
 
   -- where all keys that were found were dropped exactly these have left the database
@@ -195,7 +195,7 @@ module _ {V : Type 0} {IsSound : Limits → ℕ → Blocks → V → Type 0} (re
       -- a change of the store from what is owned after the cycle is one from what was owned before it
       pub step_changes : IsIntact refs_of IsSound old m [] → Changes m after (owned (refs_of m) mid) (owned (refs_of after) new) → Changes m after (owned (refs_of m) old) (owned (refs_of after) new)
       step_changes intact p =
-          Changes-then m m after (owned (refs_of m) old) (owned (refs_of m) mid) (owned (refs_of after) new)
+          changes_then m m after (owned (refs_of m) old) (owned (refs_of m) mid) (owned (refs_of after) new)
           (subst (λ (b : Bases V). Changes m m (owned (refs_of m) old) (owned (refs_of m) b)) (sym passes) (cleared_changes refs_of value_of own old cycled cycled db m intact c refl)) p
 
       -- an expiry step leaves all that lives at its moment, whichever database is selected
@@ -230,7 +230,7 @@ module _ {V : Type 0} {IsSound : Limits → ℕ → Blocks → V → Type 0} (re
     lives = λ number. lives number ∙ o.lives number;
     stayed = λ db at x found. (let last = e.thinned.stayed db at x found in stayed_then refs_of a b m mid after db at x last (o.stayed db at x last.stood));
     arranged = arranged;
-    changes = Changes-then m mid after (owned (refs_of m) a) (owned (refs_of mid) b) (owned (refs_of after) c) o.changes changes;
+    changes = changes_then m mid after (owned (refs_of m) a) (owned (refs_of mid) b) (owned (refs_of after) c) o.changes changes;
     limits = e.limits ∙ o.limits;
     seed = e.seed ∙ o.seed;
   }

@@ -5,7 +5,7 @@ use Rattle.object_codec.specs.declared.limits.Limits.{Limits}
 use Rattle.blocks.specs.declared.BlockRef.{BlockRef}
 use Rattle.blocks.specs.Blocks.{Blocks, times, Changes}
 use Rattle.blocks.proofs.Times.{times-append}
-use Rattle.blocks.proofs.Change.{Counts-changed}
+use Rattle.blocks.proofs.Change.{counts_changed}
 use Rattle.plain_world.specs.Worlds.{Value, Entry, put, stand}
 use Rattle.plain_world.specs.Worlds as model
 use Rattle.held.specs.declared.keyspace.Lifted.{Lifted}
@@ -26,54 +26,54 @@ module _ {V : Type 0} {IsSound : Limits → ℕ → Blocks → V → Type 0} (re
 
   module _ (bases : Bases V) (m after : Blocks) (out later xs ys : List BlockRef) (sound : SoundBeside refs_of IsSound bases m out) (p : Changes m after xs ys)
       (part : (r : BlockRef) → times r xs ≤ times r out) where
-    pub Changed-sound : ((r : BlockRef) → times r later + times r xs ≡ times r out + times r ys) → SoundBeside refs_of IsSound bases after later
-    Changed-sound same = record {
+    pub changed_sound_in_uses : ((r : BlockRef) → times r later + times r xs ≡ times r out + times r ys) → SoundBeside refs_of IsSound bases after later
+    changed_sound_in_uses same = record {
       owns = λ r. omega (
         arith,
         sound.owns r,
         same r,
         ap (times r) (owned_out refs_of value_of own bases m after out xs ys (sound_intact refs_of value_of own bases m out sound) p part),
-        (Counts-changed m after xs ys (λ q. omega (arith, sound.owns q, part q)) p).balance r,
+        (counts_changed m after xs ys (λ q. omega (arith, sound.owns q, part q)) p).balance r,
       );
       arranged = arranged_out refs_of value_of own bases m after out xs ys (sound_intact refs_of value_of own bases m out sound) p part;
     }
 
-    pub Changed-means : (db : ℕ) → means value_of db bases after ≡ means value_of db bases m
-    Changed-means db = means_out refs_of value_of own bases m after out xs ys (sound_intact refs_of value_of own bases m out sound) p part db
+    pub changed_means : (db : ℕ) → means value_of db bases after ≡ means value_of db bases m
+    changed_means db = means_out refs_of value_of own bases m after out xs ys (sound_intact refs_of value_of own bases m out sound) p part db
 
   -- ---- a value is made and put in place of what stands at a key
 
   module _ (bases : Bases V) (m after : Blocks) (value : V) (sound : Sound refs_of IsSound bases m) (p : Changes m after [] (refs_of after value)) where
-    pub Made-sound : SoundBeside refs_of IsSound bases after (refs_of after value)
-    Made-sound = Changed-sound bases m after [] (refs_of after value) [] (refs_of after value) sound p (λ r. omega arith) (λ r. omega arith)
+    pub made_sound : SoundBeside refs_of IsSound bases after (refs_of after value)
+    made_sound = changed_sound_in_uses bases m after [] (refs_of after value) [] (refs_of after value) sound p (λ r. omega arith) (λ r. omega arith)
 
     -- what `put` asks
-    pub Made-intact : IsSound bases.limits bases.seed after value → IsIntactWith refs_of IsSound bases after value
-    Made-intact is_sound = record { owned = λ r. omega (arith, Made-sound.owns r); arranged = Made-sound.arranged; sound = is_sound }
+    pub made_intact : IsSound bases.limits bases.seed after value → IsIntactWith refs_of IsSound bases after value
+    made_intact is_sound = record { owned = λ r. omega (arith, made_sound.owns r); arranged = made_sound.arranged; sound = is_sound }
 
-    pub Made-means : (db : ℕ) → means value_of db bases after ≡ means value_of db bases m
-    Made-means db = Changed-means bases m after [] (refs_of after value) [] (refs_of after value) sound p (λ r. omega arith) db
+    pub made_means : (db : ℕ) → means value_of db bases after ≡ means value_of db bases m
+    made_means db = changed_means bases m after [] (refs_of after value) [] (refs_of after value) sound p (λ r. omega arith) db
 
-    Made-within : (scope : Scope) → Within refs_of scope bases bases m after
-    Made-within scope = within_store refs_of value_of own scope bases m after [] [] (refs_of after value) (sound_intact refs_of value_of own bases m [] sound) p (λ r. omega arith)
+    made_within_in_uses : (scope : Scope) → Within refs_of scope bases bases m after
+    made_within_in_uses scope = within_store refs_of value_of own scope bases m after [] [] (refs_of after value) (sound_intact refs_of value_of own bases m [] sound) p (λ r. omega arith)
 
     module _ (new : Bases V) (later : Blocks) where
       -- from the clause `within` of `put`
-      pub Put-within : (scope : Scope) → Within refs_of scope bases new after later → Within refs_of scope bases new m later
-      Put-within scope clause = within_then refs_of scope bases bases new m after later (Made-within scope) clause
+      pub put_within_in_uses : (scope : Scope) → Within refs_of scope bases new after later → Within refs_of scope bases new m later
+      put_within_in_uses scope clause = within_then refs_of scope bases bases new m after later (made_within_in_uses scope) clause
 
       -- from the clause `sound` of `put`
-      pub Put-sound : ((all out : List BlockRef) → SoundBeside refs_of IsSound bases after all → AreParts all (refs_of after value) out → SoundBeside refs_of IsSound new later out)
+      pub put_sound_in_uses : ((all out : List BlockRef) → SoundBeside refs_of IsSound bases after all → AreParts all (refs_of after value) out → SoundBeside refs_of IsSound new later out)
           → Sound refs_of IsSound new later
-      Put-sound clause = clause (refs_of after value) [] Made-sound (λ r. omega arith)
+      put_sound_in_uses clause = clause (refs_of after value) [] made_sound (λ r. omega arith)
 
       -- from the clause `means` of `put`, or its clause `kept`: the world that the step speaks of
-      pub Put-means : (db moment : ℕ) (key : List ℕ) (entry : Entry) → means value_of db new later ≡ put (means value_of db bases after) key entry
+      pub put_means_in_uses : (db moment : ℕ) (key : List ℕ) (entry : Entry) → means value_of db new later ≡ put (means value_of db bases after) key entry
           → model.live (means value_of db new later) moment ≡ stand (model.live (means value_of db bases m) moment) moment key entry
-      Put-means db moment key entry clause = ap (λ w. model.live w moment) (clause ∙ ap (λ w. put w key entry) (Made-means db)) ∙ live_put (means value_of db bases m) moment key entry
+      put_means_in_uses db moment key entry clause = ap (λ w. model.live w moment) (clause ∙ ap (λ w. put w key entry) (made_means db)) ∙ live_put (means value_of db bases m) moment key entry
 
-      pub Put-kept : (db moment : ℕ) → means value_of db new later ≡ means value_of db bases after → model.live (means value_of db new later) moment ≡ model.live (means value_of db bases m) moment
-      Put-kept db moment clause = ap (λ w. model.live w moment) (clause ∙ Made-means db)
+      pub put_kept : (db moment : ℕ) → means value_of db new later ≡ means value_of db bases after → model.live (means value_of db new later) moment ≡ model.live (means value_of db bases m) moment
+      put_kept db moment clause = ap (λ w. model.live w moment) (clause ∙ made_means db)
 
   -- ---- a value is lifted, changed and lowered again
 
@@ -84,15 +84,15 @@ module _ {V : Type 0} {IsSound : Limits → ℕ → Blocks → V → Type 0} (re
     part r = omega (arith, times-append r (refs_of m lifted.value) out)
 
     changed_sound : SoundBeside refs_of IsSound mid after (refs_of after changed.value ++ out)
-    changed_sound = Changed-sound mid m after (refs_of m lifted.value ++ out) (refs_of after changed.value ++ out) (refs_of m lifted.value) (refs_of after changed.value) sound p part
+    changed_sound = changed_sound_in_uses mid m after (refs_of m lifted.value ++ out) (refs_of after changed.value ++ out) (refs_of m lifted.value) (refs_of after changed.value) sound p part
         (λ r. omega (arith, times-append r (refs_of m lifted.value) out, times-append r (refs_of after changed.value) out))
 
     -- what `lower` asks
-    pub Lower-intact : IsSound mid.limits mid.seed after changed.value → IsIntactWith refs_of IsSound mid after changed.value
-    Lower-intact is_sound = record { owned = λ r. omega (arith, changed_sound.owns r, times-append r (refs_of after changed.value) out); arranged = changed_sound.arranged; sound = is_sound }
+    pub lower_intact : IsSound mid.limits mid.seed after changed.value → IsIntactWith refs_of IsSound mid after changed.value
+    lower_intact is_sound = record { owned = λ r. omega (arith, changed_sound.owns r, times-append r (refs_of after changed.value) out); arranged = changed_sound.arranged; sound = is_sound }
 
-    pub Lower-vacant : IsVacant empty mid changed.db changed.item
-    Lower-vacant = subst (λ d. IsVacant empty mid d changed.item) (sym (same_db ∙ lifts.same_db)) (subst (IsVacant empty mid db) (sym same_item) lifts.vacant)
+    pub lower_vacant : IsVacant empty mid changed.db changed.item
+    lower_vacant = subst (λ d. IsVacant empty mid d changed.item) (sym (same_db ∙ lifts.same_db)) (subst (IsVacant empty mid db) (sym same_item) lifts.vacant)
 
     -- the place is that of the key still
     place : IsPlace mid after changed.db changed.item key lifts.deadline
@@ -110,21 +110,21 @@ module _ {V : Type 0} {IsSound : Limits → ℕ → Blocks → V → Type 0} (re
 
     module _ (new : Bases V) where
       -- from the clause `sound` of `lower`
-      pub Lower-sound :
+      pub lower_sound :
           ((all rest : List BlockRef) → SoundBeside refs_of IsSound mid after all → AreParts all (refs_of after changed.value) rest → SoundBeside refs_of IsSound new after rest)
           → SoundBeside refs_of IsSound new after out
-      Lower-sound clause = clause (refs_of after changed.value ++ out) out changed_sound (λ r. times-append r (refs_of after changed.value) out)
+      lower_sound clause = clause (refs_of after changed.value ++ out) out changed_sound (λ r. times-append r (refs_of after changed.value) out)
 
       -- from the clause `has` of `lower`
-      pub Lower-has : ((k : List ℕ) (deadline : Option ℕ) → IsPlace mid after changed.db changed.item k deadline → HasOnly new after changed.db k changed.value)
+      pub lower_has : ((k : List ℕ) (deadline : Option ℕ) → IsPlace mid after changed.db changed.item k deadline → HasOnly new after changed.db k changed.value)
           → HasOnly new after db key changed.value
-      Lower-has clause = subst (λ d. HasOnly new after d key changed.value) (same_db ∙ lifts.same_db) (clause key lifts.deadline place)
+      lower_has clause = subst (λ d. HasOnly new after d key changed.value) (same_db ∙ lifts.same_db) (clause key lifts.deadline place)
 
       -- from the clauses `within` of `lift` and `lower`
-      pub Lower-within : Within refs_of (one_key db key) old mid m m
+      pub lower_within : Within refs_of (one_key db key) old mid m m
           → ((k : List ℕ) (deadline : Option ℕ) → IsPlace mid after changed.db changed.item k deadline → Within refs_of (one_key changed.db k) mid new after after)
           → Within refs_of (one_key db key) old new m after
-      Lower-within taken clause =
+      lower_within taken clause =
           within_then refs_of (one_key db key) old mid new m m after taken
           (within_then refs_of (one_key db key) mid mid new m after after
           (within_store refs_of value_of own (one_key db key) mid m after (refs_of m lifted.value ++ out) (refs_of m lifted.value) (refs_of after changed.value)

@@ -4,13 +4,13 @@ use Rattle.object_codec.specs.declared.limits.Limits.{Limits}
 use Rattle.std.proofs.lemmas.Bool.{cases_eq, cond-true}
 use Rattle.blocks.specs.declared.BlockRef.{BlockRef}
 use Rattle.blocks.specs.Blocks.{Blocks, ref_eq, times, bytes_at, Changes, no_step}
-use Rattle.blocks.proofs.Refs.{ref_eq-refl}
+use Rattle.blocks.proofs.Refs.{ref_eq_refl}
 use Rattle.blocks.proofs.Change.{one_if}
-use Rattle.blocks.proofs.Serve.{Served-same, Served-then}
+use Rattle.blocks.proofs.Serve.{served_same, served_then}
 use Rattle.plain_world.specs.Worlds.{Value}
 use Rattle.rehash_dict.specs.Grown.{Grown}
 use Rattle.rehash_dict.specs.Keyed.{hash_of, key_tables}
-use Rattle.rehash_dict.proofs.Keys.{Keyed-frame}
+use Rattle.rehash_dict.proofs.Keys.{keyed_frame}
 use Rattle.expiry.specs.Timed.{Timed, KeepsCursor}
 use Rattle.held.specs.declared.databases.Base.{Base}
 use Rattle.rehash_dict.specs.Table.{at_item}
@@ -31,8 +31,8 @@ module _ {V : Type 0} where
   -- where a database comes from a second one and this from a first, it comes from the first
   grows_then : (seed : ℕ) (a b c : Base V) (m mid after : Blocks) → BaseGrows seed a b m mid → BaseGrows seed b c mid after → BaseGrows seed a c m after
   grows_then seed a b c m mid after p q = record {
-    keys = Served-then _ _ _ p.keys q.keys;
-    deadlines = Served-then _ _ _ p.deadlines q.deadlines;
+    keys = served_then _ _ _ p.keys q.keys;
+    deadlines = served_then _ _ _ p.deadlines q.deadlines;
     cursor = q.cursor ∙ p.cursor;
   }
 
@@ -80,7 +80,7 @@ module _ {V : Type 0} (refs_of : Blocks → V → List BlockRef) where
         (subst (λ seed. Grew (scope.empties db) seed (base_at b db) (base_at c db) mid after) p.seed (q.grew db));
     stayed = λ db at e found apart.
         (let last = q.stayed db at e found apart in
-        let itself : one_if (ref_eq e.key e.key) ≡ 1 = cond-true _ _ _ (ref_eq-refl e.key) in
+        let itself : one_if (ref_eq e.key e.key) ≡ 1 = cond-true _ _ _ (ref_eq_refl e.key) in
         let bytes : bytes_at after e.key ≡ bytes_at mid e.key = ap (λ (o : Option (List ℕ)). unwrap_or o []) (last.bytes e.key (omega (arith, itself))) in
         let first = p.stayed db at e last.stood (λ named. apart (subst (scope.writes db) (sym bytes) named)) in
         record { stood = first.stood; bytes = λ r owns. last.bytes r (subst (λ list. 0 < times r (e.key ∷ list)) (sym first.refs) owns) ∙ first.bytes r owns; refs = last.refs ∙ first.refs });
@@ -146,8 +146,8 @@ module _ {V : Type 0} (refs_of : Blocks → V → List BlockRef) where
     within_swaps c at was value s tables named = record {
       same = same_apart c.base;
       grew = here_or_same c.base (record {
-        keys = Served-same _ _ tables;
-        deadlines = Served-same _ _ (ap (λ (d : Timed). key_tables m d.table) c.deadlines);
+        keys = served_same _ _ tables;
+        deadlines = served_same _ _ (ap (λ (d : Timed). key_tables m d.table) c.deadlines);
         cursor = ap (λ (d : Timed). d.cursor) c.deadlines;
       });
       stayed = from_here c.base (λ i e found apart. elim (cases_eq i at) [
@@ -182,7 +182,7 @@ module _ {V : Type 0} (refs_of : Blocks → V → List BlockRef) where
         same = same_apart c.base;
         grew = here_or_same c.base (record {
           keys = subst (λ seed. Grown (hash_of seed) (key_tables m (table_at old db)) (key_tables m (table_at new db))) (a.seeds db within).keys grown;
-          deadlines = Served-same _ _ (ap (λ (d : Timed). key_tables m d.table) c.deadlines);
+          deadlines = served_same _ _ (ap (λ (d : Timed). key_tables m d.table) c.deadlines);
           cursor = ap (λ (d : Timed). d.cursor) c.deadlines;
         });
         stayed = from_here c.base from;
@@ -195,7 +195,7 @@ module _ {V : Type 0} (refs_of : Blocks → V → List BlockRef) where
       within_times c grown cursor = record {
         same = same_apart c.base;
         grew = here_or_same c.base (record {
-          keys = Served-same _ _ (ap (key_tables m) c.keys);
+          keys = served_same _ _ (ap (key_tables m) c.keys);
           deadlines = subst (λ seed. Grown (hash_of seed) (key_tables m (deadlines_at old db).table) (key_tables m (deadlines_at new db).table)) (a.seeds db within).deadlines grown;
           cursor = cursor;
         });
@@ -243,8 +243,8 @@ module _ {V : Type 0} {IsSound : Limits → ℕ → Blocks → V → Type 0} (re
   within_store scope bases m after out xs ys intact p part = record {
     same = λ db apart. refl;
     grew = λ db. inl (record {
-      keys = Served-same _ _ (Keyed-frame m after (table_at bases db) (intact.arranged.keyed db) (λ at e found. key_kept db at e found)).1;
-      deadlines = Served-same _ _ (Keyed-frame m after (deadlines_at bases db).table (intact.arranged.timed db).keyed (λ at e found.
+      keys = served_same _ _ (keyed_frame m after (table_at bases db) (intact.arranged.keyed db) (λ at e found. key_kept db at e found)).1;
+      deadlines = served_same _ _ (keyed_frame m after (deadlines_at bases db).table (intact.arranged.timed db).keyed (λ at e found.
           (let n = (intact.arranged.timed db).names at e found in ap after (sym n.same) ∙ key_kept db n.at n.element n.found ∙ ap m n.same))).1;
       cursor = refl;
     });
@@ -257,4 +257,4 @@ module _ {V : Type 0} {IsSound : Limits → ℕ → Blocks → V → Type 0} (re
           (omega (arith, owns, named_in (refs_of m) (table_at bases db) at e r found, table_owned (refs_of m) bases db r))
 
       key_kept : (db at : ℕ) (e : Element V) → item (table_at bases db) at ≡ Some e → after e.key ≡ m e.key
-      key_kept db at e found = kept db at e found e.key (let itself : one_if (ref_eq e.key e.key) ≡ 1 = cond-true _ _ _ (ref_eq-refl e.key) in omega (arith, itself))
+      key_kept db at e found = kept db at e found e.key (let itself : one_if (ref_eq e.key e.key) ≡ 1 = cond-true _ _ _ (ref_eq_refl e.key) in omega (arith, itself))

@@ -5,7 +5,7 @@ use Rattle.std.proofs.lemmas.Bool.{cases_eq}
 use Rattle.blocks.specs.declared.BlockRef.{BlockRef}
 use Rattle.blocks.specs.Blocks.{Blocks, bytes_at, times}
 use Rattle.rehash_dict.specs.Keyed.{same_key}
-use Rattle.rehash_dict.proofs.Keys.{same_key-true, same_key-refl, live_bytes}
+use Rattle.rehash_dict.proofs.Keys.{same_key_true, same_key_refl, live_bytes}
 use Rattle.held.specs.Table.{Element, item}
 use Rattle.held.specs.Databases.{Bases, table_at}
 use Rattle.held.specs.Sound.{IsArranged}
@@ -18,8 +18,8 @@ cases_key : (a b : List ℕ) → (a ≡ b) ⊎ (a ≡ b → ⊥)
 cases_key a b = either (same_key a b) refl
   where
     either : (x : Bool) → same_key a b ≡ x → (a ≡ b) ⊎ (a ≡ b → ⊥)
-    either true is = inl (same_key-true a b is)
-    either false is = inr (λ same. (let both : true ≡ false = sym (same_key-refl a) ∙ ap (same_key a) same ∙ is in cc))
+    either true is = inl (same_key_true a b is)
+    either false is = inr (λ same. (let both : true ≡ false = sym (same_key_refl a) ∙ ap (same_key a) same ∙ is in cc))
 
 -- which keys a scope lets be written is settled
 abbrev pub IsSettled : Scope → Type 0

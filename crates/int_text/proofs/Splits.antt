@@ -8,7 +8,7 @@ use Rattle.std.proofs.lemmas.Int.Digits.{digits_value-lt}
 use Rattle.std.proofs.Math.Nat.{mul-le-mul_right}
 use Rattle.int_text.specs.Places.{whole_kept, fraction_kept, kept, IsNothingBehind}
 use Rattle.int_text.proofs.Parts.{digits_drop}
-use Rattle.int_text.proofs.Wholes.{value_after_is, value-append, ten_pos}
+use Rattle.int_text.proofs.Wholes.{value_after_is, value_append, ten_pos}
 
 -- the digits before the point have the number K, the r digits behind it the number R
 pub record Split (W F : List ℕ) (before : ℕ) : Type 0 where
@@ -24,7 +24,7 @@ pub record Split (W F : List ℕ) (before : ℕ) : Type 0 where
 -- a run of digits is its first n and the others
 value_split : (n : ℕ) (ds : List ℕ) → digits_value 10 ds ≡ digits_value 10 (take n ds) * 10 ^ (length ds - n) + digits_value 10 (drop n ds)
 value_split n ds =
-    ap (digits_value 10) (sym (take-append-drop n ds)) ∙ value-append (take n ds) (drop n ds)
+    ap (digits_value 10) (sym (take-append-drop n ds)) ∙ value_append (take n ds) (drop n ds)
     ∙ ap (λ k. digits_value 10 (take n ds) * 10 ^ k + digits_value 10 (drop n ds)) (length-drop n ds)
 
 -- the point stands in the whole part
@@ -39,7 +39,7 @@ in_whole W F before w f le =
     let r : wl + fl - before ≡ (wl - before) + fl = omega arith in
     let p : 10 ^ (wl + fl - before) ≡ 10 ^ (wl - before) * 10 ^ fl = ap (λ k. 10 ^ k) r ∙ pow-add 10 (wl - before) fl in
     let split = value_split before W in
-    let all = value-append W F in
+    let all = value_append W F in
     let below : rest < 10 ^ (wl - before) = subst (λ k. rest < 10 ^ k) (length-drop before W) (digits_value-lt 10 (drop before W) (digits_drop before W w)) in
     let step : suc rest * 10 ^ fl ≤ 10 ^ (wl - before) * 10 ^ fl = mul-le-mul_right (10 ^ fl) below in
     let one : suc rest * 10 ^ fl ≡ rest * 10 ^ fl + 10 ^ fl = omega arith in
@@ -87,7 +87,7 @@ behind_whole W F before w f lt =
     let r : wl + fl - before ≡ fl - b = omega (arith, wk) in
     let b_le : b ≤ fl = omega arith in
     let split = value_split b F in
-    let all = value-append W F in
+    let all = value_append W F in
     let k_is : K ≡ V * 10 ^ b + T = value_after_is V (take b F) ∙ ap (λ k. V * 10 ^ k + T) (let e : length (take b F) ≡ b = omega (arith, length-take b F, b_le) in e) in
     let p : 10 ^ fl ≡ 10 ^ b * 10 ^ (fl - b) = ap (λ k. 10 ^ k) (let e : fl ≡ b + (fl - b) = omega (arith, b_le) in e) ∙ pow-add 10 b (fl - b) in
     record {

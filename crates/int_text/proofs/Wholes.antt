@@ -25,8 +25,8 @@ value_after_is n (c ∷ cs) =
     pow_suc : (k : ℕ) → 10 ^ suc k ≡ 10 * 10 ^ k
     pow_suc k = ap (λ e. 10 ^ e) (let e : suc k ≡ 1 + k = omega arith in e) ∙ pow-add 10 1 k
 
-pub value-append : (xs ys : List ℕ) → digits_value 10 (xs ++ ys) ≡ digits_value 10 xs * 10 ^ length ys + digits_value 10 ys
-value-append xs ys = after-append 0 xs ys ∙ value_after_is (digits_value 10 xs) ys
+pub value_append : (xs ys : List ℕ) → digits_value 10 (xs ++ ys) ≡ digits_value 10 xs * 10 ^ length ys + digits_value 10 ys
+value_append xs ys = after-append 0 xs ys ∙ value_after_is (digits_value 10 xs) ys
   where
     after-append : (n : ℕ) (xs ys : List ℕ) → digits_value_after 10 n (xs ++ ys) ≡ digits_value_after 10 (digits_value_after 10 n xs) ys
     after-append n [] ys = refl

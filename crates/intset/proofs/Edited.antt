@@ -8,8 +8,8 @@ use Rattle.byteorder.specs.Endian.{little_bytes, little_number}
 use Rattle.byteorder.specs.Numbers.{little_from-append, little_from-take, little_number-reads_back, length-bytes_low_first}
 use Rattle.intset.specs.Intset.{packed_numbers, first_number, numbers_of, width_of, count_of, IsWidth, HasWidth, HasLength, IsRising, IsIntset, width_for}
 use Rattle.intset.specs.Places.{IsEdited, IsCopied}
-use Rattle.intset.proofs.Packed.{packed-append, length-packed, numbers_of-is, width_high, slice_get-packed}
-use Rattle.intset.proofs.Written.{first_number-fits}
+use Rattle.intset.proofs.Packed.{packed_append, length_packed_in_packed, numbers_of_is, width_high, slice_get_packed}
+use Rattle.intset.proofs.Written.{first_number_fits}
 use Rattle.std.proofs.lemmas.Option.{slice_get_within, get_or_from_slice_get}
 use Rattle.std.proofs.lemmas.List.Edits.{insert_end}
 
@@ -35,14 +35,14 @@ headed head packed count four fits =
     }
 
 -- the first bytes, where they are at least four, tell the width of the whole
-width_of-take : (n : ℕ) (bytes : List ℕ) → 4 ≤ n → width_of (take n bytes) ≡ width_of bytes
+width_of_take : (n : ℕ) (bytes : List ℕ) → 4 ≤ n → width_of (take n bytes) ≡ width_of bytes
 unfolding width_of
-width_of-take n bytes h = little_from-take 0 4 n bytes h
+width_of_take n bytes h = little_from-take 0 4 n bytes h
 
 -- bytes put behind at least four others leave the told width
-width_of-append : (xs ys : List ℕ) → 4 ≤ length xs → width_of (xs ++ ys) ≡ width_of xs
+width_of_append : (xs ys : List ℕ) → 4 ≤ length xs → width_of (xs ++ ys) ≡ width_of xs
 unfolding width_of
-width_of-append xs ys h = little_from-append 4 xs ys h
+width_of_append xs ys h = little_from-append 4 xs ys h
 
 -- bytes of which those from a place behind the head on have changed, and the count
 pub recounted : (old tail : List ℕ) (m count : ℕ) → 8 + m ≤ length old → count < 2 ^ 32
@@ -55,7 +55,7 @@ recounted old tail m count within fits =
     let inner : drop 8 edited ≡ take m (drop 8 old) ++ tail = drop-append-le 8 (take (8 + m) old) tail (omega arith) ∙ ap (λ xs. xs ++ tail) (drop-take 8 m old) in
     let base = headed (take 4 edited) (drop 8 edited) count (omega arith) fits in
     record {
-      width_is = base.width_is ∙ width_of-take 4 edited (omega arith) ∙ width_of-append (take (8 + m) old) tail (omega arith) ∙ width_of-take (8 + m) old (omega arith);
+      width_is = base.width_is ∙ width_of_take 4 edited (omega arith) ∙ width_of_append (take (8 + m) old) tail (omega arith) ∙ width_of_take (8 + m) old (omega arith);
       count_is = base.count_is;
       rest = base.rest ∙ inner;
       long = base.long ∙ ap (λ xs. 8 + length xs) inner;
@@ -74,7 +74,7 @@ packed_cut width count place packed long within =
     let whole : count ≡ place + (count - place) = omega arith in
     ap (λ n. packed_numbers width n packed) whole
     ∙ ap (λ bytes. packed_numbers width (place + (count - place)) bytes) (sym (take-append-drop (width * place) packed))
-    ∙ packed-append width place (count - place) (take (width * place) packed) (drop (width * place) packed) front
+    ∙ packed_append width place (count - place) (take (width * place) packed) (drop (width * place) packed) front
 
 -- a number put in among packed numbers
 packed_insert : (width count place : ℕ) (packed piece : List ℕ) (n : ℤ) → length packed ≡ width * count → place ≤ count → length piece ≡ width
@@ -86,11 +86,11 @@ packed_insert width count place packed piece n long within sized reads =
     let before = packed_numbers width place (take (width * place) packed) in
     let after = packed_numbers width (count - place) (drop (width * place) packed) in
     let whole : count + 1 ≡ place + suc (count - place) = omega arith in
-    let many : length before ≡ place = length-packed width place (take (width * place) packed) in
+    let many : length before ≡ place = length_packed_in_packed width place (take (width * place) packed) in
     let rest : drop width (piece ++ drop (width * place) packed) ≡ drop (width * place) packed = drop_at piece (drop (width * place) packed) width sized in
     let new : packed_numbers width (count + 1) (take (width * place) packed ++ (piece ++ drop (width * place) packed)) ≡ before ++ n ∷ after =
     ap (λ m. packed_numbers width m (take (width * place) packed ++ (piece ++ drop (width * place) packed))) whole
-    ∙ packed-append width place (suc (count - place)) (take (width * place) packed) (piece ++ drop (width * place) packed) front
+    ∙ packed_append width place (suc (count - place)) (take (width * place) packed) (piece ++ drop (width * place) packed) front
     ∙ ap (λ x. before ++ x ∷ packed_numbers width (count - place) (drop width (piece ++ drop (width * place) packed))) (reads (drop (width * place) packed))
     ∙ ap (λ bytes. before ++ n ∷ packed_numbers width (count - place) bytes) rest in
     let old : insert (packed_numbers width count packed) place n ≡ before ++ n ∷ after =
@@ -108,12 +108,12 @@ packed_remove width count place packed long within =
     let before = packed_numbers width place (take (width * place) packed) in
     let after = packed_numbers width (count - 1 - place) (drop (width * place + width) packed) in
     let gone = first_number width (drop (width * place) packed) in
-    let many : length before ≡ place = length-packed width place (take (width * place) packed) in
+    let many : length before ≡ place = length_packed_in_packed width place (take (width * place) packed) in
     let whole : count - 1 ≡ place + (count - 1 - place) = omega arith in
     let one : count - place ≡ suc (count - 1 - place) = omega arith in
     let new : packed_numbers width (count - 1) (take (width * place) packed ++ drop (width * place + width) packed) ≡ before ++ after =
     ap (λ m. packed_numbers width m (take (width * place) packed ++ drop (width * place + width) packed)) whole
-    ∙ packed-append width place (count - 1 - place) (take (width * place) packed) (drop (width * place + width) packed) front in
+    ∙ packed_append width place (count - 1 - place) (take (width * place) packed) (drop (width * place + width) packed) front in
     let cut : packed_numbers width count packed ≡ before ++ gone ∷ after =
     packed_cut width count place packed long (omega arith)
     ∙ ap (λ m. before ++ packed_numbers width m (drop (width * place) packed)) one
@@ -144,9 +144,9 @@ put_edits old new piece width place n has long told within room sized reads midd
     let head : IsHeaded new (width_of old) (count + 1) (take (width * place) packed ++ tail) = rw is base in
     let tail_is : tail ≡ piece ++ drop (width * place) packed = ap (λ bytes. piece ++ bytes) (sym (drop-drop (width * place) 8 old)) in
     let inserted = packed_insert width count place packed piece n length_packed within sized reads in
-    let old_numbers : numbers_of old ≡ packed_numbers width count packed = numbers_of-is old ∙ ap (λ w. packed_numbers w count packed) (sym told) in
+    let old_numbers : numbers_of old ≡ packed_numbers width count packed = numbers_of_is old ∙ ap (λ w. packed_numbers w count packed) (sym told) in
     let new_numbers : numbers_of new ≡ insert (numbers_of old) place n =
-    numbers_of-is new
+    numbers_of_is new
     ∙ ap (λ w. packed_numbers w (count_of new) (drop 8 new)) (head.width_is ∙ sym told)
     ∙ ap (λ m. packed_numbers width m (drop 8 new)) head.count_is
     ∙ ap (λ bytes. packed_numbers width (count + 1) bytes) (head.rest ∙ ap (λ bytes. take (width * place) packed ++ bytes) tail_is)
@@ -188,9 +188,9 @@ cut_edits old new width place has long told within room middle is_middle is_new 
     let place_is : 8 + width * place + width ≡ 8 + (width * place + width) = omega arith in
     let tail_is : tail ≡ drop (width * place + width) packed = ap (λ m. drop m old) place_is ∙ sym (drop-drop (width * place + width) 8 old) in
     let removed = packed_remove width count place packed length_packed within in
-    let old_numbers : numbers_of old ≡ packed_numbers width count packed = numbers_of-is old ∙ ap (λ w. packed_numbers w count packed) (sym told) in
+    let old_numbers : numbers_of old ≡ packed_numbers width count packed = numbers_of_is old ∙ ap (λ w. packed_numbers w count packed) (sym told) in
     let new_numbers : numbers_of new ≡ remove (numbers_of old) place =
-    numbers_of-is new
+    numbers_of_is new
     ∙ ap (λ w. packed_numbers w (count_of new) (drop 8 new)) (head.width_is ∙ sym told)
     ∙ ap (λ m. packed_numbers width m (drop 8 new)) head.count_is
     ∙ ap (λ bytes. packed_numbers width (count - 1) bytes) (head.rest ∙ ap (λ bytes. take (width * place) packed ++ bytes) tail_is)
@@ -208,8 +208,8 @@ cut_edits old new width place has long told within room middle is_middle is_new 
     }
 
 -- there are as many numbers as the bytes tell
-pub length-numbers_of : (bytes : List ℕ) → length (numbers_of bytes) ≡ count_of bytes
-length-numbers_of bytes = ap length (numbers_of-is bytes) ∙ length-packed (width_of bytes) (count_of bytes) (drop 8 bytes)
+pub length_numbers_of : (bytes : List ℕ) → length (numbers_of bytes) ≡ count_of bytes
+length_numbers_of bytes = ap length (numbers_of_is bytes) ∙ length_packed_in_packed (width_of bytes) (count_of bytes) (drop 8 bytes)
 
 -- edited bytes are an intset where the numbers rise
 pub edited_intset : (old new : List ℕ) (numbers : List ℤ) → IsEdited old new numbers → IsRising numbers → IsIntset new (numbers_of new)
@@ -236,7 +236,7 @@ fresh_intset bytes width sized is =
     record {
       width = record { told = omega arith; width = rw told sized };
       length = rw none (omega arith);
-      listed = sym (numbers_of-is bytes ∙ ap (λ m. packed_numbers (width_of bytes) m (drop 8 bytes)) none);
+      listed = sym (numbers_of_is bytes ∙ ap (λ m. packed_numbers (width_of bytes) m (drop 8 bytes)) none);
       rising = λ i j d below within. absurd (omega arith);
     }
 
@@ -247,11 +247,11 @@ some_same e = cc
 -- a number that stands in an intset is held by its width
 pub number_held : (bytes : List ℕ) (index : ℕ) (n : ℤ) → ((k : ℕ) → slice_index bytes k < 256) → HasWidth bytes → slice_get (numbers_of bytes) index ≡ Some n → width_for n ≤ width_of bytes
 number_held bytes index n small has found =
-    let within : index < count_of bytes = let w = slice_get_within (numbers_of bytes) index n found in omega (arith, length-numbers_of bytes) in
+    let within : index < count_of bytes = let w = slice_get_within (numbers_of bytes) index n found in omega (arith, length_numbers_of bytes) in
     let there : slice_get (numbers_of bytes) index ≡ Some (first_number (width_of bytes) (drop (width_of bytes * index) (drop 8 bytes))) =
-    ap (λ xs. slice_get xs index) (numbers_of-is bytes) ∙ slice_get-packed (width_of bytes) (count_of bytes) (drop 8 bytes) index within in
+    ap (λ xs. slice_get xs index) (numbers_of_is bytes) ∙ slice_get_packed (width_of bytes) (count_of bytes) (drop 8 bytes) index within in
     let same : n ≡ first_number (width_of bytes) (drop (width_of bytes * index) (drop 8 bytes)) = some_same (sym found ∙ there) in
-    rw same (first_number-fits (width_of bytes) (drop (width_of bytes * index) (drop 8 bytes)) has.width
+    rw same (first_number_fits (width_of bytes) (drop (width_of bytes * index) (drop 8 bytes)) has.width
     (λ k. rw (get_or-drop (width_of bytes * index) (drop 8 bytes) k 0, get_or-drop 8 bytes (width_of bytes * index + k) 0) (small (8 + (width_of bytes * index + k)))))
 
 -- one number more is copied
@@ -275,4 +275,4 @@ copied_more old new width numbers index n copied found edited =
 -- as many numbers are told as were copied
 pub copied_count : (copy : List ℕ) (width : ℕ) (numbers : List ℤ) (index : ℕ) → IsCopied copy width numbers index → index ≤ length numbers → count_of copy ≡ index
 copied_count copy width numbers index copied within =
-    sym (length-numbers_of copy) ∙ ap length copied.numbers_now ∙ length-take-le index numbers within
+    sym (length_numbers_of copy) ∙ ap length copied.numbers_now ∙ length-take-le index numbers within

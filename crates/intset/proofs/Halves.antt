@@ -9,9 +9,9 @@ use Rattle.intset.specs.Intset.{IsRising}
 use Rattle.intset.specs.Places.{IsBetween, IsPlace, RisesBelow}
 
 -- the number at the middle is less than n, so n comes after it
-pub between-upper : (numbers : List ℤ) (n : ℤ) (low high middle : ℕ) (x : ℤ) → IsRising numbers → IsBetween numbers n low high → middle < high → slice_get numbers middle ≡ Some x → x <ℤ n
+pub between_upper : (numbers : List ℤ) (n : ℤ) (low high middle : ℕ) (x : ℤ) → IsRising numbers → IsBetween numbers n low high → middle < high → slice_get numbers middle ≡ Some x → x <ℤ n
     → IsBetween numbers n (middle + 1) high
-between-upper numbers n low high middle x rising between under found less = record {
+between_upper numbers n low high middle x rising between under found less = record {
   ordered = omega arith;
   within = between.within;
   before = λ k d h. elim (cases_lt k middle) [
@@ -29,9 +29,9 @@ between-upper numbers n low high middle x rising between under found less = reco
 }
 
 -- the number at the middle is greater than n, so n comes before it
-pub between-lower : (numbers : List ℤ) (n : ℤ) (low high middle : ℕ) (x : ℤ) → IsRising numbers → IsBetween numbers n low high → low ≤ middle → middle < high
+pub between_lower : (numbers : List ℤ) (n : ℤ) (low high middle : ℕ) (x : ℤ) → IsRising numbers → IsBetween numbers n low high → low ≤ middle → middle < high
     → slice_get numbers middle ≡ Some x → n <ℤ x → IsBetween numbers n low middle
-between-lower numbers n low high middle x rising between over under found more = record {
+between_lower numbers n low high middle x rising between over under found more = record {
   ordered = over;
   within = let w = between.within in omega arith;
   before = between.before;
@@ -49,8 +49,8 @@ between-lower numbers n low high middle x rising between over under found more =
 }
 
 -- a number that has a place is not among the numbers
-pub place-absent : (numbers : List ℤ) (n : ℤ) (place k : ℕ) (d : ℤ) → IsPlace numbers n place → k < length numbers → get_or numbers k d ≡ n → ⊥
-place-absent numbers n place k d at within same = elim (cases_lt k place) [
+pub place_absent : (numbers : List ℤ) (n : ℤ) (place k : ℕ) (d : ℤ) → IsPlace numbers n place → k < length numbers → get_or numbers k d ≡ n → ⊥
+place_absent numbers n place k d at within same = elim (cases_lt k place) [
   | inl below ↦ let less : get_or numbers k d <ℤ n = at.before k d below in absurd (omega (arith, ints))
   | inr above ↦ let more : n <ℤ get_or numbers k d = at.after k d above within in absurd (omega (arith, ints))
 ]
@@ -75,24 +75,24 @@ pub found_contains : (numbers : List ℤ) (n : ℤ) (r : Result ℕ ℕ) → IfO
 found_contains numbers n (Ok place) found absent =
     ((λ _. (place, slice_get_within numbers place n found, get_or_from_slice_get numbers place n n found)), (λ _. refl))
 found_contains numbers n (Err place) found absent =
-    ((λ h. absurd (cc)), (λ h. absurd (place-absent numbers n place h.0 n absent h.1 h.2)))
+    ((λ h. absurd (cc)), (λ h. absurd (place_absent numbers n place h.0 n absent h.1 h.2)))
 
 -- a list in which each number is greater than the one before it rises
-pub rises-rising : (numbers : List ℤ) (bound : ℕ) → length numbers ≤ bound → RisesBelow numbers bound → IsRising numbers
-rises-rising numbers bound all rises i zero d below within = absurd (omega arith)
-rises-rising numbers bound all rises i (suc j) d below within =
+pub rises_rising : (numbers : List ℤ) (bound : ℕ) → length numbers ≤ bound → RisesBelow numbers bound → IsRising numbers
+rises_rising numbers bound all rises i zero d below within = absurd (omega arith)
+rises_rising numbers bound all rises i (suc j) d below within =
     let last : get_or numbers j d <ℤ get_or numbers (suc j) d = rises j d (omega arith) in
     elim (cases_lt i j) [
       | inl under ↦
-          let first : get_or numbers i d <ℤ get_or numbers j d = rises-rising numbers bound all rises i j d under (omega arith) in
+          let first : get_or numbers i d <ℤ get_or numbers j d = rises_rising numbers bound all rises i j d under (omega arith) in
           omega (arith, ints)
       | inr over ↦ let same : i ≡ j = omega arith in rw same last
     ]
 
 -- one number more
-pub rises-more : (numbers : List ℤ) (bound : ℕ) (before here : ℤ) → 0 < bound → bound < length numbers → RisesBelow numbers bound
+pub rises_more : (numbers : List ℤ) (bound : ℕ) (before here : ℤ) → 0 < bound → bound < length numbers → RisesBelow numbers bound
     → ((d : ℤ) → get_or numbers (bound - 1) d ≡ before) → ((d : ℤ) → get_or numbers bound d ≡ here) → before <ℤ here → RisesBelow numbers (bound + 1)
-rises-more numbers bound before here above within rises left right less k d under = elim (cases_lt (suc k) bound) [
+rises_more numbers bound before here above within rises left right less k d under = elim (cases_lt (suc k) bound) [
   | inl low ↦ rises k d low
   | inr high ↦
       let first : k ≡ bound - 1 = omega arith in
@@ -104,9 +104,9 @@ not_both : (a b : ℤ) → a <ℤ b → int_le b a ≡ true → ⊥
 not_both a b less most = grind (arith, ints)
 
 -- a number that is not greater than the one before it
-pub rising-refuted : (numbers : List ℤ) (index : ℕ) (before here : ℤ) → 0 < index → index < length numbers → get_or numbers (index - 1) here ≡ before → get_or numbers index here ≡ here
+pub rising_refuted : (numbers : List ℤ) (index : ℕ) (before here : ℤ) → 0 < index → index < length numbers → get_or numbers (index - 1) here ≡ before → get_or numbers index here ≡ here
     → int_le here before ≡ true → IsRising numbers → ⊥
-rising-refuted numbers index before here above within left right most rising =
+rising_refuted numbers index before here above within left right most rising =
     let up = rising (index - 1) index here (omega arith) within in
     let up' : before <ℤ here = rw (left, right) at up in
     not_both before here up' most

@@ -6,41 +6,41 @@ use Rattle.std.specs.Prelude.{ℤ, slice_get}
 use Rattle.byteorder.specs.Numbers.{little_from-append}
 use Rattle.intset.specs.Intset.{packed_numbers, first_number, numbers_of, width_of, count_of, IsWidth}
 
-pub length-packed : (width count : ℕ) (packed : List ℕ) → length (packed_numbers width count packed) ≡ count
-length-packed width zero packed = refl
-length-packed width (suc count) packed = let e = length-packed width count (drop width packed) in omega (arith, e)
+pub length_packed_in_packed : (width count : ℕ) (packed : List ℕ) → length (packed_numbers width count packed) ≡ count
+length_packed_in_packed width zero packed = refl
+length_packed_in_packed width (suc count) packed = let e = length_packed_in_packed width count (drop width packed) in omega (arith, e)
 
 -- the number at a place stands where its width says
-pub get_or-packed : (width count : ℕ) (packed : List ℕ) (k : ℕ) (d : ℤ) → k < count → get_or (packed_numbers width count packed) k d ≡ first_number width (drop (width * k) packed)
-get_or-packed width zero packed k d h = absurd (omega arith)
-get_or-packed width (suc count) packed zero d h = let e : width * 0 ≡ 0 = omega arith in rw e refl
-get_or-packed width (suc count) packed (suc k) d h =
+pub get_or_packed : (width count : ℕ) (packed : List ℕ) (k : ℕ) (d : ℤ) → k < count → get_or (packed_numbers width count packed) k d ≡ first_number width (drop (width * k) packed)
+get_or_packed width zero packed k d h = absurd (omega arith)
+get_or_packed width (suc count) packed zero d h = let e : width * 0 ≡ 0 = omega arith in rw e refl
+get_or_packed width (suc count) packed (suc k) d h =
     let e : width * suc k ≡ width + width * k = omega arith in
-    get_or-packed width count (drop width packed) k d (omega arith)
+    get_or_packed width count (drop width packed) k d (omega arith)
     ∙ ap (first_number width) (drop-drop (width * k) width packed)
     ∙ ap (λ m. first_number width (drop m packed)) (sym e)
 
-pub slice_get-packed : (width count : ℕ) (packed : List ℕ) (k : ℕ) → k < count → slice_get (packed_numbers width count packed) k ≡ Some (first_number width (drop (width * k) packed))
-slice_get-packed width zero packed k h = absurd (omega arith)
-slice_get-packed width (suc count) packed zero h = let e : width * 0 ≡ 0 = omega arith in rw e refl
-slice_get-packed width (suc count) packed (suc k) h =
+pub slice_get_packed : (width count : ℕ) (packed : List ℕ) (k : ℕ) → k < count → slice_get (packed_numbers width count packed) k ≡ Some (first_number width (drop (width * k) packed))
+slice_get_packed width zero packed k h = absurd (omega arith)
+slice_get_packed width (suc count) packed zero h = let e : width * 0 ≡ 0 = omega arith in rw e refl
+slice_get_packed width (suc count) packed (suc k) h =
     let e : width * suc k ≡ width + width * k = omega arith in
-    slice_get-packed width count (drop width packed) k (omega arith)
+    slice_get_packed width count (drop width packed) k (omega arith)
     ∙ ap (λ bytes. Some (first_number width bytes)) (drop-drop (width * k) width packed)
     ∙ ap (λ m. Some (first_number width (drop m packed))) (sym e)
 
 -- packed numbers one behind the other
-pub packed-append : (width m n : ℕ) (xs ys : List ℕ) → length xs ≡ width * m → packed_numbers width (m + n) (xs ++ ys) ≡ packed_numbers width m xs ++ packed_numbers width n ys
+pub packed_append : (width m n : ℕ) (xs ys : List ℕ) → length xs ≡ width * m → packed_numbers width (m + n) (xs ++ ys) ≡ packed_numbers width m xs ++ packed_numbers width n ys
 unfolding first_number
-packed-append width zero n [] ys h = let e : 0 + n ≡ n = omega arith in rw e refl
-packed-append width zero n (x ∷ xs) ys h = absurd (omega arith)
-packed-append width (suc m) n xs ys h =
+packed_append width zero n [] ys h = let e : 0 + n ≡ n = omega arith in rw e refl
+packed_append width zero n (x ∷ xs) ys h = absurd (omega arith)
+packed_append width (suc m) n xs ys h =
     let e : suc m + n ≡ suc (m + n) = omega arith in
     let fits : width ≤ length xs = omega arith in
     let rest : length (drop width xs) ≡ width * m = length-drop width xs ∙ omega arith in
     let first = little_from-append width xs ys fits in
     let cut = drop-append-le width xs ys fits in
-    let more = packed-append width m n (drop width xs) ys rest in
+    let more = packed_append width m n (drop width xs) ys rest in
     rw (e, cut, more, first) refl
 
 -- a number that there is has room among the bytes
@@ -53,9 +53,9 @@ packed_room width index count h =
 pub rest_is : (n : ℕ) (bytes : List ℕ) → take (length bytes - n) (drop n bytes) ≡ drop n bytes
 rest_is n bytes = take_all (length bytes - n) (drop n bytes) (let e = length-drop n bytes in omega (arith, e))
 
-pub numbers_of-is : (bytes : List ℕ) → numbers_of bytes ≡ packed_numbers (width_of bytes) (count_of bytes) (drop 8 bytes)
+pub numbers_of_is : (bytes : List ℕ) → numbers_of bytes ≡ packed_numbers (width_of bytes) (count_of bytes) (drop 8 bytes)
 unfolding numbers_of
-numbers_of-is bytes = refl
+numbers_of_is bytes = refl
 
 -- a width is at most eight
 pub width_high : (width : ℕ) → IsWidth width → width ≤ 8

@@ -35,9 +35,9 @@ pub insert_place : (numbers : List ℤ) (n : ℤ) (place : ℕ) → IsPlace numb
 insert_place numbers n place at =
     ap (λ k. insert numbers k n) (sym (sym (length-filter (λ x. int_lt x n) numbers) ∙ filter_place numbers n place at))
 
-rising-insert_last : (numbers : List ℤ) (n : ℤ) (place : ℕ) → IsRising numbers → IsPlace numbers n place → (i j : ℕ) (d : ℤ) → i ≤ j → place ≤ j → j < length numbers
+rising_insert_last : (numbers : List ℤ) (n : ℤ) (place : ℕ) → IsRising numbers → IsPlace numbers n place → (i j : ℕ) (d : ℤ) → i ≤ j → place ≤ j → j < length numbers
     → get_or (insert numbers place n) i d <ℤ get_or numbers j d
-rising-insert_last numbers n place rising at i j d below from within = elim (cases_lt i place) [
+rising_insert_last numbers n place rising at i j d below from within = elim (cases_lt i place) [
   | inl front ↦ rw (get_or-insert_below numbers place n d i front at.within) (rising i j d (omega arith) within)
   | inr back ↦ elim (cases_lt place i) [
     | inl after ↦
@@ -51,9 +51,9 @@ rising-insert_last numbers n place rising at i j d below from within = elim (cas
   ]
 ]
 
-pub rising-insert : (numbers : List ℤ) (n : ℤ) (place : ℕ) → IsRising numbers → IsPlace numbers n place → IsRising (insert numbers place n)
-rising-insert numbers n place rising at i zero d below within = absurd (omega arith)
-rising-insert numbers n place rising at i (suc j) d below within =
+pub rising_insert : (numbers : List ℤ) (n : ℤ) (place : ℕ) → IsRising numbers → IsPlace numbers n place → IsRising (insert numbers place n)
+rising_insert numbers n place rising at i zero d below within = absurd (omega arith)
+rising_insert numbers n place rising at i (suc j) d below within =
     let long = length-insert numbers place n at.within in
     let up : j + 1 ≡ suc j = omega arith in
     elim (cases_lt (suc j) place) [
@@ -64,7 +64,7 @@ rising-insert numbers n place rising at i (suc j) d below within =
         | inl after ↦
             let right : get_or (insert numbers place n) (suc j) d ≡ get_or numbers j d = ap (λ m. get_or (insert numbers place n) m d) (sym up)
             ∙ get_or-insert_above numbers place n d j (omega arith) at.within in
-            rw right (rising-insert_last numbers n place rising at i j d (omega arith) (omega arith) (omega arith))
+            rw right (rising_insert_last numbers n place rising at i j d (omega arith) (omega arith) (omega arith))
         | inr here ↦
             let same : suc j ≡ place = omega arith in
             rw (get_or-insert_below numbers place n d i (omega arith) at.within, same, get_or-insert_at numbers place n d at.within) (at.before i d (omega arith))

@@ -94,9 +94,9 @@ read_fits width half x low high fits = elim (cases_lt x half) [
       (lt-ltb (half + half - suc x) half (omega arith))
 ]
 
-pub first_number-fits : (width : ℕ) (packed : List ℕ) → IsWidth width → ((k : ℕ) → slice_index packed k < 256) → width_for (first_number width packed) ≤ width
+pub first_number_fits : (width : ℕ) (packed : List ℕ) → IsWidth width → ((k : ℕ) → slice_index packed k < 256) → width_for (first_number width packed) ≤ width
 unfolding first_number
-first_number-fits width packed sized bytes = elim sized [
+first_number_fits width packed sized bytes = elim sized [
   | inl e ↦ subst (λ w. width_for (twos_complement w (little_number w packed)) ≤ w) (sym e)
       (let w = width_for_two (twos_complement 2 (little_number 2 packed)) (read_fits 2 32768 (little_number 2 packed) refl refl (little_from-lt 0 2 packed bytes)) in omega arith)
   | inr more ↦ elim more [

@@ -12,7 +12,7 @@ use Rattle.keyspace.specs.Sound.{IsIntactWith, Sound, SoundBeside}
 use Rattle.keyspace.specs.Scopes.{one_key, Within}
 use Rattle.keyspace.specs.Calls.{Lifted, IsPlace, Lifts, AreParts}
 use Rattle.keyspace.specs.Commands.{seen}
-use Rattle.keyspace.proofs.Uses.{Lower-intact, Lower-sound, Lower-has, Lower-within, Lower-means}
+use Rattle.keyspace.proofs.Uses.{lower_intact, lower_sound, lower_has, lower_within, Lower-means}
 
 module _ (at : Ctx) (old mid : Bases) (m own after : Blocks) (key : List ℕ) (lifted : Lifted) (value : Value) (same : own ≡ m)
     (lifts : Lifts old mid m at.db key at.moment lifted) (sound : SoundBeside mid m (value_refs m lifted.value ++ []))
@@ -24,22 +24,22 @@ module _ (at : Ctx) (old mid : Bases) (m own after : Blocks) (key : List ℕ) (l
   changes = subst (λ b. Changes b after (value_refs b lifted.value) (value_refs after value)) same p
 
   pub edit_intact : IsSound mid.limits mid.seed after value → IsIntactWith mid after value
-  edit_intact is_sound = Lower-intact old mid m after at.db at.moment key lifted lowered [] lifts sound changes refl refl is_sound
+  edit_intact is_sound = lower_intact old mid m after at.db at.moment key lifted lowered [] lifts sound changes refl refl is_sound
 
   module _ (new : Bases) (later : Blocks) (stays : later ≡ after) where
     pub edit_sound : ((all out : List BlockRef) → SoundBeside mid after all → AreParts all (value_refs after value) out → SoundBeside new after out) → Sound new later
-    edit_sound clause = subst (λ b. Sound new b) (sym stays) (Lower-sound old mid m after at.db at.moment key lifted lowered [] lifts sound changes refl refl new clause)
+    edit_sound clause = subst (λ b. Sound new b) (sym stays) (lower_sound old mid m after at.db at.moment key lifted lowered [] lifts sound changes refl refl new clause)
 
     -- from the clauses `within` of `lift` and `lower`
     pub edit_within : Within (one_key at.db key) old mid m m →
         ((k : List ℕ) (deadline : Option ℕ) → IsPlace mid after lifted.db lifted.item k deadline → Within (one_key lifted.db k) mid new after after)
         → Within (one_key at.db key) old new m later
     edit_within taken clause = subst (Within (one_key at.db key) old new m) (sym stays)
-        (Lower-within old mid m after at.db at.moment key lifted lowered [] lifts sound changes refl refl new taken clause)
+        (lower_within old mid m after at.db at.moment key lifted lowered [] lifts sound changes refl refl new taken clause)
 
     -- from the clause `has` of `lower`
     pub edit_has : ((k : List ℕ) (deadline : Option ℕ) → IsPlace mid after lifted.db lifted.item k deadline → HasOnly new after lifted.db k value) → HasOnly new later at.db key value
-    edit_has clause = subst (λ b. HasOnly new b at.db key value) (sym stays) (Lower-has old mid m after at.db at.moment key lifted lowered [] lifts sound changes refl refl new clause)
+    edit_has clause = subst (λ b. HasOnly new b at.db key value) (sym stays) (lower_has old mid m after at.db at.moment key lifted lowered [] lifts sound changes refl refl new clause)
 
     -- from the clause `means` of `lower`
     pub edit_means :

@@ -3,8 +3,8 @@ use Rattle.std.proofs.Common.{◌≡◌, ℕ, List, [], Option, None, Some, IfSo
 use Rattle.std.proofs.lemmas.Bool.{cond-true}
 use Rattle.blocks.specs.declared.BlockRef.{BlockRef}
 use Rattle.blocks.specs.Blocks.{Blocks, Changes, ref_eq}
-use Rattle.blocks.proofs.Change.{one_if, Changes-then}
-use Rattle.blocks.proofs.Refs.{ref_eq-refl}
+use Rattle.blocks.proofs.Change.{one_if, changes_then}
+use Rattle.blocks.proofs.Refs.{ref_eq_refl}
 use Rattle.plain_world.specs.Worlds.{put}
 use Rattle.plain_model.specs.declared.ctx.Ctx.{Ctx}
 use Rattle.held.specs.declared.seeking.Sought.{Sought}
@@ -21,7 +21,7 @@ use Rattle.keyspace.specs.Calls.{AreParts}
 use Rattle.keyspace.specs.Commands.{seen}
 use Rattle.keyspace.specs.Values.{value_refs, value_of, value_own, IsSound}
 use Rattle.keyspace.specs.Edits.{Shape, shape, MakesNew}
-use Rattle.keyspace.proofs.Uses.{sound_is_intact, Changed-sound, Made-intact, Put-sound, Put-within, Put-means}
+use Rattle.keyspace.proofs.Uses.{sound_is_intact, changed_sound_in_uses, made_intact, put_sound_in_uses, put_within_in_uses, put_means_in_uses}
 
 -- what was found of a key stands over a store where a value was made
 pub kept_seeks : (bases : Bases) (m after : Blocks) (db : ℕ) (key : List ℕ) (sought : Sought) (ys : List BlockRef) → Sound bases m → Changes m after [] ys → Seeks bases m db key sought
@@ -35,7 +35,7 @@ kept_seeks bases m after db key sought ys sound p s = record {
     same : (at : ℕ) (e : Element Value) → item (table_at bases db) at ≡ Some e → after e.key ≡ m e.key
     same at e found =
         kept_inside value_refs value_of value_own bases m after [] [] ys (sound_is_intact bases m [] sound) p (λ r. omega arith) e.key
-        (let itself : one_if (ref_eq e.key e.key) ≡ 1 = cond-true _ _ _ (ref_eq-refl e.key) in
+        (let itself : one_if (ref_eq e.key e.key) ≡ 1 = cond-true _ _ _ (ref_eq_refl e.key) in
         omega (arith, itself, named_in (value_refs m) (table_at bases db) at e e.key found, table_owned (value_refs m) bases db e.key))
 
     stands : (o : Option ℕ) → IfSome o (λ at. Stands m (table_at bases db) at key) → IfSome o (λ at. Stands after (table_at bases db) at key)
@@ -52,29 +52,29 @@ module _ (at : Ctx) (old : Bases) (m after : Blocks) (key : List ℕ) (fresh val
   made = subst (λ xs. Changes m after xs (value_refs after value)) blank p
 
   pub new_intact : IsSound old.limits old.seed after value → IsIntactWith old after value
-  new_intact is_sound = Made-intact old m after value sound made is_sound
+  new_intact is_sound = made_intact old m after value sound made is_sound
 
   pub new_seeks : (sought : Sought) → Seeks old m at.db key sought → Seeks old after at.db key sought
   new_seeks sought seeks = kept_seeks old m after at.db key sought (value_refs after value) sound made seeks
 
   module _ (new : Bases) (later : Blocks) where
     pub new_sound : ((all out : List BlockRef) → SoundBeside old after all → AreParts all (value_refs after value) out → SoundBeside new later out) → Sound new later
-    new_sound clause = Put-sound old m after value sound made new later clause
+    new_sound clause = put_sound_in_uses old m after value sound made new later clause
 
     pub new_within : (scope : Scope) → Within scope old new after later → Within scope old new m later
-    new_within scope clause = Put-within old m after value sound made new later scope clause
+    new_within scope clause = put_within_in_uses old m after value sound made new later scope clause
 
     pub new_means : means at.db new later ≡ put (means at.db old after) key (record { value = value_of after value; deadline = None })
         → seen at new later ≡ put (seen at old m) key (record { value = value_of after value; deadline = None })
-    new_means clause = Put-means old m after value sound made new later at.db at.moment key _ clause
+    new_means clause = put_means_in_uses old m after value sound made new later at.db at.moment key _ clause
 
   -- the value is released again
   module _ (later : Blocks) (q : Changes after later (value_refs after value) []) where
     gone : Changes m later [] []
-    gone = Changes-then m after later [] (value_refs after value) [] made q
+    gone = changes_then m after later [] (value_refs after value) [] made q
 
     pub undone_sound : Sound old later
-    undone_sound = Changed-sound old m later [] [] [] [] sound gone (λ r. omega arith) (λ r. omega arith)
+    undone_sound = changed_sound_in_uses old m later [] [] [] [] sound gone (λ r. omega arith) (λ r. omega arith)
 
     pub undone_within : (scope : Scope) → Within scope old old m later
     undone_within scope = within_store value_refs value_of value_own scope old m later [] [] [] (sound_is_intact old m [] sound) gone (λ r. omega arith)

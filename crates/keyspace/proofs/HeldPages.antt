@@ -13,8 +13,8 @@ use Rattle.listpack.specs.Pack.{texts}
 use Rattle.object_codec.specs.declared.limits.Limits.{Limits}
 use Rattle.rev_cursor.specs.Place.{place}
 use Rattle.rev_cursor.specs.Span.{Span}
-use Rattle.rev_cursor.proofs.Reversal.{reversed-below}
-use Rattle.rev_cursor.proofs.Walks.{end_of-zero}
+use Rattle.rev_cursor.proofs.Reversal.{reversed_below}
+use Rattle.rev_cursor.proofs.Walks.{end_of_zero}
 use Rattle.rehash_dict.specs.Table.{Element, Table, item}
 use Rattle.rehash_dict.specs.Keyed.{Keyed, hash_of}
 use Rattle.rehash_dict.specs.ScanPlaces.{place_in}
@@ -97,7 +97,7 @@ have_places seed count element_of below all = record {
     real_of i at None same is = cc
     real_of i at (Some element) same is = (
       below i (ap is_some same),
-      subst (λ n. n < 2 ^ 64) (some_same (Some (place_of seed element)) _ at refl is) (reversed-below 64 (sip 1 2 seed (2 ^ 64 - 1 - seed) element)),
+      subst (λ n. n < 2 ^ 64) (some_same (Some (place_of seed element)) _ at refl is) (reversed_below 64 (sip 1 2 seed (2 ^ 64 - 1 - seed) element)),
     )
 
     gone : (i : ℕ) (o : Option (List ℕ)) → element_of i ≡ o → placed seed o ≡ None → element_of i ≡ None
@@ -265,7 +265,7 @@ module _ {A : Type 0} (in_value : model.Value → Option A) (tells : Option A �
   tells_nothing (Ok reply) none no_word is =
       let told : reply ≡ paged_as 0 (tells None []) = is ∙ ap (paged_as 0) (sym no_word) in
       let empty : Page bases.seed world (held_sought at.db key options) cursor 0 [] = record {
-        on = subst (λ e. place cursor < e) (sym end_of-zero) (reversed-below 64 cursor);
+        on = subst (λ e. place cursor < e) (sym end_of_zero) (reversed_below 64 cursor);
         fits = omega arith;
         lists = record {
           once = λ element. omega arith;

@@ -15,7 +15,7 @@ use Rattle.keyspace.specs.Forms.{Formed, form_of}
 use Rattle.keyspace.specs.Shown.{Shows}
 use Rattle.keyspace.specs.Commands.{Ready, KeepsTo, KeepsOrRefuses, Runs, visible}
 use Rattle.keyspace.proofs.Forming.{unformed}
-use Rattle.blocks.proofs.Serve.{Served-then}
+use Rattle.blocks.proofs.Serve.{served_then}
 use Rattle.keyspace.proofs.Serving.{unmoved, further}
 
 -- an outcome's own reply and world
@@ -39,7 +39,7 @@ unchanged blocks step scope keyspace (Err e) sound = record { refusals = tt; hel
 pub held_then : {S : Type 0} (blocks : S → Blocks) (step : S → S → Type 0) (scope : Scope) (a b c : Keyspace S) → KeepsTo blocks step scope a b → KeepsTo blocks step scope b c → KeepsTo blocks step scope a c
 held_then blocks step scope a b c p q = record {
   sound = q.sound;
-  served = Served-then _ _ _ p.served q.served;
+  served = served_then _ _ _ p.served q.served;
   settings = record { limits = q.settings.limits ∙ p.settings.limits; seed = q.settings.seed ∙ p.settings.seed; turn = q.settings.turn ∙ p.settings.turn };
   within = further scope a.bases b.bases c.bases (blocks a.store) (blocks b.store) (blocks c.store) p.within q.within;
 }

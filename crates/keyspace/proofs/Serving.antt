@@ -1,6 +1,6 @@
 -- What a store was served over the calls of a command, and what they changed.
 use Rattle.blocks.specs.Blocks.{Served, no_step}
-use Rattle.blocks.proofs.Serve.{Served-then}
+use Rattle.blocks.proofs.Serve.{served_then}
 use Rattle.blocks.specs.Blocks.{Blocks}
 use Rattle.held.proofs.Within as held_within
 use Rattle.keyspace.specs.Databases.{Bases}
@@ -13,7 +13,7 @@ nothing step store = no_step
 
 -- the calls of two parts
 pub both : {S : Type 0} (step : S → S → Type 0) (a b c : S) → Served step a b → Served step b c → Served step a c
-both step a b c p q = Served-then a b c p q
+both step a b c p q = served_then a b c p q
 
 -- nothing changed
 pub unmoved : (scope : Scope) (bases : Bases) (m : Blocks) → Within scope bases bases m m

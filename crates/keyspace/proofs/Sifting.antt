@@ -8,7 +8,7 @@ use Rattle.std.specs.List.{Contains, count_by, flat_map}
 use Rattle.std.proofs.lemmas.Bool.{cases_Bool, cases_eq}
 use Rattle.std.proofs.lemmas.Slice.Eq.{bytes_eq-Decides}
 use Rattle.rev_cursor.specs.Span.{times}
-use Rattle.rehash_dict.proofs.Counts.{times-here, times-past}
+use Rattle.rehash_dict.proofs.Counts.{times_here, times_past}
 use Rattle.plain_model.specs.Scans.{Lists}
 use Rattle.plain_model.proofs.Containing.{contains_first, contains_later, contains_cases}
 use Rattle.keyspace.specs.Sifted.{Sifted, end, keeps, drops, AddsWords, Adds, SiftsWords}
@@ -28,8 +28,8 @@ passed_over key name names e =
 -- a number that is met behind another is met
 met_more : (item other : ℕ) (items : List ℕ) → times item items ≤ times item (other ∷ items)
 met_more item other items = elim (cases_eq other item) [
-  | inl same ↦ subst (λ (o : ℕ). times item items ≤ times item (o ∷ items)) (sym same) (omega (arith, times-here item items))
-  | inr apart ↦ omega (arith, times-past item other items apart)
+  | inl same ↦ subst (λ (o : ℕ). times item items ≤ times item (o ∷ items)) (sym same) (omega (arith, times_here item items))
+  | inr apart ↦ omega (arith, times_past item other items apart)
 ]
 
 module _ (P : ℕ → List ℕ → Type 0) where
@@ -52,11 +52,11 @@ module _ (P : ℕ → List ℕ → Type 0) where
     named _ _ end item key met p = absurd (omega (arith, met))
     named _ _ (keeps other name items names passes rest) item key met p = elim (cases_eq other item) [
       | inl same ↦ subst (λ (k : List ℕ). Contains (name ∷ names) k) (one item name key (subst (λ (i : ℕ). P i name) same passes) p) (contains_first name names)
-      | inr differ ↦ contains_later name key names (named items names rest item key (omega (arith, met, times-past item other items differ)) p)
+      | inr differ ↦ contains_later name key names (named items names rest item key (omega (arith, met, times_past item other items differ)) p)
     ]
     named _ _ (drops other items names none rest) item key met p = elim (cases_eq other item) [
       | inl same ↦ absurd (none key (subst (λ (i : ℕ). P i key) (sym same) p))
-      | inr differ ↦ named items names rest item key (omega (arith, met, times-past item other items differ)) p
+      | inr differ ↦ named items names rest item key (omega (arith, met, times_past item other items differ)) p
     ]
 
     -- a name stands as often as its item number is met, at most
@@ -66,7 +66,7 @@ module _ (P : ℕ → List ℕ → Type 0) where
       | inl same ↦
           (let named_so : key ≡ name = (bytes_eq-Decides key name).0 same in
           let here : other ≡ item = apart other item key (subst (P other) (sym named_so) passes) p in
-          let met : times item (other ∷ items) ≡ suc (times item items) = ap (λ (o : ℕ). times item (o ∷ items)) here ∙ times-here item items in
+          let met : times item (other ∷ items) ≡ suc (times item items) = ap (λ (o : ℕ). times item (o ∷ items)) here ∙ times_here item items in
           omega (arith, met, counted key name names same, count_few items names rest item key p))
       | inr differ ↦ omega (arith, passed_over key name names differ, count_few items names rest item key p, met_more item other items)
     ]
@@ -78,7 +78,7 @@ module _ (P : ℕ → List ℕ → Type 0) where
       | inl same ↦
           (let named_so : key ≡ name = (bytes_eq-Decides key name).0 same in
           let below = count_few items names rest other key (subst (P other) (sym named_so) passes) in
-          omega (arith, counted key name names same, below, times-here other items, few other))
+          omega (arith, counted key name names same, below, times_here other items, few other))
       | inr differ ↦ (let below = named_once items names rest (λ item. omega (arith, few item, met_more item other items)) key in omega (arith, passed_over key name names differ, below))
     ]
     named_once _ _ (drops other items names none rest) few key = named_once items names rest (λ item. omega (arith, few item, met_more item other items)) key

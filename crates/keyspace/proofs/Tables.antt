@@ -1,1 +1,1 @@
-pub use Rattle.held.proofs.Tables.{map_of-empty}
+pub use Rattle.held.proofs.Tables.{map_of_empty}

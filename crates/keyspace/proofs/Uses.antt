@@ -52,41 +52,41 @@ sound_is_intact = sound_intact value_refs value_of value_own
 -- ---- what is out of the databases changes: a value is made, changed or released
 
 module _ (bases : Bases) (m after : Blocks) (out later xs ys : List BlockRef) (sound : SoundBeside bases m out) (p : Changes m after xs ys) (part : (r : BlockRef) → times r xs ≤ times r out) where
-  pub Changed-sound : ((r : BlockRef) → times r later + times r xs ≡ times r out + times r ys) → SoundBeside bases after later
-  Changed-sound = held.Changed-sound value_refs value_of value_own bases m after out later xs ys sound p part
+  pub changed_sound_in_uses : ((r : BlockRef) → times r later + times r xs ≡ times r out + times r ys) → SoundBeside bases after later
+  changed_sound_in_uses = held.changed_sound_in_uses value_refs value_of value_own bases m after out later xs ys sound p part
 
-  pub Changed-means : (db : ℕ) → means db bases after ≡ means db bases m
-  Changed-means = held.Changed-means value_refs value_of value_own bases m after out later xs ys sound p part
+  pub changed_means : (db : ℕ) → means db bases after ≡ means db bases m
+  changed_means = held.changed_means value_refs value_of value_own bases m after out later xs ys sound p part
 
 -- ---- a value is made and put in place of what stands at a key
 
 module _ (bases : Bases) (m after : Blocks) (value : Value) (sound : Sound bases m) (p : Changes m after [] (value_refs after value)) where
-  pub Made-sound : SoundBeside bases after (value_refs after value)
-  Made-sound = held.Made-sound value_refs value_of value_own bases m after value sound p
+  pub made_sound : SoundBeside bases after (value_refs after value)
+  made_sound = held.made_sound value_refs value_of value_own bases m after value sound p
 
   -- what `put` asks
-  pub Made-intact : IsSound bases.limits bases.seed after value → IsIntactWith bases after value
-  Made-intact = held.Made-intact value_refs value_of value_own bases m after value sound p
+  pub made_intact : IsSound bases.limits bases.seed after value → IsIntactWith bases after value
+  made_intact = held.made_intact value_refs value_of value_own bases m after value sound p
 
-  pub Made-means : (db : ℕ) → means db bases after ≡ means db bases m
-  Made-means = held.Made-means value_refs value_of value_own bases m after value sound p
+  pub made_means : (db : ℕ) → means db bases after ≡ means db bases m
+  made_means = held.made_means value_refs value_of value_own bases m after value sound p
 
   module _ (new : Bases) (later : Blocks) where
     -- from the clause `within` of `put`
-    pub Put-within : (scope : Scope) → Within scope bases new after later → Within scope bases new m later
-    Put-within = held.Put-within value_refs value_of value_own bases m after value sound p new later
+    pub put_within_in_uses : (scope : Scope) → Within scope bases new after later → Within scope bases new m later
+    put_within_in_uses = held.put_within_in_uses value_refs value_of value_own bases m after value sound p new later
 
     -- from the clause `sound` of `put`
-    pub Put-sound : ((all out : List BlockRef) → SoundBeside bases after all → AreParts all (value_refs after value) out → SoundBeside new later out) → Sound new later
-    Put-sound = held.Put-sound value_refs value_of value_own bases m after value sound p new later
+    pub put_sound_in_uses : ((all out : List BlockRef) → SoundBeside bases after all → AreParts all (value_refs after value) out → SoundBeside new later out) → Sound new later
+    put_sound_in_uses = held.put_sound_in_uses value_refs value_of value_own bases m after value sound p new later
 
     -- from the clause `means` of `put`, or its clause `kept`: the world that the step speaks of
-    pub Put-means : (db moment : ℕ) (key : List ℕ) (entry : Entry) → means db new later ≡ put (means db bases after) key entry
+    pub put_means_in_uses : (db moment : ℕ) (key : List ℕ) (entry : Entry) → means db new later ≡ put (means db bases after) key entry
         → model.live (means db new later) moment ≡ stand (model.live (means db bases m) moment) moment key entry
-    Put-means = held.Put-means value_refs value_of value_own bases m after value sound p new later
+    put_means_in_uses = held.put_means_in_uses value_refs value_of value_own bases m after value sound p new later
 
-    pub Put-kept : (db moment : ℕ) → means db new later ≡ means db bases after → model.live (means db new later) moment ≡ model.live (means db bases m) moment
-    Put-kept = held.Put-kept value_refs value_of value_own bases m after value sound p new later
+    pub put_kept : (db moment : ℕ) → means db new later ≡ means db bases after → model.live (means db new later) moment ≡ model.live (means db bases m) moment
+    put_kept = held.put_kept value_refs value_of value_own bases m after value sound p new later
 
 -- ---- a value is lifted, changed and lowered again
 
@@ -94,26 +94,26 @@ module _ (old mid : Bases) (m after : Blocks) (db moment : ℕ) (key : List ℕ)
     (sound : SoundBeside mid m (value_refs m lifted.value ++ out)) (p : Changes m after (value_refs m lifted.value) (value_refs after changed.value)) (same_db : changed.db ≡ lifted.db)
     (same_item : changed.item ≡ lifted.item) where
   -- what `lower` asks
-  pub Lower-intact : IsSound mid.limits mid.seed after changed.value → IsIntactWith mid after changed.value
-  Lower-intact = held.Lower-intact value_refs value_of value_own old mid m after db moment key lifted changed out vacant lifts sound p same_db same_item
+  pub lower_intact : IsSound mid.limits mid.seed after changed.value → IsIntactWith mid after changed.value
+  lower_intact = held.lower_intact value_refs value_of value_own old mid m after db moment key lifted changed out vacant lifts sound p same_db same_item
 
-  pub Lower-vacant : IsVacant mid changed.db changed.item
-  Lower-vacant = held.Lower-vacant value_refs value_of value_own old mid m after db moment key lifted changed out vacant lifts sound p same_db same_item
+  pub lower_vacant : IsVacant mid changed.db changed.item
+  lower_vacant = held.lower_vacant value_refs value_of value_own old mid m after db moment key lifted changed out vacant lifts sound p same_db same_item
 
   module _ (new : Bases) where
     -- from the clause `sound` of `lower`
-    pub Lower-sound : ((all rest : List BlockRef) → SoundBeside mid after all → AreParts all (value_refs after changed.value) rest → SoundBeside new after rest) → SoundBeside new after out
-    Lower-sound = held.Lower-sound value_refs value_of value_own old mid m after db moment key lifted changed out vacant lifts sound p same_db same_item new
+    pub lower_sound : ((all rest : List BlockRef) → SoundBeside mid after all → AreParts all (value_refs after changed.value) rest → SoundBeside new after rest) → SoundBeside new after out
+    lower_sound = held.lower_sound value_refs value_of value_own old mid m after db moment key lifted changed out vacant lifts sound p same_db same_item new
 
     -- from the clause `has` of `lower`
-    pub Lower-has : ((k : List ℕ) (deadline : Option ℕ) → IsPlace mid after changed.db changed.item k deadline → HasOnly new after changed.db k changed.value) → HasOnly new after db key changed.value
-    Lower-has = held.Lower-has value_refs value_of value_own old mid m after db moment key lifted changed out vacant lifts sound p same_db same_item new
+    pub lower_has : ((k : List ℕ) (deadline : Option ℕ) → IsPlace mid after changed.db changed.item k deadline → HasOnly new after changed.db k changed.value) → HasOnly new after db key changed.value
+    lower_has = held.lower_has value_refs value_of value_own old mid m after db moment key lifted changed out vacant lifts sound p same_db same_item new
 
     -- from the clauses `within` of `lift` and `lower`
-    pub Lower-within : Within (one_key db key) old mid m m →
+    pub lower_within : Within (one_key db key) old mid m m →
         ((k : List ℕ) (deadline : Option ℕ) → IsPlace mid after changed.db changed.item k deadline → Within (one_key changed.db k) mid new after after)
         → Within (one_key db key) old new m after
-    Lower-within = held.Lower-within value_refs value_of value_own old mid m after db moment key lifted changed out vacant lifts sound p same_db same_item new
+    lower_within = held.lower_within value_refs value_of value_own old mid m after db moment key lifted changed out vacant lifts sound p same_db same_item new
 
     -- from the clause `means` of `lower`: the value stands at the key, with the deadline that was there
     pub Lower-means :
@@ -125,14 +125,14 @@ module _ (old mid : Bases) (m after : Blocks) (db moment : ℕ) (key : List ℕ)
 -- ---- strings: from what a call on the text of a lifted value asks and says
 
 module _ (m mid : Blocks) (value : Value) (text : texts.Text) (same : mid ≡ m) (is : value ≡ Text text) where
-  pub Text-owned : Owned (value_refs m value) m → Owned (text_refs text) mid
-  Text-owned own = subst (Owned (text_refs text)) (sym same) (subst (λ v. Owned (value_refs m v) m) is own)
+  pub text_owned : Owned (value_refs m value) m → Owned (text_refs text) mid
+  text_owned own = subst (Owned (text_refs text)) (sym same) (subst (λ v. Owned (value_refs m v) m) is own)
 
-  pub Text-changes : (after : Blocks) (changed : texts.Text) → Changes mid after (text_refs text) (text_refs changed) → Changes m after (value_refs m value) (value_refs after (Text changed))
-  Text-changes after changed p = subst (λ v. Changes m after (value_refs m v) (text_refs changed)) (sym is) (subst (λ b. Changes b after (text_refs text) (text_refs changed)) same p)
+  pub text_changes : (after : Blocks) (changed : texts.Text) → Changes mid after (text_refs text) (text_refs changed) → Changes m after (value_refs m value) (value_refs after (Text changed))
+  text_changes after changed p = subst (λ v. Changes m after (value_refs m v) (text_refs changed)) (sym is) (subst (λ b. Changes b after (text_refs text) (text_refs changed)) same p)
 
-  pub Text-bytes : value_of m value ≡ model.Str (text_bytes mid text)
-  Text-bytes = ap (value_of m) is ∙ ap (λ b. model.Str (text_bytes b text)) (sym same)
+  pub text_bytes_in_uses : value_of m value ≡ model.Str (text_bytes mid text)
+  text_bytes_in_uses = ap (value_of m) is ∙ ap (λ b. model.Str (text_bytes b text)) (sym same)
 
 -- ---- what stands at a key is sound
 

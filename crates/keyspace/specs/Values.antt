@@ -18,7 +18,7 @@ use Rattle.stored.specs.Owning.{ReadsOwn, RestsOn, KeepsTables, IsBlank, no_tabl
 use Rattle.stored.specs.Passing.{Marks}
 use Rattle.string_object.specs.declared.text.Text.TheVariants.{Number}
 use Rattle.string_object.specs.Text.{text_bytes, text_refs, is_raw}
-use Rattle.string_object.proofs.Texts.{text-own}
+use Rattle.string_object.proofs.Texts.{text_own}
 use Rattle.quicklist.specs.Chain as list
 use Rattle.quicklist.proofs.Depends.{quick_laws_hold}
 use Rattle.set_object.specs.Members as set
@@ -150,7 +150,7 @@ value_marked blocks (kinds.Stream b) = stream_laws_hold.marked blocks b.value
 
 value_reads : (m after : Blocks) (value : Value) → ((r : BlockRef) → 0 < times r (value_refs m value) → after r ≡ m r)
     → value_of after value ≡ value_of m value
-value_reads m after (Text text) same = ap Str (text-own m after text same)
+value_reads m after (Text text) same = ap Str (text_own m after text same)
 value_reads m after (kinds.List b) same = ap ListOf (quick_laws_hold.own m after b.value same)
 value_reads m after (Set b) same = ap SetOf (members_laws_hold.own m after b.value same)
 value_reads m after (Hash b) same = ap HashOf (fields_laws_hold.own m after b.value same)

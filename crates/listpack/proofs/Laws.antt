@@ -9,18 +9,18 @@ use Rattle.listpack.specs.declared.fault.PackFault.TheVariants as faults
 use Rattle.listpack.specs.Entry.{needed, text_of}
 use Rattle.listpack.specs.Pack.{entries, total, told, region, last_byte, HasSpellings, Packs, Begins, IsSized, IsCutShort, LacksBackLength, IsEntryFault, IsRegionFault, IsFault}
 use Rattle.listpack.specs.Pack.{spellings_of, IsPack, texts, ExactlyOne}
-use Rattle.listpack.proofs.Spellings.{needed-append}
-use Rattle.listpack.proofs.Regions.{scan, Stop, at_end, at_fault, one_stop, fault_there, cut-entries}
+use Rattle.listpack.proofs.Spellings.{needed_append}
+use Rattle.listpack.proofs.Regions.{scan, Stop, at_end, at_fault, one_stop, fault_there, cut_entries}
 
-length-region : (bytes : List ℕ) → length (region bytes) ≤ length bytes
-length-region bytes = omega (arith, length-take (length bytes - 1 - 6) (Rattle.std.proofs.Common.drop 6 bytes), length-drop 6 bytes)
+length_region : (bytes : List ℕ) → length (region bytes) ≤ length bytes
+length_region bytes = omega (arith, length-take (length bytes - 1 - 6) (Rattle.std.proofs.Common.drop 6 bytes), length-drop 6 bytes)
 
 -- reading gives the spellings of a listpack
 pub spellings_read : (bytes : List ℕ) (spellings : List (List ℕ)) → HasSpellings bytes spellings → spellings_of bytes ≡ spellings
 unfolding spellings_of
 spellings_read bytes spellings h =
     ap (Rattle.listpack.specs.Pack.cut (length bytes)) h.all_entries
-    ∙ cut-entries (length bytes) spellings h.each (omega (arith, length-region bytes, ap length h.all_entries))
+    ∙ cut_entries (length bytes) spellings h.each (omega (arith, length_region bytes, ap length h.all_entries))
 
 pub is_pack : (bytes : List ℕ) (spellings : List (List ℕ)) → HasSpellings bytes spellings → IsPack bytes
 is_pack bytes spellings h = subst (λ (x : List (List ℕ)). HasSpellings bytes x) (sym (spellings_read bytes spellings h)) h
@@ -53,7 +53,7 @@ lacks_is : (rest : List ℕ) (last : ℕ) → LacksBackLength rest → faults.Ba
 unfolding stop_fault
 lacks_is rest last f =
     let a = fault_there faults.BackLength rest f in
-    let e = ap needed f.2 ∙ needed-append f.0 f.1 f.3 in
+    let e = ap needed f.2 ∙ needed_append f.0 f.1 f.3 in
     let b : needed rest ≤ length rest = omega (arith, e, ap length f.2, Rattle.std.proofs.Common.length-append f.0 f.1) in
     grind (arith, nat_tests)
 

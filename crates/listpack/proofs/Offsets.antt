@@ -10,12 +10,12 @@ use Rattle.std.proofs.lemmas.List.Elements.{All-get_or}
 use Rattle.listpack.specs.declared.fault.PackFault.{PackFault}
 use Rattle.listpack.specs.Entry.{needed, IsSpelling, back_length, entry_of, text_of}
 use Rattle.listpack.specs.Pack.{entries, region, Begins, IsRegionFault, IsPack, spellings_of, texts, offset_of}
-use Rattle.listpack.proofs.Spellings.{spelling-pos, needed-append}
-use Rattle.listpack.proofs.Regions.{length-entry, one_stop, at_end, at_fault, fault_there}
+use Rattle.listpack.proofs.Spellings.{spelling_pos, needed_append}
+use Rattle.listpack.proofs.Regions.{length_entry, one_stop, at_end, at_fault, fault_there}
 
 -- bytes have as many texts as spellings
-pub length-texts : (bytes : List ℕ) → length (texts bytes) ≡ length (spellings_of bytes)
-length-texts bytes = length-map (spellings_of bytes) text_of
+pub length_texts : (bytes : List ℕ) → length (texts bytes) ≡ length (spellings_of bytes)
+length_texts bytes = length-map (spellings_of bytes) text_of
 
 -- header, entries and last byte
 pub whole : (bytes : List ℕ) → IsPack bytes → bytes ≡ take 6 bytes ++ (entries (spellings_of bytes) ++ 0xFF ∷ [])
@@ -46,31 +46,31 @@ cut_at bytes i p =
     ∙ sym (append_assoc (take 6 bytes) a (b ++ end))
 
 -- the header and the entries before entry i are as long as its offset says
-pub length-front : (bytes : List ℕ) (i : ℕ) → IsPack bytes → length (take 6 bytes ++ entries (take i (spellings_of bytes))) ≡ offset_of bytes i
-length-front bytes i p =
+pub length_front : (bytes : List ℕ) (i : ℕ) → IsPack bytes → length (take 6 bytes ++ entries (take i (spellings_of bytes))) ≡ offset_of bytes i
+length_front bytes i p =
     let header : 7 ≤ length bytes = p.header in
     let six = length-take-le 6 bytes (omega arith) in
     omega (arith, six, length-append (take 6 bytes) (entries (take i (spellings_of bytes))))
 
 -- the bytes before the offset of an entry are the header and the entries before it
-pub take-offset : (bytes : List ℕ) (i : ℕ) → IsPack bytes → take (offset_of bytes i) bytes ≡ take 6 bytes ++ entries (take i (spellings_of bytes))
-take-offset bytes i p =
+pub take_offset : (bytes : List ℕ) (i : ℕ) → IsPack bytes → take (offset_of bytes i) bytes ≡ take 6 bytes ++ entries (take i (spellings_of bytes))
+take_offset bytes i p =
     ap (take (offset_of bytes i)) (cut_at bytes i p)
-    ∙ take_at (take 6 bytes ++ entries (take i (spellings_of bytes))) (entries (drop i (spellings_of bytes)) ++ 0xFF ∷ []) (offset_of bytes i) (length-front bytes i p)
+    ∙ take_at (take 6 bytes ++ entries (take i (spellings_of bytes))) (entries (drop i (spellings_of bytes)) ++ 0xFF ∷ []) (offset_of bytes i) (length_front bytes i p)
 
 -- the bytes from the offset of an entry on are the entries from it on and the last byte
-pub drop-offset : (bytes : List ℕ) (i : ℕ) → IsPack bytes → drop (offset_of bytes i) bytes ≡ entries (drop i (spellings_of bytes)) ++ 0xFF ∷ []
-drop-offset bytes i p =
+pub drop_offset : (bytes : List ℕ) (i : ℕ) → IsPack bytes → drop (offset_of bytes i) bytes ≡ entries (drop i (spellings_of bytes)) ++ 0xFF ∷ []
+drop_offset bytes i p =
     ap (drop (offset_of bytes i)) (cut_at bytes i p)
-    ∙ drop_at (take 6 bytes ++ entries (take i (spellings_of bytes))) (entries (drop i (spellings_of bytes)) ++ 0xFF ∷ []) (offset_of bytes i) (length-front bytes i p)
+    ∙ drop_at (take 6 bytes ++ entries (take i (spellings_of bytes))) (entries (drop i (spellings_of bytes)) ++ 0xFF ∷ []) (offset_of bytes i) (length_front bytes i p)
 
 -- the bytes from an entry on to the last byte
-pub length-offset : (bytes : List ℕ) (i : ℕ) → IsPack bytes → length bytes ≡ offset_of bytes i + length (entries (drop i (spellings_of bytes))) + 1
-length-offset bytes i p =
+pub length_offset : (bytes : List ℕ) (i : ℕ) → IsPack bytes → length bytes ≡ offset_of bytes i + length (entries (drop i (spellings_of bytes))) + 1
+length_offset bytes i p =
     omega (
       arith,
       ap length (cut_at bytes i p),
-      length-front bytes i p,
+      length_front bytes i p,
       length-append (take 6 bytes ++ entries (take i (spellings_of bytes))) (entries (drop i (spellings_of bytes)) ++ 0xFF ∷ []),
       length-append (entries (drop i (spellings_of bytes))) (0xFF ∷ []),
     )
@@ -108,33 +108,33 @@ offset_rises bytes i j h =
 -- each entry of a listpack begins before the last byte
 pub offset_inside : (bytes : List ℕ) (i : ℕ) → IsPack bytes → i < length (spellings_of bytes) → offset_of bytes i + 1 < length bytes
 offset_inside bytes i p h =
-    let longer = length-entry (get_or (spellings_of bytes) i []) (entries (drop (i + 1) (spellings_of bytes))) (spelled bytes i p h) in
-    omega (arith, length-offset bytes i p, ap length (entries_from i (spellings_of bytes) h), longer)
+    let longer = length_entry (get_or (spellings_of bytes) i []) (entries (drop (i + 1) (spellings_of bytes))) (spelled bytes i p h) in
+    omega (arith, length_offset bytes i p, ap length (entries_from i (spellings_of bytes) h), longer)
 
 -- the offset behind the last entry is that of the last byte
 pub offset_end : (bytes : List ℕ) (i : ℕ) → IsPack bytes → length (spellings_of bytes) ≤ i → offset_of bytes i + 1 ≡ length bytes
 offset_end bytes i p h =
     let none = ap entries (drop_all i (spellings_of bytes) h) in
-    omega (arith, length-offset bytes i p, ap length none)
+    omega (arith, length_offset bytes i p, ap length none)
 
 -- the bytes of the entries from one on, as a part of all bytes
 pub part_from : (bytes : List ℕ) (i : ℕ) → IsPack bytes → take (length bytes - 1 - offset_of bytes i) (drop (offset_of bytes i) bytes) ≡ entries (drop i (spellings_of bytes))
 part_from bytes i p =
     let k : ℕ = length bytes - 1 - offset_of bytes i in
-    ap (take k) (drop-offset bytes i p)
-    ∙ take_at (entries (drop i (spellings_of bytes))) (0xFF ∷ []) k (omega (arith, length-offset bytes i p))
+    ap (take k) (drop_offset bytes i p)
+    ∙ take_at (entries (drop i (spellings_of bytes))) (0xFF ∷ []) k (omega (arith, length_offset bytes i p))
 
 -- two spellings at the front of the same bytes
 pub front_same : (s t more rest : List ℕ) → IsSpelling s → IsSpelling t → s ++ more ≡ t ++ rest → s ≡ t
 front_same s t more rest own other e =
-    let k : length s ≡ length t = sym (needed-append s more own) ∙ ap needed e ∙ needed-append t rest other in
+    let k : length s ≡ length t = sym (needed_append s more own) ∙ ap needed e ∙ needed_append t rest other in
     sym (take_at s more (length t) k) ∙ ap (take (length t)) e ∙ take_at t rest (length t) refl
 
 -- what is found where an entry is split off
 pub found_at : (bytes s more : List ℕ) (i at : ℕ) → IsPack bytes → i < length (texts bytes) → at ≡ offset_of bytes i
     → take (length bytes - 1 - at) (drop at bytes) ≡ s ++ more → IsSpelling s → s ≡ get_or (spellings_of bytes) i []
 found_at bytes s more i at p h e found own =
-    let inside : i < length (spellings_of bytes) = omega (arith, length-texts bytes) in
+    let inside : i < length (spellings_of bytes) = omega (arith, length_texts bytes) in
     let t = get_or (spellings_of bytes) i [] in
     let there : s ++ more ≡ t ++ (back_length (length t) ++ entries (drop (i + 1) (spellings_of bytes))) =
     sym found
@@ -148,7 +148,7 @@ found_at bytes s more i at p h e found own =
 pub not_missing : (bytes : List ℕ) (i at : ℕ) → IsPack bytes → i < length (texts bytes) → at ≡ offset_of bytes i
     → length (take (length bytes - 1 - at) (drop at bytes)) < needed (take (length bytes - 1 - at) (drop at bytes)) → ⊥
 not_missing bytes i at p h e short =
-    let inside : i < length (spellings_of bytes) = omega (arith, length-texts bytes) in
+    let inside : i < length (spellings_of bytes) = omega (arith, length_texts bytes) in
     let t = get_or (spellings_of bytes) i [] in
     let more = back_length (length t) ++ entries (drop (i + 1) (spellings_of bytes)) in
     let shape : take (length bytes - 1 - at) (drop at bytes) ≡ t ++ more =
@@ -156,7 +156,7 @@ not_missing bytes i at p h e short =
     ∙ part_from bytes i p
     ∙ entries_from i (spellings_of bytes) inside
     ∙ append_assoc t (back_length (length t)) (entries (drop (i + 1) (spellings_of bytes))) in
-    omega (arith, short, ap length shape, ap needed shape ∙ needed-append t more (spelled bytes i p inside), length-append t more)
+    omega (arith, short, ap length shape, ap needed shape ∙ needed_append t more (spelled bytes i p inside), length-append t more)
 
 -- the bytes before the end of the entry i end with its back length
 pub ends_with : (bytes : List ℕ) (i : ℕ) → IsPack bytes → i < length (spellings_of bytes)
@@ -165,7 +165,7 @@ ends_with bytes i p h =
     let a = entries (take i (spellings_of bytes)) in
     let s = get_or (spellings_of bytes) i [] in
     let b = back_length (length s) in
-    take-offset bytes (i + 1) p
+    take_offset bytes (i + 1) p
     ∙ ap (λ (x : List ℕ). take 6 bytes ++ x) (entries_upto i (spellings_of bytes) h ∙ sym (append_assoc a s b))
     ∙ sym (append_assoc (take 6 bytes) (a ++ s) b)
 
@@ -176,10 +176,10 @@ first_byte bytes i p h =
     let at = offset_of bytes i in
     let more = entries (drop (i + 1) (spellings_of bytes)) in
     let own = spelled bytes i p h in
-    let some = spelling-pos s own in
+    let some = spelling_pos s own in
     let place : at ≡ at + 0 = omega arith in
     let shape : drop at bytes ≡ s ++ ((back_length (length s) ++ more) ++ 0xFF ∷ []) =
-    drop-offset bytes i p
+    drop_offset bytes i p
     ∙ ap (λ (x : List ℕ). x ++ 0xFF ∷ []) (entries_from i (spellings_of bytes) h ∙ append_assoc s (back_length (length s)) more)
     ∙ append_assoc s (back_length (length s) ++ more) (0xFF ∷ []) in
     ap (λ (x : ℕ). get_or bytes x 0) place ∙ sym (get_or-drop at bytes 0 0) ∙ ap (λ (x : List ℕ). get_or x 0 0) shape
@@ -189,7 +189,7 @@ first_byte bytes i p h =
 pub counted : (bytes : List ℕ) (spellings : List (List ℕ)) → IsPack bytes → Begins (region bytes) spellings [] → length spellings ≡ length (texts bytes)
 counted bytes spellings p b =
     let same = one_stop spellings (spellings_of bytes) (region bytes) [] [] b (p.all_entries ∙ sym (append-nil (entries (spellings_of bytes))), p.each) (at_end refl) (at_end refl) in
-    ap length same.0 ∙ sym (length-texts bytes)
+    ap length same.0 ∙ sym (length_texts bytes)
 
 -- no entry of a listpack has a fault
 pub no_region_fault : (bytes : List ℕ) (fault : PackFault) → IsPack bytes → IsRegionFault (region bytes) fault → ⊥
@@ -202,26 +202,26 @@ no_region_fault bytes fault p f =
 pub step_at : (bytes s : List ℕ) (i at : ℕ) → IsPack bytes → i < length (texts bytes) → at ≡ offset_of bytes i → s ≡ get_or (spellings_of bytes) i []
     → (offset_of bytes (i + 1) ≡ at + length s + length (back_length (length s))) × (offset_of bytes (i + 1) + 1 ≤ length bytes)
 step_at bytes s i at p h e same =
-    let inside : i < length (spellings_of bytes) = omega (arith, length-texts bytes) in
+    let inside : i < length (spellings_of bytes) = omega (arith, length_texts bytes) in
     let far = offset_next bytes i inside in
-    (omega (arith, far, e, ap length same, ap (λ (x : List ℕ). length (back_length (length x))) same), omega (arith, length-offset bytes (i + 1) p))
+    (omega (arith, far, e, ap length same, ap (λ (x : List ℕ). length (back_length (length x))) same), omega (arith, length_offset bytes (i + 1) p))
 
 -- the offset of each entry but the first, and that of the last byte behind entries, is above 6
 pub offset_above : (bytes : List ℕ) (i : ℕ) → IsPack bytes → 0 < i → i ≤ length (texts bytes) → 6 < offset_of bytes i
 offset_above bytes i p some h =
     let j : ℕ = i - 1 in
-    let inside : j < length (spellings_of bytes) = omega (arith, length-texts bytes) in
+    let inside : j < length (spellings_of bytes) = omega (arith, length_texts bytes) in
     let back : i ≡ j + 1 = omega arith in
-    omega (arith, ap (offset_of bytes) back, offset_next bytes j inside, spelling-pos (get_or (spellings_of bytes) j []) (spelled bytes j p inside))
+    omega (arith, ap (offset_of bytes) back, offset_next bytes j inside, spelling_pos (get_or (spellings_of bytes) j []) (spelled bytes j p inside))
 
 -- a listpack has seven bytes exactly where it has no element
 pub empty : (bytes : List ℕ) → IsPack bytes → (length bytes ≡ 7 → length (texts bytes) ≡ 0) × (length (texts bytes) ≡ 0 → length bytes ≡ 7)
 empty bytes p = (
   λ seven. elim (cases_lt 0 (length (spellings_of bytes))) [
     | inl some ↦ let far = offset_inside bytes 0 p some in absurd (omega (arith, far))
-    | inr none ↦ omega (arith, length-texts bytes)
+    | inr none ↦ omega (arith, length_texts bytes)
   ],
-  λ none. let far = offset_end bytes 0 p (omega (arith, length-texts bytes)) in omega (arith, far),
+  λ none. let far = offset_end bytes 0 p (omega (arith, length_texts bytes)) in omega (arith, far),
 )
 
 -- a number that fails a test which holds for zero is above zero

@@ -11,7 +11,7 @@ use Rattle.listpack.specs.declared.fault.PackFault.{PackFault}
 use Rattle.listpack.specs.declared.fault.PackFault.TheVariants as faults
 use Rattle.listpack.specs.Entry.{needed, IsSpelling, back_length, entry_of}
 use Rattle.listpack.specs.Pack.{entries, Begins, LacksBackLength, IsEntryFault, IsRegionFault, cut}
-use Rattle.listpack.proofs.Spellings.{spelling-pos, needed-append, spelling-take}
+use Rattle.listpack.proofs.Spellings.{spelling_pos, needed_append, spelling_take}
 
 -- one entry more in front
 pub begins_more : (s : List ℕ) (spellings : List (List ℕ)) (bytes rest more : List ℕ) → IsSpelling s → bytes ≡ entry_of s ++ more → Begins more spellings rest → Begins bytes (s ∷ spellings) rest
@@ -49,9 +49,9 @@ parted w s back after n front e =
     sym (take-append-drop n w) ∙ ap (λ (x : List ℕ). x ++ drop n w) (sym front) ∙ ap (λ (x : List ℕ). s ++ x) e ∙ sym (append_assoc s back after)
 
 -- bytes with an entry in front of them are longer by at least one
-pub length-entry : (s after : List ℕ) → IsSpelling s → length after + 1 ≤ length (entry_of s ++ after)
-length-entry s after own =
-    let p = spelling-pos s own in
+pub length_entry : (s after : List ℕ) → IsSpelling s → length after + 1 ≤ length (entry_of s ++ after)
+length_entry s after own =
+    let p = spelling_pos s own in
     omega (arith, p, length-append (entry_of s) after, length-append s (back_length (length s)))
 
 -- bytes that begin with a spelling are filled by entries or have a fault, where this holds of all shorter bytes
@@ -60,7 +60,7 @@ first_scanned : (w s : List ℕ) (n : ℕ) → s ≡ take (needed w) w → IsSpe
 first_scanned w s n front own some h ih t = elim t [
   | inl x ↦
       let e : w ≡ entry_of s ++ x.0 = parted w s (back_length (length s)) x.0 (needed w) front x.1 in
-      let longer = length-entry s x.0 own in
+      let longer = length_entry s x.0 own in
       scanned_more s w x.0 own e (ih x.0 (omega (arith, longer, ap length e)))
   | inr lacks ↦ inr (
     faults.BackLength,
@@ -77,7 +77,7 @@ scan (suc n) (b ∷ more) h = elim (cases_lt (length (b ∷ more)) (needed (b �
   | inr there ↦
       let w = b ∷ more in
       let s = take (needed w) w in
-      first_scanned w s n refl (spelling-take w there) (omega arith) h (scan n) (has_front (drop (needed w) w) (back_length (length s)))
+      first_scanned w s n refl (spelling_take w there) (omega arith) h (scan n) (has_front (drop (needed w) w) (back_length (length s)))
 ]
 
 -- where reading stops: behind the last entry, or at one that has a fault
@@ -87,7 +87,7 @@ pub data Stop (rest : List ℕ) : Type 0 where
 
 -- a spelling's length, at bytes that begin with it
 front_needed : (s rest more : List ℕ) → IsSpelling s → rest ≡ s ++ more → needed rest ≡ length s
-front_needed s rest more own e = ap needed e ∙ needed-append s more own
+front_needed s rest more own e = ap needed e ∙ needed_append s more own
 
 -- where bytes begin with a whole entry, that entry has no fault
 no_fault : (fault : PackFault) (s rest more : List ℕ) → IsSpelling s → rest ≡ entry_of s ++ more → IsEntryFault rest fault → ⊥
@@ -111,7 +111,7 @@ no_fault faults.End s rest more own e f = f
 -- an entry is no place to stop
 no_stop : (s rest more : List ℕ) → IsSpelling s → rest ≡ entry_of s ++ more → Stop rest → ⊥
 no_stop s rest more own e (at_end z) =
-    let longer = length-entry s more own in
+    let longer = length_entry s more own in
     omega (arith, longer, ap length e, ap length z)
 no_stop s rest more own e (at_fault fault f) = no_fault fault s rest more own e f
 
@@ -122,7 +122,7 @@ same_front s t more after own other e =
     let right = append_assoc t (back_length (length t)) after in
     let whole : s ++ (back_length (length s) ++ more) ≡ t ++ (back_length (length t) ++ after) = sym left ∙ e ∙ right in
     let m = front_needed s (t ++ (back_length (length t) ++ after)) (back_length (length s) ++ more) own (sym whole) in
-    let n = needed-append t (back_length (length t) ++ after) other in
+    let n = needed_append t (back_length (length t) ++ after) other in
     let k : length s ≡ length t = sym m ∙ n in
     let same : s ≡ t = sym (take_at s (back_length (length s) ++ more) (length t) k) ∙ ap (take (length t)) whole ∙ take_at t (back_length (length t) ++ after) (length t) refl in
     (same, append_cancel_left (entry_of t) more after (ap (λ (x : List ℕ). entry_of x ++ more) (sym same) ∙ e))
@@ -177,7 +177,7 @@ fault_there faults.Short rest f = absurd f
 fault_there faults.Total rest f = absurd f
 fault_there faults.Entry rest f = f.0
 fault_there faults.BackLength rest f =
-    let p = spelling-pos f.0 f.3 in
+    let p = spelling_pos f.0 f.3 in
     omega (arith, p, ap length f.2, length-append f.0 f.1)
 fault_there faults.Count rest f = absurd f
 fault_there faults.End rest f = absurd f
@@ -195,19 +195,19 @@ cut_nil zero = refl
 cut_nil (suc n) = refl
 
 -- reading gives the spellings that were written
-pub cut-entries : (n : ℕ) (spellings : List (List ℕ)) → All IsSpelling spellings → length (entries spellings) ≤ n → cut n (entries spellings) ≡ spellings
-cut-entries n [] each h = cut_nil n
-cut-entries zero (s ∷ ss) each h =
-    let longer = length-entry s (entries ss) (All-head IsSpelling s ss each) in absurd (omega (arith, longer))
-cut-entries (suc n) (s ∷ ss) each h =
+pub cut_entries : (n : ℕ) (spellings : List (List ℕ)) → All IsSpelling spellings → length (entries spellings) ≤ n → cut n (entries spellings) ≡ spellings
+cut_entries n [] each h = cut_nil n
+cut_entries zero (s ∷ ss) each h =
+    let longer = length_entry s (entries ss) (All-head IsSpelling s ss each) in absurd (omega (arith, longer))
+cut_entries (suc n) (s ∷ ss) each h =
     let own = All-head IsSpelling s ss each in
-    let longer = length-entry s (entries ss) own in
+    let longer = length_entry s (entries ss) own in
     let w : List ℕ = entry_of s ++ entries ss in
     let k : needed w ≡ length s = front_needed s w (back_length (length s) ++ entries ss) own (append_assoc s (back_length (length s)) (entries ss)) in
     let first : take (needed w) w ≡ s = ap (take (needed w)) (append_assoc s (back_length (length s)) (entries ss)) ∙ take_at s (back_length (length s) ++ entries ss) (needed w) (sym k) in
     let size : length (entry_of s) ≡ needed w + length (back_length (needed w)) = length-append s (back_length (length s)) ∙ ap (λ (j : ℕ). j + length (back_length j)) (sym k) in
     let others : drop (needed w + length (back_length (needed w))) w ≡ entries ss = drop_at (entry_of s) (entries ss) (needed w + length (back_length (needed w))) size in
-    let ih = cut-entries n ss (All-tail IsSpelling s ss each) (omega (arith, longer)) in
+    let ih = cut_entries n ss (All-tail IsSpelling s ss each) (omega (arith, longer)) in
     cut_cons n w (omega (arith, longer))
     ∙ ap (λ (x : List ℕ). x ∷ cut n (drop (needed w + length (back_length (needed w))) w)) first
     ∙ ap (λ (x : List ℕ). s ∷ cut n x) others

@@ -15,7 +15,7 @@ use Rattle.listpack.specs.Pack.{entries, total, told, region, last_byte, HasSpel
 use Rattle.listpack.specs.Writing.{spelling, entry}
 use Rattle.listpack.specs.Edits.{IsEdited, one_more, fewer}
 use Rattle.listpack.proofs.Laws.{spellings_read, is_pack}
-use Rattle.listpack.proofs.Offsets.{length-texts, take-offset, drop-offset, offset_end}
+use Rattle.listpack.proofs.Offsets.{length_texts, take_offset, drop_offset, offset_end}
 use Rattle.listpack.proofs.Writings.{element_short}
 use Rattle.listpack.proofs.ReadBack.{spelled}
 
@@ -86,7 +86,7 @@ edited old inner new xs i j count p each cut_as put_as small fits known =
     let header : 7 ≤ length old = p.header in
     let six : length (take 6 old) ≡ 6 = length-take-le 6 old (omega arith) in
     let whole : inner ≡ (take 6 old ++ a) ++ (m ++ (b ++ end)) =
-    cut_as ∙ ap (λ (x : List ℕ). x ++ (m ++ drop (offset_of old j) old)) (take-offset old i p) ∙ ap (λ (x : List ℕ). (take 6 old ++ a) ++ (m ++ x)) (drop-offset old j p) in
+    cut_as ∙ ap (λ (x : List ℕ). x ++ (m ++ drop (offset_of old j) old)) (take_offset old i p) ∙ ap (λ (x : List ℕ). (take 6 old ++ a) ++ (m ++ x)) (drop_offset old j p) in
     let all : a ++ (m ++ (b ++ end)) ≡ entries (spliced ss i j xs) ++ end =
     ap (λ (x : List ℕ). a ++ x) (sym (append_assoc m b end)) ∙ sym (append_assoc a (m ++ b) end) ∙ ap (λ (x : List ℕ). x ++ end) (sym (entries_spliced ss xs i j)) in
     let shape : inner ≡ take 6 old ++ (entries (spliced ss i j xs) ++ end) = whole ∙ append_assoc (take 6 old) a (m ++ (b ++ end)) ∙ ap (λ (x : List ℕ). take 6 old ++ x) all in
@@ -125,7 +125,7 @@ fewer_known old removed count p some e no_mark = elim (cases_eq (told old) 65535
 
 -- the header tells no fewer elements than there are
 pub told_enough : (old : List ℕ) (count removed : ℕ) → IsPack old → count ≡ told old → removed ≤ length (texts old) → count ≢ 65535 → removed ≤ count
-told_enough old count removed p e some no_mark = omega (arith, e, p.count (λ m. no_mark (e ∙ m)), length-texts old)
+told_enough old count removed p e some no_mark = omega (arith, e, p.count (λ m. no_mark (e ∙ m)), length_texts old)
 
 -- bytes with an entry put in at the offset of entry i, and a new header, are a listpack with its spelling at i
 pub inserted : (old inner new text : List ℕ) (i count : ℕ) → IsPack old → i ≤ length (texts old) → length text < 2 ^ 32
@@ -139,7 +139,7 @@ inserted old inner new text i count p h short cut_as put_as small e =
     (edited old inner new (spelling text ∷ []) i i count p (one_spelled text short)
     (cut_as ∙ ap (λ (x : List ℕ). take (offset_of old i) old ++ (x ++ drop (offset_of old i) old)) (sym one))
     put_as small room
-    (λ no_mark. omega (arith, more_known old count p e no_mark, length-insert (spellings_of old) i (spelling text) (omega (arith, length-texts old)))))
+    (λ no_mark. omega (arith, more_known old count p e no_mark, length-insert (spellings_of old) i (spelling text) (omega (arith, length_texts old)))))
 
 -- bytes with an entry put in before the last byte, and a new header, are a listpack with its spelling at the end
 pub appended : (old inner new text : List ℕ) (at count : ℕ) → IsPack old → length text < 2 ^ 32 → at ≡ length old - 1
@@ -150,7 +150,7 @@ appended old inner new text at count p short place cut_as put_as small e =
     let n = length (spellings_of old) in
     let end : at ≡ offset_of old n = omega (arith, place, offset_end old n p (omega arith)) in
     subst (λ (x : List (List ℕ)). IsEdited new x (one_more (told old))) (insert_end (spellings_of old) (spelling text))
-    (inserted old inner new text n count p (omega (arith, length-texts old)) short
+    (inserted old inner new text n count p (omega (arith, length_texts old)) short
     (cut_as ∙ ap (λ (k : ℕ). take k old ++ (entry text ++ drop k old)) end) put_as small e)
 
 -- the count after a replacement
@@ -161,7 +161,7 @@ pub replaced : (old inner new text : List ℕ) (i count : ℕ) → IsPack old �
 replaced old inner new text i count p h short cut_as put_as small room e =
     let one : entries (spelling text ∷ []) ≡ entry text = append-nil (entry text) in
     let ss = spellings_of old in
-    let inside : i < length ss = omega (arith, length-texts old) in
+    let inside : i < length ss = omega (arith, length_texts old) in
     let next : i + 1 ≡ suc i = omega arith in
     let shape : spliced ss i (i + 1) (spelling text ∷ []) ≡ set ss i (spelling text) =
     ap (λ (k : ℕ). take i ss ++ (spelling text ∷ drop k ss)) next ∙ sym (set_split ss i (spelling text) inside) in
@@ -179,7 +179,7 @@ pub taken_out : (old inner new : List ℕ) (i j count : ℕ) → IsPack old → 
     → length inner < 2 ^ 32 → count < 65536 → count ≡ fewer (told old) (j - i) → IsEdited new (remove_range (spellings_of old) i j) (fewer (told old) (j - i))
 taken_out old inner new i j count p order inside cut_as put_as small room e =
     let ss = spellings_of old in
-    let all : j ≤ length ss = omega (arith, inside, length-texts old) in
+    let all : j ≤ length ss = omega (arith, inside, length_texts old) in
     let left : length (remove_range ss i j) + (j - i) ≡ length ss =
     omega (arith, order, all, length-append (take i ss) (drop j ss), length-take-le i ss (omega arith), length-drop j ss) in
     subst (λ (k : ℕ). IsEdited new (remove_range ss i j) k) e
@@ -246,9 +246,9 @@ pub length-put : (old inner text : List ℕ) (at : ℕ) → inner ≡ take at ol
 length-put old inner text at e h = omega (arith, length_put_is old inner text at e, h)
 
 -- and out of which another was taken
-pub length-exchanged : (old inner text : List ℕ) (at size : ℕ) → inner ≡ take at old ++ (entry text ++ drop (at + size) old) → length old + length (entry text) < 2 ^ 32
+pub length_exchanged : (old inner text : List ℕ) (at size : ℕ) → inner ≡ take at old ++ (entry text ++ drop (at + size) old) → length old + length (entry text) < 2 ^ 32
     → at + size ≤ length old → length inner < 2 ^ 32
-length-exchanged old inner text at size e h inside =
+length_exchanged old inner text at size e h inside =
     omega (
       arith,
       ap length e,

@@ -34,18 +34,18 @@ one LongText b more = omega arith
 one (Signed n) b more = omega arith
 one NoEncoding b more = omega arith
 
-pub needed-pos : (s : List ℕ) → 1 ≤ needed s
+pub needed_pos : (s : List ℕ) → 1 ≤ needed s
 unfolding needed
-needed-pos [] = omega arith
-needed-pos (b ∷ more) = one (encoding_of b) b more
+needed_pos [] = omega arith
+needed_pos (b ∷ more) = one (encoding_of b) b more
 
-pub spelling-pos : (s : List ℕ) → IsSpelling s → 1 ≤ length s
-spelling-pos s own = let p = needed-pos s in omega (arith, p, own)
+pub spelling_pos : (s : List ℕ) → IsSpelling s → 1 ≤ length s
+spelling_pos s own = let p = needed_pos s in omega (arith, p, own)
 
-pub needed-append : (s rest : List ℕ) → IsSpelling s → needed (s ++ rest) ≡ length s
+pub needed_append : (s rest : List ℕ) → IsSpelling s → needed (s ++ rest) ≡ length s
 unfolding needed
-needed-append [] rest own = absurd (omega (arith, own))
-needed-append (b ∷ more) rest own =
+needed_append [] rest own = absurd (omega (arith, own))
+needed_append (b ∷ more) rest own =
     let h : needed_by (encoding_of b) b more ≤ length more + 1 = omega (arith, own) in
     behind (encoding_of b) b more rest h ∙ sym own
 
@@ -53,10 +53,10 @@ at_suc : (b : ℕ) (more : List ℕ) (n : ℕ) → 1 ≤ n → take n (b ∷ mor
 at_suc b more zero h = absurd (omega arith)
 at_suc b more (suc n) h = let e : suc n - 1 ≡ n = omega arith in rw e refl
 
-pub spelling-take : (w : List ℕ) → needed w ≤ length w → IsSpelling (take (needed w) w)
+pub spelling_take : (w : List ℕ) → needed w ≤ length w → IsSpelling (take (needed w) w)
 unfolding needed
-spelling-take [] h = absurd (omega arith)
-spelling-take (b ∷ more) h =
+spelling_take [] h = absurd (omega arith)
+spelling_take (b ∷ more) h =
     let n : ℕ = needed_by (encoding_of b) b more in
     let p : 1 ≤ n = one (encoding_of b) b more in
     let shape : take n (b ∷ more) ≡ b ∷ take (n - 1) more = at_suc b more n p in
@@ -70,7 +70,7 @@ pub split_parts : (rest a b : List ℕ) (n : ℕ) → 1 ≤ length rest → n �
 split_parts rest a b n some e h front back =
     let whole : rest ≡ get_or rest 0 0 ∷ take (length rest - 1) (drop 1 rest) = first_rest rest 0 some in
     let same : n ≡ needed rest = e ∙ sym (ap needed whole) in
-    let own : IsSpelling (take (needed rest) rest) = spelling-take rest (omega arith) in (
+    let own : IsSpelling (take (needed rest) rest) = spelling_take rest (omega arith) in (
       sym (ap (λ (x : List ℕ). x ++ b) front ∙ ap (λ (x : List ℕ). take n rest ++ x) back ∙ take-append-drop n rest),
       subst (λ (x : List ℕ). IsSpelling x) (ap (λ (k : ℕ). take k rest) (sym same) ∙ sym front) own,
     )

@@ -18,19 +18,19 @@ use Rattle.pack_pairs.proofs.Lists.{no_pair}
 abbrev pub tied : List ℕ → List ℕ → Bool
 tied q k = eq_by_cmp (slice_cmp nat_cmp) q k
 
-pub tied-true : (q k : List ℕ) → tied q k ≡ true → q ≡ k
-tied-true q k h = slice_cmp-IsAntisymmetric nat_cmp-IsAntisymmetric q k (equal (slice_cmp nat_cmp q k) h)
+pub tied_true : (q k : List ℕ) → tied q k ≡ true → q ≡ k
+tied_true q k h = slice_cmp-IsAntisymmetric nat_cmp-IsAntisymmetric q k (equal (slice_cmp nat_cmp q k) h)
   where
     equal : (o : Ordering) → is_eq o ≡ true → o ≡ Equal
     equal Less h = cc
     equal Equal h = refl
     equal Greater h = cc
 
-pub tied-same : (q k : List ℕ) → q ≡ k → tied q k ≡ true
-tied-same q k is = ap (tied q) (sym is) ∙ (eq_by_cmp_equiv nat_list_cmp_total).refl q
+pub tied_same : (q k : List ℕ) → q ≡ k → tied q k ≡ true
+tied_same q k is = ap (tied q) (sym is) ∙ (eq_by_cmp_equiv nat_list_cmp_total).refl q
 
-pub tied-other : (q k : List ℕ) → (q ≡ k → ⊥) → tied q k ≡ false
-tied-other q k h = elim (cases_Bool (tied q k)) [ inl t ↦ absurd (h (tied-true q k t)) | inr f ↦ f ]
+pub tied_other_in_maps : (q k : List ℕ) → (q ≡ k → ⊥) → tied q k ≡ false
+tied_other_in_maps q k h = elim (cases_Bool (tied q k)) [ inl t ↦ absurd (h (tied_true q k t)) | inr f ↦ f ]
 
 two_ways : (b : Bool) → b ≡ true → b ≡ false → ⊥
 two_ways b h k = cc
@@ -61,7 +61,7 @@ none_append q (p ∷ rest) ys h k = let parts = none_parts q p rest h in cond-fa
 pub none_more : (q : List ℕ) (list : List Pair) (i : ℕ) → i < length list → second_of q (take i list) ≡ None → ((get_or list i no_pair).0 ≡ q → ⊥) → second_of q (take (i + 1) list) ≡ None
 none_more q list i h out other =
     ap (second_of q) (take_more list i no_pair h)
-    ∙ none_append q (take i list) (get_or list i no_pair ∷ []) out (cond-false _ _ _ (tied-other q (get_or list i no_pair).0 (λ same. other (sym same))))
+    ∙ none_append q (take i list) (get_or list i no_pair ∷ []) out (cond-false _ _ _ (tied_other_in_maps q (get_or list i no_pair).0 (λ same. other (sym same))))
 
 -- it stands at the index, and not before
 pub first_here : (q : List ℕ) (list : List Pair) (i : ℕ) → i < length list → second_of q (take i list) ≡ None → (get_or list i no_pair).0 ≡ q → IsFirst q list i
@@ -69,7 +69,7 @@ first_here q [] i h out is = absurd (omega (arith, h))
 first_here q (p ∷ rest) zero h out is = is
 first_here q (p ∷ rest) (suc i) h out is =
     let parts = none_parts q p (take i rest) out in
-    ((λ same. two_ways (tied q p.0) (tied-same q p.0 (sym same)) parts.0), first_here q rest i (omega (arith, h)) parts.1 is)
+    ((λ same. two_ways (tied q p.0) (tied_same q p.0 (sym same)) parts.0), first_here q rest i (omega (arith, h)) parts.1 is)
 
 pub first_inside : (q : List ℕ) (list : List Pair) (i : ℕ) → IsFirst q list i → i < length list
 first_inside q [] i h = absurd h
@@ -78,8 +78,8 @@ first_inside q (p ∷ rest) (suc i) h = omega (arith, first_inside q rest i h.1)
 
 pub first_second : (q : List ℕ) (list : List Pair) (i : ℕ) → IsFirst q list i → second_of q list ≡ Some (get_or list i no_pair).1
 first_second q [] i h = absurd h
-first_second q (p ∷ rest) zero h = cond-true _ _ _ (tied-same q p.0 (sym h))
-first_second q (p ∷ rest) (suc i) h = cond-false _ _ _ (tied-other q p.0 (λ same. h.0 (sym same))) ∙ first_second q rest i h.1
+first_second q (p ∷ rest) zero h = cond-true _ _ _ (tied_same q p.0 (sym h))
+first_second q (p ∷ rest) (suc i) h = cond-false _ _ _ (tied_other_in_maps q p.0 (λ same. h.0 (sym same))) ∙ first_second q rest i h.1
 
 -- ---- a pair more
 
@@ -88,7 +88,7 @@ find_last q k v [] h = refl
 find_last q k v (p ∷ rest) h =
     let parts = none_parts k p rest h in
     ap (cond (tied q p.0) (Some p.1)) (find_last q k v rest parts.1) ∙ elim (cases_Bool (tied q k)) [
-      | inl t ↦ (let out : tied q p.0 ≡ false = ap (λ x. tied x p.0) (tied-true q k t) ∙ parts.0 in cond-false _ _ _ out ∙ cond-true _ _ _ t ∙ sym (cond-true _ _ _ t))
+      | inl t ↦ (let out : tied q p.0 ≡ false = ap (λ x. tied x p.0) (tied_true q k t) ∙ parts.0 in cond-false _ _ _ out ∙ cond-true _ _ _ t ∙ sym (cond-true _ _ _ t))
       | inr f ↦ ap (cond (tied q p.0) (Some p.1)) (cond-false _ _ _ f) ∙ sym (cond-false _ _ _ f)
     ]
 
@@ -101,7 +101,7 @@ pub once_last : (list : List Pair) (k v : List ℕ) → IsOnce list → second_o
 once_last [] k v once h = (refl, tt)
 once_last (p ∷ rest) k v once h =
     let parts = none_parts k p rest h in
-    (none_append p.0 rest ((k, v) ∷ []) once.0 (cond-false _ _ _ (tied-other p.0 k (λ same. two_ways (tied k p.0) (tied-same k p.0 (sym same)) parts.0))), once_last rest k v once.1 parts.1)
+    (none_append p.0 rest ((k, v) ∷ []) once.0 (cond-false _ _ _ (tied_other_in_maps p.0 k (λ same. two_ways (tied k p.0) (tied_same k p.0 (sym same)) parts.0))), once_last rest k v once.1 parts.1)
 
 -- ---- another second
 
@@ -112,7 +112,7 @@ find_seconded q k v (p ∷ rest) zero h = ap (λ x. cond (tied q x) (Some v) (se
   | inr f ↦ cond-false _ _ _ f ∙ sym (cond-false _ _ _ f ∙ ap (λ x. cond (tied q x) (Some p.1) (second_of q rest)) h ∙ cond-false _ _ _ f)
 ]
 find_seconded q k v (p ∷ rest) (suc i) h = ap (cond (tied q p.0) (Some p.1)) (find_seconded q k v rest i h.1) ∙ elim (cases_Bool (tied q k)) [
-  | inl t ↦ (let out : tied q p.0 ≡ false = tied-other q p.0 (λ same. h.0 (sym same ∙ tied-true q k t)) in cond-false _ _ _ out ∙ cond-true _ _ _ t ∙ sym (cond-true _ _ _ t))
+  | inl t ↦ (let out : tied q p.0 ≡ false = tied_other_in_maps q p.0 (λ same. h.0 (sym same ∙ tied_true q k t)) in cond-false _ _ _ out ∙ cond-true _ _ _ t ∙ sym (cond-true _ _ _ t))
   | inr f ↦ ap (cond (tied q p.0) (Some p.1)) (cond-false _ _ _ f) ∙ sym (cond-false _ _ _ f)
 ]
 
@@ -148,11 +148,11 @@ once_removed (p ∷ rest) (suc i) once = (none_removed p.0 rest i once.0, once_r
 find_removed : (q k : List ℕ) (list : List Pair) (i : ℕ) → IsOnce list → IsFirst k list i → second_of q (removed list i) ≡ cond (tied q k) None (second_of q list)
 find_removed q k [] i once h = absurd h
 find_removed q k (p ∷ rest) zero once h = elim (cases_Bool (tied q k)) [
-  | inl t ↦ ap (λ x. second_of x rest) (tied-true q k t ∙ sym h) ∙ once.0 ∙ sym (cond-true _ _ _ t)
+  | inl t ↦ ap (λ x. second_of x rest) (tied_true q k t ∙ sym h) ∙ once.0 ∙ sym (cond-true _ _ _ t)
   | inr f ↦ sym (cond-false _ _ _ f ∙ ap (λ x. cond (tied q x) (Some p.1) (second_of q rest)) h ∙ cond-false _ _ _ f)
 ]
 find_removed q k (p ∷ rest) (suc i) once h = ap (cond (tied q p.0) (Some p.1)) (find_removed q k rest i once.1 h.1) ∙ elim (cases_Bool (tied q k)) [
-  | inl t ↦ (let out : tied q p.0 ≡ false = tied-other q p.0 (λ same. h.0 (sym same ∙ tied-true q k t)) in cond-false _ _ _ out ∙ cond-true _ _ _ t ∙ sym (cond-true _ _ _ t))
+  | inl t ↦ (let out : tied q p.0 ≡ false = tied_other_in_maps q p.0 (λ same. h.0 (sym same ∙ tied_true q k t)) in cond-false _ _ _ out ∙ cond-true _ _ _ t ∙ sym (cond-true _ _ _ t))
   | inr f ↦ ap (cond (tied q p.0) (Some p.1)) (cond-false _ _ _ f) ∙ sym (cond-false _ _ _ f)
 ]
 
@@ -178,7 +178,7 @@ once_before (p ∷ rest) (suc i) once h =
     elim (cases_Bool (tied x p.0)) [
       | inl t ↦ absurd
           (some_none (second_of p.0 rest) (get_or rest i no_pair).1
-          (ap (λ k. second_of k rest) (sym (tied-true x p.0 t)) ∙ first_second x rest i (first_here x rest i here (once_before rest i once.1 here) refl)) once.0)
+          (ap (λ k. second_of k rest) (sym (tied_true x p.0 t)) ∙ first_second x rest i (first_here x rest i here (once_before rest i once.1 here) refl)) once.0)
       | inr f ↦ cond-false _ _ _ f ∙ once_before rest i once.1 here
     ]
 

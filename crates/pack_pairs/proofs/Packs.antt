@@ -11,7 +11,7 @@ use Rattle.listpack.specs.Writing.{spelling, spelling_by, number_spelling, text_
 use Rattle.listpack.specs.Edits.{IsEdited}
 use Rattle.listpack.proofs.Writings.{number_cases, spelling_as}
 use Rattle.quicklist.specs.Nodes.{pack_len}
-use Rattle.quicklist.proofs.Written.{written_len, insert-map, remove_range-map, set-map, pack_len-insert}
+use Rattle.quicklist.proofs.Written.{written_len, insert_map, remove_range_map, set_map, pack_len_insert}
 use Rattle.pack_pairs.specs.Pairs.{Pair, IsPairPack, IsPairAt, FitsPair, flat, paired, pairs, seconded, longest}
 use Rattle.pack_pairs.proofs.Lists.{no_pair, paired_flat, length_flat, first_is, second_is, flat_inserted, flat_removed, flat_seconded}
 
@@ -98,10 +98,10 @@ pack_of list bytes p written is =
 module _ (old new : List ℕ) (written : spellings_of old ≡ map spelling (texts old)) (i : ℕ) (text : List ℕ) (count : ℕ)
     (e : IsEdited new (inserted (spellings_of old) i (spelling text)) count) (is : texts new ≡ inserted (texts old) i text) where
   pub put_written : spellings_of new ≡ map spelling (texts new)
-  put_written = e.entries ∙ ap (λ ss. inserted ss i (spelling text)) written ∙ insert-map (texts old) i text ∙ ap (map spelling) (sym is)
+  put_written = e.entries ∙ ap (λ ss. inserted ss i (spelling text)) written ∙ insert_map (texts old) i text ∙ ap (map spelling) (sym is)
 
   pub put_len : IsPack old → length new ≡ length old + length (entry text)
-  put_len p = omega (arith, written_len new e.pack put_written, ap pack_len is, pack_len-insert (texts old) i text, written_len old p written)
+  put_len p = omega (arith, written_len new e.pack put_written, ap pack_len is, pack_len_insert (texts old) i text, written_len old p written)
 
 pub put_index : (old new : List ℕ) (i : ℕ) (text : List ℕ) → texts new ≡ inserted (texts old) i text → i ≤ length (texts old) → i ≤ length (texts new)
 put_index old new i text is h = omega (arith, ap length is, length-append (take i (texts old)) (text ∷ drop i (texts old)), length-take-le i (texts old) h)
@@ -120,12 +120,12 @@ pub pair_set : (old new : List ℕ) (i : ℕ) (second : List ℕ) (a : ℕ) → 
     → IsPairPack new × (pairs new ≡ seconded (pairs old) i second)
 pair_set old new i second a p e is =
     pack_of (seconded (pairs old) i second) new e.pack
-    (e.entries ∙ ap (λ ss. set ss (2 * i + 1) (spelling second)) p.written ∙ set-map (texts old) (2 * i + 1) second ∙ ap (map spelling) (sym is))
+    (e.entries ∙ ap (λ ss. set ss (2 * i + 1) (spelling second)) p.written ∙ set_map (texts old) (2 * i + 1) second ∙ ap (map spelling) (sym is))
     (is ∙ ap (λ xs. set xs (2 * i + 1) second) p.whole ∙ flat_seconded (pairs old) i second)
 
 pub pair_out : (old new : List ℕ) (i a : ℕ) → IsPairPack old → IsEdited new (range_removed (spellings_of old) (2 * i) (2 * i + 2)) a → texts new ≡ range_removed (texts old) (2 * i) (2 * i + 2)
     → IsPairPack new × (pairs new ≡ removed (pairs old) i)
 pair_out old new i a p e is =
     pack_of (removed (pairs old) i) new e.pack
-    (e.entries ∙ ap (λ ss. range_removed ss (2 * i) (2 * i + 2)) p.written ∙ remove_range-map (texts old) (2 * i) (2 * i + 2) ∙ ap (map spelling) (sym is))
+    (e.entries ∙ ap (λ ss. range_removed ss (2 * i) (2 * i + 2)) p.written ∙ remove_range_map (texts old) (2 * i) (2 * i + 2) ∙ ap (map spelling) (sym is))
     (is ∙ ap (λ xs. range_removed xs (2 * i) (2 * i + 2)) p.whole ∙ flat_removed (pairs old) i)

@@ -8,7 +8,7 @@ use Rattle.std.specs.FinMap.{FinMap, empty, get, remove, get-empty, get-remove, 
 use Rattle.std.proofs.lemmas.Bool.{cond-true, cond-false, cases_Bool}
 use Rattle.std.proofs.lemmas.Slice.Eq.{bytes_eq-Decides}
 use Rattle.blocks.proofs.Sums.{count_cons}
-use Rattle.set_object.proofs.Sets.{tied, tied-same, tied-other, two_ways}
+use Rattle.set_object.proofs.Sets.{tied, tied_same, tied_other_in_maps, two_ways}
 use Rattle.plain_model.proofs.Containing.{contains_first, contains_later, contains_cases}
 
 -- no string stands twice in the list
@@ -70,11 +70,11 @@ module _ {V : Type 0} where
   left : (keys : FinMap (slice_cmp nat_cmp) V) (x q : List ℕ) → has (remove keys x) q ≡ true → (q ≡ x → ⊥) × (has keys q ≡ true)
   left keys x q h = elim (cases_Bool (tied q x)) [
     | inl t ↦ absurd (two_ways (has (remove keys x) q) h (has_taken keys x q ∙ cond-true _ _ _ t))
-    | inr f ↦ ((λ same. two_ways (tied q x) (tied-same q x same) f), sym (has_taken keys x q ∙ cond-false _ _ _ f) ∙ h)
+    | inr f ↦ ((λ same. two_ways (tied q x) (tied_same q x same) f), sym (has_taken keys x q ∙ cond-false _ _ _ f) ∙ h)
   ]
 
   stays : (keys : FinMap (slice_cmp nat_cmp) V) (x q : List ℕ) → (q ≡ x → ⊥) → has keys q ≡ true → has (remove keys x) q ≡ true
-  stays keys x q differ h = has_taken keys x q ∙ cond-false _ _ _ (tied-other q x differ) ∙ h
+  stays keys x q differ h = has_taken keys x q ∙ cond-false _ _ _ (tied_other_in_maps q x differ) ∙ h
 
   -- a list of keys, none of which stands twice, is at most as long as there are keys
   pub keys_at_least : (keys : FinMap (slice_cmp nat_cmp) V) (list : List (List ℕ)) → AreOnce list → ((x : List ℕ) → Contains list x → has keys x ≡ true) → length list ≤ len keys

@@ -7,8 +7,8 @@ use Rattle.std.specs.List.{AllByRecursion, Contains}
 use Rattle.std.specs.Fmt.{decimal}
 use Rattle.std.proofs.lemmas.Fmt.{decimal_injective}
 use Rattle.rev_cursor.specs.Place.{place, end_of, reversed}
-use Rattle.rev_cursor.proofs.Walks.{end_of-more, end_of-zero}
-use Rattle.rev_cursor.proofs.Reversal.{reversed-below}
+use Rattle.rev_cursor.proofs.Walks.{end_of_more_in_walks, end_of_zero}
+use Rattle.rev_cursor.proofs.Reversal.{reversed_below}
 use Rattle.plain_world.specs.Worlds.{World, Value, Entry, live, look}
 use Rattle.plain_world.specs.declared.refusal.Refusal.{Refusal}
 use Rattle.plain_world.specs.declared.refusal.Refusal.TheVariants.{WrongType}
@@ -216,12 +216,12 @@ all_reported seed sought _ _ _ each (between cursor turn turns pages chain) elem
 all_reported seed sought _ _ _ each (more cursor next turn turns page rest reports on chain) element stayed from =
     elim (listed_or_behind seed turn.seen sought cursor next page element (each.0 cursor next page reports) stayed.0 from) [
       | inl listed ↦ reported_first page rest element listed
-      | inr behind ↦ passed_on page (all_reported seed sought next turns rest each.1 chain element stayed.1 (subst (λ (n : ℕ). n ≤ place_of seed element) (end_of-more next on) behind))
+      | inr behind ↦ passed_on page (all_reported seed sought next turns rest each.1 chain element stayed.1 (subst (λ (n : ℕ). n ≤ place_of seed element) (end_of_more_in_walks next on) behind))
     ]
 all_reported seed sought _ _ _ each (last cursor turn page reports) element stayed from =
     elim (listed_or_behind seed turn.seen sought cursor 0 page element (each.0 cursor 0 page reports) stayed.0 from) [
       | inl listed ↦ reported_first page [] element listed
-      | inr behind ↦ absurd (let below = reversed-below 64 (hashed seed element) in let end = end_of-zero in omega arith)
+      | inr behind ↦ absurd (let below = reversed_below 64 (hashed seed element) in let end = end_of_zero in omega arith)
     ]
 
 -- what was absent is reported by no page

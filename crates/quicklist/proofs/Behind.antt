@@ -13,7 +13,7 @@ use Rattle.quicklist.specs.Nodes.{IsPacked, IsHeld, pack_len, container_of, byte
 use Rattle.quicklist.specs.Chain.{Chain, IsFormed, IsQuick, elements, respelled}
 use Rattle.quicklist.proofs.Elements.{elements_cut, held_at, packed_list}
 use Rattle.quicklist.proofs.Rising.{respelled_alone}
-use Rattle.quicklist.proofs.Written.{packed_len, pack_len-append}
+use Rattle.quicklist.proofs.Written.{packed_len, pack_len_append}
 
 -- the first node of a list of any form may be a packed one
 pub formed_first : (f : Form) (cs : List Container) → cs ≡ [] → IsFormed f cs → IsFormed f (cs ++ Packed ∷ [])
@@ -48,7 +48,7 @@ joined_long m q node first bytes s form h is there p long =
     let list : elements m q ≡ texts first =
     elements_cut m q.nodes 0 h ∙ respelled_alone m q.nodes 0 (node_list m (node_at q.nodes 0)) h formed ∙ ap (node_list m) (sym is) ∙ packed_list m node first packed there in
     let one : IsPacked first = subst (λ (c : Container). IsHeld c first) packed (held_at m q.nodes 0 node first s.chain.each h is there) in
-    omega (arith, long, packed_len first one, packed_len bytes p, pack_len-append (texts first) (texts bytes), ap (λ (xs : List (List ℕ)). pack_len (xs ++ texts bytes)) list)
+    omega (arith, long, packed_len first one, packed_len bytes p, pack_len_append (texts first) (texts bytes), ap (λ (xs : List (List ℕ)). pack_len (xs ++ texts bytes)) list)
 
 -- what stands in the place of no node behind all others stands behind them
 pub behind_all : (m : Blocks) (q : Chain) (list : List (List ℕ)) (k : ℕ) → k ≡ length q.nodes → elements m q ++ list ≡ respelled m q k list (k + 0)

@@ -8,7 +8,7 @@ use Rattle.quicklist.specs.declared.reach.Reach.{Reach}
 use Rattle.quicklist.specs.Nodes.{IsPacked, pack_len}
 use Rattle.quicklist.specs.Equal.{goes, cleared}
 use Rattle.quicklist.proofs.Going.{unless, cleared_more}
-use Rattle.quicklist.proofs.Written.{packed_len, pack_len-append, empty_is}
+use Rattle.quicklist.proofs.Written.{packed_len, pack_len_append, empty_is}
 
 -- the elements before the one at an index are written, but those that go, and all others still fit
 pub record IsSoFar (r : Reach) (i : ℕ) (xs : List (List ℕ)) (k : ℕ) (left : List ℕ) : Type 0 where
@@ -22,7 +22,7 @@ none_so_far r i xs left e h =
 
 rest_len : (xs : List (List ℕ)) (k : ℕ) (x : List ℕ) → k < length xs → x ≡ get_or xs k [] → pack_len (drop k xs) + 7 ≡ pack_len (x ∷ []) + pack_len (drop (k + 1) xs)
 rest_len xs k x h is =
-    omega (arith, ap pack_len (drop_more xs k [] h ∙ ap (λ (y : List ℕ). y ∷ drop (k + 1) xs) (sym is)), pack_len-append (x ∷ []) (drop (k + 1) xs))
+    omega (arith, ap pack_len (drop_more xs k [] h ∙ ap (λ (y : List ℕ). y ∷ drop (k + 1) xs) (sym is)), pack_len_append (x ∷ []) (drop (k + 1) xs))
 
 pub so_far_room : (r : Reach) (i : ℕ) (xs : List (List ℕ)) (k : ℕ) (left x : List ℕ) → k < length xs → x ≡ get_or xs k [] → IsSoFar r i xs k left → length left + pack_len (x ∷ []) ≤ 8199
 so_far_room r i xs k left x h is s = omega (arith, rest_len xs k x h is, packed_len left s.packed, s.room)
@@ -40,7 +40,7 @@ pub so_far_kept : (r : Reach) (i : ℕ) (xs : List (List ℕ)) (k : ℕ) (left n
 so_far_kept r i xs k left new x h is stays s packed list = record {
   packed = packed;
   list = list ∙ ap (λ (ys : List (List ℕ)). ys ++ x ∷ []) s.list ∙ sym (cleared_more r i xs k x h is ∙ ap (λ (b : Bool). cleared r i (take k xs) ++ unless b x) stays);
-  room = omega (arith, rest_len xs k x h is, s.room, ap pack_len list, pack_len-append (texts left) (x ∷ []));
+  room = omega (arith, rest_len xs k x h is, s.room, ap pack_len list, pack_len_append (texts left) (x ∷ []));
 }
 
 pub so_far_all : (r : Reach) (i : ℕ) (xs : List (List ℕ)) (k : ℕ) (left : List ℕ) → length xs ≤ k → IsSoFar r i xs k left → texts left ≡ cleared r i xs

@@ -32,11 +32,11 @@ unless_front : (b : Bool) (x : List ℕ) (rest more : List (List ℕ)) → (if b
 unless_front true x rest more = refl
 unless_front false x rest more = refl
 
-pub cleared-append : (r : Reach) (i : ℕ) (xs ys : List (List ℕ)) → cleared r i (xs ++ ys) ≡ cleared r i xs ++ cleared r (i + length xs) ys
-cleared-append r i [] ys = let e : i ≡ i + length {A = List ℕ} [] = omega arith in ap (λ (k : ℕ). cleared r k ys) e
-cleared-append r i (x ∷ xs) ys =
+pub cleared_append : (r : Reach) (i : ℕ) (xs ys : List (List ℕ)) → cleared r i (xs ++ ys) ≡ cleared r i xs ++ cleared r (i + length xs) ys
+cleared_append r i [] ys = let e : i ≡ i + length {A = List ℕ} [] = omega arith in ap (λ (k : ℕ). cleared r k ys) e
+cleared_append r i (x ∷ xs) ys =
     let e : suc i + length xs ≡ i + length (x ∷ xs) = omega arith in
-    ap (λ (zs : List (List ℕ)). if goes r i x then zs else x ∷ zs) (cleared-append r (suc i) xs ys ∙ ap (λ (k : ℕ). cleared r (suc i) xs ++ cleared r k ys) e)
+    ap (λ (zs : List (List ℕ)). if goes r i x then zs else x ∷ zs) (cleared_append r (suc i) xs ys ∙ ap (λ (k : ℕ). cleared r (suc i) xs ++ cleared r k ys) e)
     ∙ unless_front (goes r i x) x (cleared r (suc i) xs) (cleared r (i + length (x ∷ xs)) ys)
 
 -- one element more
@@ -44,7 +44,7 @@ pub cleared_more : (r : Reach) (i : ℕ) (xs : List (List ℕ)) (k : ℕ) (x : L
     → cleared r i (take (k + 1) xs) ≡ cleared r i (take k xs) ++ unless (goes r (i + k) x) x
 cleared_more r i xs k x h is =
     let size : length (take k xs) ≡ k = length-take-le k xs (omega (arith, h)) in
-    ap (cleared r i) (take_more xs k [] h ∙ ap (λ (y : List ℕ). take k xs ++ y ∷ []) (sym is)) ∙ cleared-append r i (take k xs) (x ∷ [])
+    ap (cleared r i) (take_more xs k [] h ∙ ap (λ (y : List ℕ). take k xs ++ y ∷ []) (sym is)) ∙ cleared_append r i (take k xs) (x ∷ [])
     ∙ ap (λ (n : ℕ). cleared r i (take k xs) ++ cleared r (i + n) (x ∷ [])) size
 
 -- how many go of one element more
@@ -117,14 +117,14 @@ cleared_within r i (x ∷ xs) h l =
 pub cleared_front : (r : Reach) (xs : List (List ℕ)) → r.from ≡ 0 → r.to ≤ length xs → cleared r 0 xs ≡ others r.text.now (take r.to xs) ++ drop r.to xs
 cleared_front r xs from to =
     let size : length (take r.to xs) ≡ r.to = length-take-le r.to xs to in
-    ap (cleared r 0) (sym (take-append-drop r.to xs)) ∙ cleared-append r 0 (take r.to xs) (drop r.to xs)
+    ap (cleared r 0) (sym (take-append-drop r.to xs)) ∙ cleared_append r 0 (take r.to xs) (drop r.to xs)
     ∙ ap (λ (zs : List (List ℕ)). zs ++ cleared r (0 + length (take r.to xs)) (drop r.to xs)) (cleared_within r 0 (take r.to xs) (omega (arith, from)) (omega (arith, size)))
     ∙ ap (λ (zs : List (List ℕ)). others r.text.now (take r.to xs) ++ zs) (cleared_behind r (0 + length (take r.to xs)) (drop r.to xs) (omega (arith, size)))
 
 pub cleared_back : (r : Reach) (xs : List (List ℕ)) → r.from ≤ length xs → r.to ≡ length xs → cleared r 0 xs ≡ take r.from xs ++ others r.text.now (drop r.from xs)
 cleared_back r xs from to =
     let size : length (take r.from xs) ≡ r.from = length-take-le r.from xs from in
-    ap (cleared r 0) (sym (take-append-drop r.from xs)) ∙ cleared-append r 0 (take r.from xs) (drop r.from xs)
+    ap (cleared r 0) (sym (take-append-drop r.from xs)) ∙ cleared_append r 0 (take r.from xs) (drop r.from xs)
     ∙ ap (λ (zs : List (List ℕ)). zs ++ cleared r (0 + length (take r.from xs)) (drop r.from xs)) (cleared_before r 0 (take r.from xs) (omega (arith, size)))
     ∙ ap (λ (zs : List (List ℕ)). take r.from xs ++ zs) (cleared_within r (0 + length (take r.from xs)) (drop r.from xs) (omega (arith, size)) (omega (arith, size, to, length-drop r.from xs)))
 

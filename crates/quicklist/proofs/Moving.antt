@@ -9,37 +9,37 @@ use Rattle.std.proofs.lemmas.List.Concat.{flat_map-append}
 use Rattle.std.proofs.lemmas.List.Elements.{All-cons, All-append, All-take, All-drop}
 use Rattle.blocks.specs.declared.BlockRef.{BlockRef}
 use Rattle.blocks.specs.Blocks.{Blocks, times, IsIn, Changes, Owned}
-use Rattle.blocks.proofs.Change.{live-once, Changes-then, Changes-owned, Changes-beside, Owned-others}
+use Rattle.blocks.proofs.Change.{live_once, changes_then, changes_owned, changes_beside, owned_others}
 use Rattle.quicklist.specs.declared.node.Container.{Container}
 use Rattle.quicklist.specs.declared.node.Node.{Node}
 use Rattle.quicklist.specs.declared.piece.Piece.{Piece}
 use Rattle.quicklist.specs.Nodes.{IsNode, IsChain, IsReadable, IsPiece, IsPlacedOf, filled, Placed, held, IsHeld, node_at, node_list, bytes_of, piece_list, refs_of, elements_of}
 use Rattle.quicklist.specs.Nodes.{container_of, container_of_piece}
 use Rattle.quicklist.specs.Chain.{IsCopied, IsSettled, IsPassed, IsOutside, ref_at, passed_to}
-use Rattle.quicklist.proofs.Chains.{Same, node_read, readable_as, times-refs, elements-same, each-same, one_placed, cut_at, one_self, all_same, length-placed}
+use Rattle.quicklist.proofs.Chains.{Same, node_read, readable_as, times_refs, elements_same, each_same, one_placed, cut_at, one_self, all_same, length-placed}
 
 -- what a copy of a node is placed of
 abbrev pub piece_for : Blocks → Node → Piece
 piece_for m node = record { container = node.container; count = node.count; bytes = record { ref_ptr = (0, 0); now = bytes_of m node } }
 
-pub pieces_for-list : (m : Blocks) (nodes : List Node) → flat_map piece_list (map (piece_for m) nodes) ≡ elements_of m nodes
-pieces_for-list m [] = refl
-pieces_for-list m (node ∷ nodes) = ap (λ (xs : List (List ℕ)). node_list m node ++ xs) (pieces_for-list m nodes)
+pub pieces_for_list : (m : Blocks) (nodes : List Node) → flat_map piece_list (map (piece_for m) nodes) ≡ elements_of m nodes
+pieces_for_list m [] = refl
+pieces_for_list m (node ∷ nodes) = ap (λ (xs : List (List ℕ)). node_list m node ++ xs) (pieces_for_list m nodes)
 
-pub pieces_for-containers : (m : Blocks) (nodes : List Node) → map container_of_piece (map (piece_for m) nodes) ≡ map container_of nodes
-pieces_for-containers m [] = refl
-pieces_for-containers m (node ∷ nodes) = ap (λ (xs : List Container). node.container ∷ xs) (pieces_for-containers m nodes)
+pub pieces_for_containers : (m : Blocks) (nodes : List Node) → map container_of_piece (map (piece_for m) nodes) ≡ map container_of nodes
+pieces_for_containers m [] = refl
+pieces_for_containers m (node ∷ nodes) = ap (λ (xs : List Container). node.container ∷ xs) (pieces_for_containers m nodes)
 
-pub piece_for-is : (m : Blocks) (node : Node) → IsNode m node → IsPiece (piece_for m node)
-piece_for-is m node is = record { is_held = is.is_held; counted = is.counted; some = is.some }
+pub piece_for_is : (m : Blocks) (node : Node) → IsNode m node → IsPiece (piece_for m node)
+piece_for_is m node is = record { is_held = is.is_held; counted = is.counted; some = is.some }
 
 -- the blocks that a chain owned stay where others are placed
 pub placed_same : (m mid : Blocks) (nodes fresh : List Node) (pieces : List Piece) → Owned (refs_of nodes) m → Placed m mid pieces fresh → Same m mid nodes
-placed_same m mid nodes fresh pieces own p r isin = Owned-others m mid [] (refs_of fresh) (refs_of nodes) own p.changes r isin refl
+placed_same m mid nodes fresh pieces own p r isin = owned_others m mid [] (refs_of fresh) (refs_of nodes) own p.changes r isin refl
 
 pub in_refs : (nodes : List Node) (k : ℕ) (node : Node) → k < length nodes → node ≡ get_or nodes k node → IsIn node.at (refs_of nodes)
 in_refs nodes k node h is =
-    omega (arith, ap (λ (xs : List Node). times node.at (refs_of xs)) (cut_at nodes k node h is), times-refs node.at (take k nodes) (node ∷ drop (k + 1) nodes), one_self node.at)
+    omega (arith, ap (λ (xs : List Node). times node.at (refs_of xs)) (cut_at nodes k node h is), times_refs node.at (take k nodes) (node ∷ drop (k + 1) nodes), one_self node.at)
 
 -- one node more is copied
 pub one_copied : (m mid n : Blocks) (nodes fresh : List Node) (k : ℕ) (node copy : Node) → IsChain m nodes → k < length nodes → node ≡ get_or nodes k node
@@ -52,14 +52,14 @@ one_copied m mid n nodes fresh k node copy c h is p put count container =
     let all : map (piece_for m) (take (k + 1) nodes) ≡ map (piece_for m) (take k nodes) ++ piece_for m node ∷ [] = ap (map (piece_for m)) more ∙ map-append (piece_for m) (take k nodes) (node ∷ []) in
     let node_is : IsNode m node = subst (λ (x : Node). IsNode m x) (sym is) (c.each k node h) in
     subst (λ (ps : List Piece). Placed m n ps (fresh ++ copy ∷ [])) (sym all)
-    (one_placed m mid n (map (piece_for m) (take k nodes)) (piece_for m node) fresh copy p (piece_for-is m node node_is) (subst (λ (bytes : List ℕ). IsPlacedOf mid n bytes copy) same put)
+    (one_placed m mid n (map (piece_for m) (take k nodes)) (piece_for m node) fresh copy p (piece_for_is m node node_is) (subst (λ (bytes : List ℕ). IsPlacedOf mid n bytes copy) same put)
     count container)
 
 -- the block of a node that is still to be copied is live, and holds what the node counts
 pub still_live : (m mid : Blocks) (nodes fresh : List Node) (pieces : List Piece) (k : ℕ) (node : Node) → IsChain m nodes → k < length nodes → node ≡ get_or nodes k node
     → Placed m mid pieces fresh → IsReadable mid node
 still_live m mid nodes fresh pieces k node c h is p =
-    let same = Owned-others m mid [] (refs_of fresh) (refs_of nodes) c.owned p.changes node.at (in_refs nodes k node h is) refl in
+    let same = owned_others m mid [] (refs_of fresh) (refs_of nodes) c.owned p.changes node.at (in_refs nodes k node h is) refl in
     readable_as m mid node (sym same) (node_read m nodes k node h is c)
 
 -- what was copied so far is given back
@@ -67,14 +67,14 @@ pub uncopied : (m mid n : Blocks) (nodes fresh : List Node) (k : ℕ) → k ≤ 
 uncopied m mid n nodes fresh k h p ended =
     let long : length fresh ≡ k = omega (arith, length-placed m mid (map (piece_for m) (take k nodes)) fresh p, length-map (take k nodes) (piece_for m), length-take-le k nodes h) in
     let all : take k fresh ≡ fresh = take_all k fresh (omega (arith, long)) in
-    all_same m n (Changes-then m mid n [] (refs_of fresh) [] p.changes (subst (λ (xs : List Node). Changes mid n (refs_of xs) []) all ended))
+    all_same m n (changes_then m mid n [] (refs_of fresh) [] p.changes (subst (λ (xs : List Node). Changes mid n (refs_of xs) []) all ended))
 
 pub copied_is : (m n : Blocks) (nodes fresh : List Node) → Placed m n (map (piece_for m) nodes) fresh → IsCopied m n nodes fresh
 copied_is m n nodes fresh p = record {
-  chain = record { owned = Changes-owned m n [] (refs_of fresh) p.changes; each = p.each };
-  list_is = p.list ∙ pieces_for-list m nodes;
+  chain = record { owned = changes_owned m n [] (refs_of fresh) p.changes; each = p.each };
+  list_is = p.list ∙ pieces_for_list m nodes;
   changes = p.changes;
-  containers = p.containers ∙ pieces_for-containers m nodes;
+  containers = p.containers ∙ pieces_for_containers m nodes;
 }
 
 -- the block of one node moved
@@ -84,15 +84,15 @@ module _ (m n : Blocks) (front back : List Node) (node : Node) (at : BlockRef) (
   moved = record { at = at; count = node.count; container = node.container }
 
   whole : (r : BlockRef) (x : Node) → times r (refs_of (front ++ (x ∷ back))) ≡ times r (x.at ∷ []) + (times r (refs_of front) + times r (refs_of back))
-  whole r x = omega (arith, times-refs r front (x ∷ back))
+  whole r x = omega (arith, times_refs r front (x ∷ back))
 
   moved_changes : Changes m n (refs_of (front ++ (node ∷ back))) (refs_of (front ++ (moved ∷ back)))
-  moved_changes = Changes-beside m n (node.at ∷ []) (at ∷ []) (refs_of (front ++ (node ∷ back))) (refs_of (front ++ (moved ∷ back))) p own
+  moved_changes = changes_beside m n (node.at ∷ []) (at ∷ []) (refs_of (front ++ (node ∷ back))) (refs_of (front ++ (moved ∷ back))) p own
       (λ r. times r (refs_of front) + times r (refs_of back)) (λ r. whole r node) (λ r. whole r moved)
 
   stays_at : (r : BlockRef) → 0 < times r (refs_of front) + times r (refs_of back) → n r ≡ m r
   stays_at r isin =
-      Owned-others m n (node.at ∷ []) (at ∷ []) (refs_of (front ++ (node ∷ back))) own p r (omega (arith, isin, whole r node)) (omega (arith, isin, whole r node, own r, live-once m r))
+      owned_others m n (node.at ∷ []) (at ∷ []) (refs_of (front ++ (node ∷ back))) own p r (omega (arith, isin, whole r node)) (omega (arith, isin, whole r node, own r, live_once m r))
 
   same_bytes : bytes_of n moved ≡ bytes_of m node
   same_bytes = ap (λ (o : Option (List ℕ)). filled node.container (unwrap_or o [])) bytes
@@ -107,14 +107,14 @@ module _ (m n : Blocks) (front back : List Node) (node : Node) (at : BlockRef) (
       → IsSettled m n (front ++ (node ∷ back)) (front ++ (moved ∷ back)) stays
   moved_settled stays others = record {
     chain = record {
-      owned = Changes-owned m n (refs_of (front ++ (node ∷ back))) (refs_of (front ++ (moved ∷ back))) moved_changes;
-      each = All-append (IsNode n) front (moved ∷ back) (each-same m n front (λ r isin. stays_at r (omega (arith, isin))) a)
-          (All-cons (IsNode n) moved back moved_is (each-same m n back (λ r isin. stays_at r (omega (arith, isin))) b));
+      owned = changes_owned m n (refs_of (front ++ (node ∷ back))) (refs_of (front ++ (moved ∷ back))) moved_changes;
+      each = All-append (IsNode n) front (moved ∷ back) (each_same m n front (λ r isin. stays_at r (omega (arith, isin))) a)
+          (All-cons (IsNode n) moved back moved_is (each_same m n back (λ r isin. stays_at r (omega (arith, isin))) b));
     };
     list_is = flat_map-append (node_list n) front (moved ∷ back) ∙ ap (λ (xs : List (List ℕ)). xs ++ (node_list n moved ++ elements_of n back))
-        (elements-same m n front (λ r isin. stays_at r (omega (arith, isin))))
+        (elements_same m n front (λ r isin. stays_at r (omega (arith, isin))))
         ∙ ap (λ (xs : List (List ℕ)). elements_of m front ++ (xs ++ elements_of n back)) same_list
-        ∙ ap (λ (xs : List (List ℕ)). elements_of m front ++ (node_list m node ++ xs)) (elements-same m n back (λ r isin. stays_at r (omega (arith, isin))))
+        ∙ ap (λ (xs : List (List ℕ)). elements_of m front ++ (node_list m node ++ xs)) (elements_same m n back (λ r isin. stays_at r (omega (arith, isin))))
         ∙ sym (flat_map-append (node_list m) front (node ∷ back));
     changes = moved_changes;
     containers = map-append container_of front (moved ∷ back) ∙ sym (map-append container_of front (node ∷ back));
@@ -144,7 +144,7 @@ pub more_settled : (m mid n : Blocks) (nodes between new : List Node) (start k :
 more_settled m mid n nodes between new start k h p q = record {
   chain = q.chain;
   list_is = q.list_is ∙ p.list_is;
-  changes = Changes-then m mid n (refs_of nodes) (refs_of between) (refs_of new) p.changes q.changes;
+  changes = changes_then m mid n (refs_of nodes) (refs_of between) (refs_of new) p.changes q.changes;
   containers = q.containers ∙ p.containers;
   others = λ i out. q.others i (λ e. apart i out e) ∙ p.others i (wider i out);
 }

@@ -6,8 +6,8 @@ use Rattle.std.proofs.lemmas.List.Concat.{flat_map-append}
 use Rattle.std.proofs.lemmas.List.Elements.{All-cons, All-append, All-take, All-drop}
 use Rattle.blocks.specs.declared.BlockRef.{BlockRef}
 use Rattle.blocks.specs.Blocks.{Blocks, with_block, overwritten, bytes_at, times, Changes, Owned}
-use Rattle.blocks.proofs.Change.{live-once, Counts-written, Changes-counted, Changes-owned, Changes-beside, Owned-others}
-use Rattle.blocks.proofs.Written.{bytes_at-placed}
+use Rattle.blocks.proofs.Change.{live_once, counts_written, changes_counted, changes_owned, changes_beside, owned_others}
+use Rattle.blocks.proofs.Written.{bytes_at_placed}
 use Rattle.object_codec.specs.declared.form.Form.{Form}
 use Rattle.quicklist.specs.declared.node.Container.{Container}
 use Rattle.quicklist.specs.declared.node.Node.{Node}
@@ -19,41 +19,41 @@ use Rattle.quicklist.specs.Chain.{Chain, IsQuick, IsWritten, IsRisen, respelled}
 use Rattle.quicklist.proofs.Rising.{written_by, changed_by, formed_rewrite, stays_rewrite, one_piece}
 use Rattle.quicklist.proofs.Written.{packed_len}
 use Rattle.quicklist.proofs.Filling.{filled_pack}
-use Rattle.quicklist.proofs.Chains.{times-refs, elements-same, each-same, cut_at, one_self, node_live, part_one, Owned-part, node_of_piece}
+use Rattle.quicklist.proofs.Chains.{times_refs, elements_same, each_same, cut_at, one_self, node_live, part_one, owned_part, node_of_piece}
 
 -- a node in the place of another, under the same reference
 module _ (m n : Blocks) (front back : List Node) (node fresh : Node) (own : Owned (refs_of (front ++ (node ∷ back))) m) (p : Changes m n (node.at ∷ []) (fresh.at ∷ [])) where
   whole : (r : BlockRef) (x : Node) → times r (refs_of (front ++ (x ∷ back))) ≡ times r (x.at ∷ []) + (times r (refs_of front) + times r (refs_of back))
-  whole r x = omega (arith, times-refs r front (x ∷ back))
+  whole r x = omega (arith, times_refs r front (x ∷ back))
 
   pub one_changes : Changes m n (refs_of (front ++ (node ∷ back))) (refs_of (front ++ (fresh ∷ back)))
-  one_changes = Changes-beside m n (node.at ∷ []) (fresh.at ∷ []) (refs_of (front ++ (node ∷ back))) (refs_of (front ++ (fresh ∷ back))) p own
+  one_changes = changes_beside m n (node.at ∷ []) (fresh.at ∷ []) (refs_of (front ++ (node ∷ back))) (refs_of (front ++ (fresh ∷ back))) p own
       (λ r. times r (refs_of front) + times r (refs_of back)) (λ r. whole r node) (λ r. whole r fresh)
 
   stays_beside : (r : BlockRef) → 0 < times r (refs_of front) + times r (refs_of back) → n r ≡ m r
   stays_beside r isin =
-      Owned-others m n (node.at ∷ []) (fresh.at ∷ []) (refs_of (front ++ (node ∷ back))) own p r (omega (arith, isin, whole r node)) (omega (arith, isin, whole r node, own r, live-once m r))
+      owned_others m n (node.at ∷ []) (fresh.at ∷ []) (refs_of (front ++ (node ∷ back))) own p r (omega (arith, isin, whole r node)) (omega (arith, isin, whole r node, own r, live_once m r))
 
   pub one_chain : All (IsNode m) front → IsNode n fresh → All (IsNode m) back → IsChain n (front ++ (fresh ∷ back))
   one_chain a is b = record {
-    owned = Changes-owned m n (refs_of (front ++ (node ∷ back))) (refs_of (front ++ (fresh ∷ back))) one_changes;
-    each = All-append (IsNode n) front (fresh ∷ back) (each-same m n front (λ r isin. stays_beside r (omega (arith, isin))) a)
-        (All-cons (IsNode n) fresh back is (each-same m n back (λ r isin. stays_beside r (omega (arith, isin))) b));
+    owned = changes_owned m n (refs_of (front ++ (node ∷ back))) (refs_of (front ++ (fresh ∷ back))) one_changes;
+    each = All-append (IsNode n) front (fresh ∷ back) (each_same m n front (λ r isin. stays_beside r (omega (arith, isin))) a)
+        (All-cons (IsNode n) fresh back is (each_same m n back (λ r isin. stays_beside r (omega (arith, isin))) b));
   }
 
   pub one_list : elements_of n (front ++ (fresh ∷ back)) ≡ elements_of m front ++ (node_list n fresh ++ elements_of m back)
   one_list =
       flat_map-append (node_list n) front (fresh ∷ back)
-      ∙ ap (λ (xs : List (List ℕ)). xs ++ (node_list n fresh ++ elements_of n back)) (elements-same m n front (λ r isin. stays_beside r (omega (arith, isin))))
-      ∙ ap (λ (xs : List (List ℕ)). elements_of m front ++ (node_list n fresh ++ xs)) (elements-same m n back (λ r isin. stays_beside r (omega (arith, isin))))
+      ∙ ap (λ (xs : List (List ℕ)). xs ++ (node_list n fresh ++ elements_of n back)) (elements_same m n front (λ r isin. stays_beside r (omega (arith, isin))))
+      ∙ ap (λ (xs : List (List ℕ)). elements_of m front ++ (node_list n fresh ++ xs)) (elements_same m n back (λ r isin. stays_beside r (omega (arith, isin))))
 
 -- a block written over under the one reference that owned it
 written_one : (m n : Blocks) (nodes : List Node) (k : ℕ) (node : Node) (block : List ℕ) → IsChain m nodes → k < length nodes → node ≡ get_or nodes k node
     → n ≡ with_block m node.at (Some block) → Changes m n (node.at ∷ []) (node.at ∷ [])
 written_one m n nodes k node block c h is put =
-    let own : Owned (node.at ∷ []) m = subst (λ (xs : List Node). Owned (refs_of xs) m) (part_one nodes k node h is) (Owned-part m nodes k 1 c.owned) in
-    Changes-counted m n (node.at ∷ []) (node.at ∷ []) own
-    (Counts-written m n node.at block (node.at ∷ []) (node.at ∷ []) (node_live m nodes k node h is c.owned) put (omega (arith, one_self node.at)) (λ r. refl))
+    let own : Owned (node.at ∷ []) m = subst (λ (xs : List Node). Owned (refs_of xs) m) (part_one nodes k node h is) (owned_part m nodes k 1 c.owned) in
+    changes_counted m n (node.at ∷ []) (node.at ∷ []) own
+    (counts_written m n node.at block (node.at ∷ []) (node.at ∷ []) (node_live m nodes k node h is c.owned) put (omega (arith, one_self node.at)) (λ r. refl))
 
 -- the node k of what was written over its block, in its place
 pub node_written : (m n : Blocks) (nodes new : List Node) (k : ℕ) (node : Node) (piece : Piece) (block : List ℕ) → IsChain m nodes → k < length nodes → node ≡ get_or nodes k node
@@ -69,7 +69,7 @@ node_written m n nodes new k node piece block c h is put p bytes now =
     let stands : new ≡ front ++ (fresh ∷ back) = now ∙ set_split nodes k fresh h ∙ ap (λ (i : ℕ). front ++ (fresh ∷ drop i nodes)) next in
     let own : Owned (refs_of (front ++ (node ∷ back))) m = subst (λ (xs : List Node). Owned (refs_of xs) m) was c.owned in
     let one = written_one m n nodes k node block c h is put in
-    let read : bytes_of n fresh ≡ piece.bytes.now = ap (λ (b : Blocks). filled piece.container (bytes_at b node.at)) put ∙ ap (filled piece.container) (bytes_at-placed m node.at block) ∙ bytes in
+    let read : bytes_of n fresh ≡ piece.bytes.now = ap (λ (b : Blocks). filled piece.container (bytes_at b node.at)) put ∙ ap (filled piece.container) (bytes_at_placed m node.at block) ∙ bytes in
     let held_is = node_of_piece n piece fresh p read refl refl in
     let changes = one_changes m n front back node fresh own one in
     record {

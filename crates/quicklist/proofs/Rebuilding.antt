@@ -7,9 +7,9 @@ use Rattle.std.proofs.lemmas.List.Concat.{flat_map-append}
 use Rattle.std.proofs.lemmas.List.Elements.{All-nil, All-cons, All-append, All-take, All-drop}
 use Rattle.blocks.specs.declared.BlockRef.{BlockRef}
 use Rattle.blocks.specs.Blocks.{Blocks, times, IsIn, Changes, Owned}
-use Rattle.blocks.proofs.Refs.{apart_live, with_block-other}
+use Rattle.blocks.proofs.Refs.{apart_live, with_block_other}
 use Rattle.blocks.proofs.Times.{times-append}
-use Rattle.blocks.proofs.Change.{live-is, live-once, Counts, Counts-placed, Counts-changed, Changes-counted, Changes-then, Changes-same, Changes-owned, Owned-others}
+use Rattle.blocks.proofs.Change.{live_is_in_change, live_once, Counts, counts_placed, counts_changed, changes_counted, changes_then, changes_same, changes_owned, owned_others}
 use Rattle.listpack.specs.Pack.{texts}
 use Rattle.object_codec.specs.declared.form.Form.{Form}
 use Rattle.object_codec.specs.declared.form.Form.TheVariants.{Intset, Listpack, Hashtable, Skiplist, Quicklist, Stream}
@@ -23,15 +23,15 @@ use Rattle.quicklist.specs.declared.rebuilt.Rebuilt.{Rebuilt}
 use Rattle.quicklist.specs.Nodes.{IsNode, IsChain, IsReadable, filled, IsHeld, IsPacked, held, node_list, bytes_of, elements_of, refs_of, container_of}
 use Rattle.quicklist.specs.Chain.{Chain, IsFormed, IsQuick, IsChanged}
 use Rattle.quicklist.specs.Equal.{cleared, IsLeft, IsKept, IsPackedNode, IsRebuilt, IsGrown, IsFresh, IsAdded, IsOpen, HasRoom}
-use Rattle.quicklist.proofs.Chains.{Same, times-refs, elements-same, each-same, all_same, node_read, readable_as}
+use Rattle.quicklist.proofs.Chains.{Same, times_refs, elements_same, each_same, all_same, node_read, readable_as}
 use Rattle.quicklist.proofs.Elements.{elements_split}
-use Rattle.quicklist.proofs.Going.{cleared-append}
+use Rattle.quicklist.proofs.Going.{cleared_append}
 use Rattle.quicklist.proofs.Moving.{in_refs}
 
 -- nothing is taken up yet
 pub none_rebuilt : (m : Blocks) (r : Rebuilt) → r.nodes.items ≡ [] → r.placed.items ≡ [] → r.replaced.items ≡ [] → IsRebuilt m m [] [] r
 none_rebuilt m r nodes placed replaced = record {
-  changes = subst (λ (xs : List Node). Changes m m [] (refs_of xs)) (sym placed) (Changes-same m [] (λ at. omega arith));
+  changes = subst (λ (xs : List Node). Changes m m [] (refs_of xs)) (sym placed) (changes_same m [] (λ at. omega arith));
   balance = λ at. omega (arith, ap (λ (xs : List Node). times at (refs_of xs)) nodes, ap (λ (xs : List Node). times at (refs_of xs)) placed, ap (λ (xs : List Node). times at (refs_of xs)) replaced);
   within = λ at. omega (arith, ap (λ (xs : List Node). times at (refs_of xs)) replaced);
   each = subst (All (IsNode m)) (sym nodes) (All-nil (IsNode m));
@@ -48,36 +48,36 @@ kept_of was list (Part pack count) l = (l.0, l.2 ∙ ap length (sym l.1), l.3)
 
 -- where nodes came behind others, all name a reference as often as both together
 one_more : (r : BlockRef) (now before : List Node) (more : List Node) → now ≡ before ++ more → times r (refs_of now) ≡ times r (refs_of before) + times r (refs_of more)
-one_more r now before more is = ap (λ (xs : List Node). times r (refs_of xs)) is ∙ times-refs r before more
+one_more r now before more is = ap (λ (xs : List Node). times r (refs_of xs)) is ∙ times_refs r before more
 
 -- the nodes taken up so far own their blocks
 nodes_owned : (m mid : Blocks) (old : List Node) (list : List (List ℕ)) (r : Rebuilt) → Owned (refs_of old) m → IsRebuilt m mid old list r
     → Owned (refs_of r.nodes.items ++ refs_of r.replaced.items) mid
 nodes_owned m mid old list r own is at =
-    let b = (Counts-changed m mid [] (refs_of r.placed.items) (λ q. omega arith) is.changes).balance at in
+    let b = (counts_changed m mid [] (refs_of r.placed.items) (λ q. omega arith) is.changes).balance at in
     omega (arith, own at, b, is.balance at, times-append at (refs_of r.nodes.items) (refs_of r.replaced.items))
 
 -- the block of an old node stays where others are placed
 old_same : (m mid : Blocks) (nodes placed : List Node) → Owned (refs_of nodes) m → Changes m mid [] (refs_of placed) → Same m mid nodes
-old_same m mid nodes placed own p r isin = Owned-others m mid [] (refs_of placed) (refs_of nodes) own p r isin refl
+old_same m mid nodes placed own p r isin = owned_others m mid [] (refs_of placed) (refs_of nodes) own p r isin refl
 
 -- the parts of a list of which each has a property
 All-front : (P : Node → Type 0) (xs ys : List Node) → All P (xs ++ ys) → All P xs
 All-front P xs ys all = subst (All P) (take_at xs ys (length xs) refl) (All-take P (length xs) (xs ++ ys) all)
 
 -- where each node of two joined lists has a property, each of the back list has it
-All-behind : (P : Node → Type 0) (xs ys : List Node) → All P (xs ++ ys) → All P ys
-All-behind P xs ys all = subst (All P) (drop_at xs ys (length xs) refl) (All-drop P (length xs) (xs ++ ys) all)
+all_behind_in_rebuilding : (P : Node → Type 0) (xs ys : List Node) → All P (xs ++ ys) → All P ys
+all_behind_in_rebuilding P xs ys all = subst (All P) (drop_at xs ys (length xs) refl) (All-drop P (length xs) (xs ++ ys) all)
 
 module _ (m mid n : Blocks) (old : List Node) (node : Node) (list rest : List (List ℕ)) (r after : Rebuilt) (own : Owned (refs_of (old ++ node ∷ [])) m) (is_node : IsNode m node)
     (is : IsRebuilt m mid old list r) where
   -- the old nodes before the one that is taken up own their blocks
   own_old : Owned (refs_of old) m
-  own_old at = omega (arith, own at, times-refs at old (node ∷ []))
+  own_old at = omega (arith, own at, times_refs at old (node ∷ []))
 
   -- the node that is taken up owns its block
   own_node : Owned (refs_of (node ∷ [])) m
-  own_node at = omega (arith, own at, times-refs at old (node ∷ []))
+  own_node at = omega (arith, own at, times_refs at old (node ∷ []))
 
   -- the block of the node that is taken up is the same after what was placed so far
   same_node : Same m mid (node ∷ [])
@@ -94,15 +94,15 @@ module _ (m mid n : Blocks) (old : List Node) (node : Node) (list rest : List (L
       one_more at after.placed.items r.placed.items [] g.placed_is,
       one_more at
           after.replaced.items r.replaced.items [] g.replaced_is,
-      times-refs at old (node ∷ []),
+      times_refs at old (node ∷ []),
     );
-    within = λ at. omega (arith, is.within at, one_more at after.replaced.items r.replaced.items [] g.replaced_is, times-refs at old (node ∷ []));
+    within = λ at. omega (arith, is.within at, one_more at after.replaced.items r.replaced.items [] g.replaced_is, times_refs at old (node ∷ []));
     each = subst (All (IsNode mid)) (sym g.nodes_is)
-        (All-append (IsNode mid) r.nodes.items (node ∷ []) is.each (each-same m mid (node ∷ []) same_node (All-cons (IsNode m) node [] is_node (All-nil (IsNode m)))));
+        (All-append (IsNode mid) r.nodes.items (node ∷ []) is.each (each_same m mid (node ∷ []) same_node (All-cons (IsNode m) node [] is_node (All-nil (IsNode m)))));
     list_is = ap (elements_of mid) g.nodes_is ∙ flat_map-append (node_list mid) r.nodes.items (node ∷ []) ∙ ap (λ (xs : List (List ℕ)). xs ++ elements_of mid (node ∷ [])) is.list_is
-        ∙ ap (λ (xs : List (List ℕ)). list ++ xs) (elements-same m mid (node ∷ []) same_node ∙ append-nil (node_list m node) ∙ sym left);
+        ∙ ap (λ (xs : List (List ℕ)). list ++ xs) (elements_same m mid (node ∷ []) same_node ∙ append-nil (node_list m node) ∙ sym left);
     packed = λ all. subst (All IsPackedNode) (sym g.nodes_is)
-        (All-append IsPackedNode r.nodes.items (node ∷ []) (is.packed (All-front IsPackedNode old (node ∷ []) all)) (All-behind IsPackedNode old (node ∷ []) all));
+        (All-append IsPackedNode r.nodes.items (node ∷ []) (is.packed (All-front IsPackedNode old (node ∷ []) all)) (all_behind_in_rebuilding IsPackedNode old (node ∷ []) all));
     fewer = omega (arith, is.fewer, ap length g.nodes_is, length-append r.nodes.items (node ∷ []), length-append old (node ∷ []));
   })
 
@@ -117,9 +117,9 @@ module _ (m mid n : Blocks) (old : List Node) (node : Node) (list rest : List (L
       one_more at after.placed.items r.placed.items [] g.placed_is,
       one_more at after.replaced.items
           r.replaced.items (node ∷ []) g.replaced_is,
-      times-refs at old (node ∷ []),
+      times_refs at old (node ∷ []),
     );
-    within = λ at. omega (arith, is.within at, one_more at after.replaced.items r.replaced.items (node ∷ []) g.replaced_is, times-refs at old (node ∷ []));
+    within = λ at. omega (arith, is.within at, one_more at after.replaced.items r.replaced.items (node ∷ []) g.replaced_is, times_refs at old (node ∷ []));
     each = subst (All (IsNode mid)) (sym (g.nodes_is ∙ append-nil r.nodes.items)) is.each;
     list_is = ap (elements_of mid) (g.nodes_is ∙ append-nil r.nodes.items) ∙ is.list_is ∙ sym (append-nil list) ∙ ap (λ (xs : List (List ℕ)). list ++ xs) (sym left);
     packed = λ all. subst (All IsPackedNode) (sym (g.nodes_is ∙ append-nil r.nodes.items)) (is.packed (All-front IsPackedNode old (node ∷ []) all));
@@ -146,17 +146,17 @@ module _ (m mid n : Blocks) (old : List Node) (node : Node) (list rest : List (L
       → IsRebuilt m n (old ++ node ∷ []) (list ++ rest) after
   part_more fresh bytes count f g packed left counted some =
       let owned = nodes_owned m mid old list r own_old is in
-      let apart = λ (at : BlockRef) (h : IsIn at (refs_of r.nodes.items)). live-is mid at (omega (arith, h, owned at, times-append at (refs_of r.nodes.items) (refs_of r.replaced.items))) in
+      let apart = λ (at : BlockRef) (h : IsIn at (refs_of r.nodes.items)). live_is_in_change mid at (omega (arith, h, owned at, times-append at (refs_of r.nodes.items) (refs_of r.replaced.items))) in
       let same : Same mid n r.nodes.items = λ at isin. ap (λ k. k at) f.placed.placed
-      ∙ with_block-other mid fresh.at at (Some f.placed.block) (apart_live mid at fresh.at (apart at isin) f.placed.free) in
-      let placed_own = Changes-owned m mid [] (refs_of r.placed.items) is.changes in
+      ∙ with_block_other mid fresh.at at (Some f.placed.block) (apart_live mid at fresh.at (apart at isin) f.placed.free) in
+      let placed_own = changes_owned m mid [] (refs_of r.placed.items) is.changes in
       let step : Changes mid n (refs_of r.placed.items) (refs_of (r.placed.items ++ fresh ∷ [])) =
-      Changes-counted mid n (refs_of r.placed.items) (refs_of (r.placed.items ++ fresh ∷ [])) placed_own
-      (Counts-placed mid n fresh.at f.placed.block (refs_of r.placed.items) (refs_of (r.placed.items ++ fresh ∷ [])) f.placed.free f.placed.placed
-      (λ at. omega (arith, times-refs at r.placed.items (fresh ∷ [])))) in
+      changes_counted mid n (refs_of r.placed.items) (refs_of (r.placed.items ++ fresh ∷ [])) placed_own
+      (counts_placed mid n fresh.at f.placed.block (refs_of r.placed.items) (refs_of (r.placed.items ++ fresh ∷ [])) f.placed.free f.placed.placed
+      (λ at. omega (arith, times_refs at r.placed.items (fresh ∷ [])))) in
       let one' = part_node fresh bytes count f packed left counted some in
       record {
-        changes = subst (λ (xs : List Node). Changes m n [] (refs_of xs)) (sym g.placed_is) (Changes-then m mid n [] (refs_of r.placed.items) (refs_of (r.placed.items ++ fresh ∷ [])) is.changes step);
+        changes = subst (λ (xs : List Node). Changes m n [] (refs_of xs)) (sym g.placed_is) (changes_then m mid n [] (refs_of r.placed.items) (refs_of (r.placed.items ++ fresh ∷ [])) is.changes step);
         balance = λ at. omega (
           arith,
           is.balance at,
@@ -164,13 +164,13 @@ module _ (m mid n : Blocks) (old : List Node) (node : Node) (list rest : List (L
           one_more at after.placed.items r.placed.items (fresh ∷ []) g.placed_is,
           one_more at
               after.replaced.items r.replaced.items (node ∷ []) g.replaced_is,
-          times-refs at old (node ∷ []),
+          times_refs at old (node ∷ []),
         );
-        within = λ at. omega (arith, is.within at, one_more at after.replaced.items r.replaced.items (node ∷ []) g.replaced_is, times-refs at old (node ∷ []));
+        within = λ at. omega (arith, is.within at, one_more at after.replaced.items r.replaced.items (node ∷ []) g.replaced_is, times_refs at old (node ∷ []));
         each = subst (All (IsNode n)) (sym g.nodes_is)
-            (All-append (IsNode n) r.nodes.items (fresh ∷ []) (each-same mid n r.nodes.items same is.each) (All-cons (IsNode n) fresh [] one'.0 (All-nil (IsNode n))));
+            (All-append (IsNode n) r.nodes.items (fresh ∷ []) (each_same mid n r.nodes.items same is.each) (All-cons (IsNode n) fresh [] one'.0 (All-nil (IsNode n))));
         list_is = ap (elements_of n) g.nodes_is ∙ flat_map-append (node_list n) r.nodes.items (fresh ∷ [])
-            ∙ ap (λ (xs : List (List ℕ)). xs ++ elements_of n (fresh ∷ [])) (elements-same mid n r.nodes.items same ∙ is.list_is)
+            ∙ ap (λ (xs : List (List ℕ)). xs ++ elements_of n (fresh ∷ [])) (elements_same mid n r.nodes.items same ∙ is.list_is)
             ∙ ap (λ (xs : List (List ℕ)). list ++ xs) (append-nil (node_list n fresh) ∙ one'.1);
         packed = λ all. subst (All IsPackedNode) (sym g.nodes_is)
             (All-append IsPackedNode r.nodes.items (fresh ∷ []) (is.packed (All-front IsPackedNode old (node ∷ []) all))
@@ -187,7 +187,7 @@ module _ (m mid n : Blocks) (old : List Node) (node : Node) (list rest : List (L
 -- the block of a node that is still to be taken up
 pub node_stays : (m mid : Blocks) (nodes placed : List Node) (k : ℕ) (node : Node) → IsChain m nodes → k < length nodes → node ≡ get_or nodes k node → Changes m mid [] (refs_of placed)
     → mid node.at ≡ m node.at
-node_stays m mid nodes placed k node c h is p = Owned-others m mid [] (refs_of placed) (refs_of nodes) c.owned p node.at (in_refs nodes k node h is) refl
+node_stays m mid nodes placed k node c h is p = owned_others m mid [] (refs_of placed) (refs_of nodes) c.owned p node.at (in_refs nodes k node h is) refl
 
 -- it is live, and holds what the node counts
 pub node_there : (m mid : Blocks) (nodes placed : List Node) (k : ℕ) (node : Node) → IsChain m nodes → k < length nodes → node ≡ get_or nodes k node → Changes m mid [] (refs_of placed)
@@ -241,7 +241,7 @@ module _ (m mid : Blocks) (nodes placed : List Node) (k : ℕ) (node : Node) (by
   owned_front at =
       let whole = ap (λ (xs : List Node). times at (refs_of xs)) (take-append-drop (k + 1) nodes) in
       let front = ap (λ (xs : List Node). times at (refs_of xs)) front_next in
-      omega (arith, c.owned at, whole, front, times-refs at (take (k + 1) nodes) (drop (k + 1) nodes))
+      omega (arith, c.owned at, whole, front, times_refs at (take (k + 1) nodes) (drop (k + 1) nodes))
 
   -- with what is left of the next node taken up, one node more is rebuilt without the elements that go
   pub rebuilt_next : (n : Blocks) (reach : Reach) (start : ℕ) (left : Left) (r after : Rebuilt) → start ≡ length (elements_of m (take k nodes))
@@ -254,7 +254,7 @@ module _ (m mid : Blocks) (nodes placed : List Node) (k : ℕ) (node : Node) (by
       let zero_on : 0 + length xs ≡ start = omega (arith, at) in
       let here' : IsLeft (node_list m node) rest left = subst (λ (ys : List (List ℕ)). IsLeft ys (cleared reach start ys) left) (sym list_there) l in
       let whole : cleared reach 0 (elements_of m (take (k + 1) nodes)) ≡ cleared reach 0 xs ++ rest =
-      ap (cleared reach 0) elements_next ∙ cleared-append reach 0 xs (node_list m node) ∙ ap (λ (i : ℕ). cleared reach 0 xs ++ cleared reach i (node_list m node)) zero_on in
+      ap (cleared reach 0) elements_next ∙ cleared_append reach 0 xs (node_list m node) ∙ ap (λ (i : ℕ). cleared reach 0 xs ++ cleared reach i (node_list m node)) zero_on in
       subst (λ (ys : List (List ℕ)). IsRebuilt m n (take (k + 1) nodes) ys after) (sym whole)
       (subst (λ (ns : List Node). IsRebuilt m n ns (cleared reach 0 xs ++ rest) after) (sym front_next)
       (rebuilt_more m mid n (take k nodes) node (cleared reach 0 xs) rest r after owned_front is_node_of so_far left a here'))
@@ -295,31 +295,31 @@ module _ (m mid n : Blocks) (nodes : List Node) (list : List (List ℕ)) (r : Re
 
   -- counted, the nodes that were placed bring their blocks in, and every other block stays
   placing : Counts m mid [] (refs_of r.placed.items)
-  placing = Counts-changed m mid [] (refs_of r.placed.items) (λ at. omega arith) is.changes
+  placing = counts_changed m mid [] (refs_of r.placed.items) (λ at. omega arith) is.changes
 
   -- counted, the blocks of the replaced nodes end, and every other block stays
   ending : Counts mid n (refs_of r.replaced.items) []
-  ending = Counts-changed mid n (refs_of r.replaced.items) [] replaced_owned ended
+  ending = counts_changed mid n (refs_of r.replaced.items) [] replaced_owned ended
 
   -- over the whole rebuilding, the rebuilt nodes' references take the place of the old nodes'
   pub rebuilt_changes : Changes m n (refs_of nodes) (refs_of r.nodes.items)
-  rebuilt_changes = Changes-counted m n (refs_of nodes) (refs_of r.nodes.items) own (record {
+  rebuilt_changes = changes_counted m n (refs_of nodes) (refs_of r.nodes.items) own (record {
     balance = λ at. omega (arith, placing.balance at, ending.balance at, is.balance at);
     kept = λ at out in_new. ending.kept at (omega (arith, out, is.within at)) (omega arith) ∙ placing.kept at (omega arith) (omega (arith, out, in_new, is.within at, is.balance at));
   })
 
   -- the blocks of the rebuilt nodes are the same after the replaced ones are given back
   same_nodes : Same mid n r.nodes.items
-  same_nodes at isin = ending.kept at (omega (arith, isin, nodes_owned m mid nodes list r own is at, times-append at (refs_of r.nodes.items) (refs_of r.replaced.items), live-once mid at))
+  same_nodes at isin = ending.kept at (omega (arith, isin, nodes_owned m mid nodes list r own is at, times-append at (refs_of r.nodes.items) (refs_of r.replaced.items), live_once mid at))
       (omega arith)
 
   -- the rebuilt nodes are a chain once the replaced ones are given back
   pub rebuilt_chain : IsChain n r.nodes.items
-  rebuilt_chain = record { owned = Changes-owned m n (refs_of nodes) (refs_of r.nodes.items) rebuilt_changes; each = each-same mid n r.nodes.items same_nodes is.each }
+  rebuilt_chain = record { owned = changes_owned m n (refs_of nodes) (refs_of r.nodes.items) rebuilt_changes; each = each_same mid n r.nodes.items same_nodes is.each }
 
   -- the rebuilt nodes have their elements still once the replaced ones are given back
   pub rebuilt_list : elements_of n r.nodes.items ≡ list
-  rebuilt_list = elements-same mid n r.nodes.items same_nodes ∙ is.list_is
+  rebuilt_list = elements_same mid n r.nodes.items same_nodes ∙ is.list_is
 
 -- the form of a list of which some nodes went
 containers_few : (nodes : List Node) → length nodes ≤ 1 → All IsPackedNode nodes → (map container_of nodes ≡ []) ⊎ (map container_of nodes ≡ Packed ∷ [])
@@ -360,4 +360,4 @@ rebuilt_is m mid n old new list r s is ended nodes len form = record {
 
 -- what was placed is given back
 pub unbuilt : (m mid n : Blocks) (placed : List Node) → Changes m mid [] (refs_of placed) → Changes mid n (refs_of placed) [] → n ≡ m
-unbuilt m mid n placed p ended = all_same m n (Changes-then m mid n [] (refs_of placed) [] p ended)
+unbuilt m mid n placed p ended = all_same m n (changes_then m mid n [] (refs_of placed) [] p ended)

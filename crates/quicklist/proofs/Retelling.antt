@@ -9,13 +9,13 @@ use Rattle.byteorder.specs.Endian.{little_bytes}
 use Rattle.byteorder.specs.Numbers.{length-bytes_low_first}
 use Rattle.blocks.specs.declared.BlockRef.{BlockRef}
 use Rattle.blocks.specs.Blocks.{Blocks, with_block, bytes_at, overwritten}
-use Rattle.blocks.proofs.Change.{with_block-twice}
-use Rattle.blocks.proofs.Written.{bytes_at-placed}
+use Rattle.blocks.proofs.Change.{with_block_twice}
+use Rattle.blocks.proofs.Written.{bytes_at_placed}
 use Rattle.listpack.specs.Entry.{IsSpelling, text_of, entry_of}
 use Rattle.listpack.specs.Pack.{entries, total, IsPack, IsAt, texts, spellings_of, offset_of}
 use Rattle.listpack.specs.Writing.{spelling}
 use Rattle.listpack.specs.Edits.{IsEdited}
-use Rattle.listpack.proofs.Offsets.{take-offset, drop-offset, offset_end, offset_rises, offset_inside, length-texts}
+use Rattle.listpack.proofs.Offsets.{take_offset, drop_offset, offset_end, offset_rises, offset_inside, length_texts}
 use Rattle.listpack.proofs.Repacking.{packed, edited_as}
 use Rattle.quicklist.specs.declared.node.Container.{Container}
 use Rattle.quicklist.specs.declared.node.Container.TheVariants.{Packed}
@@ -93,7 +93,7 @@ front_at block i p = within (total block) p.pack
         let header : 7 ≤ length bytes = pack.header in
         let one : take (offset_of bytes i) bytes ≡ take (offset_of bytes i) block = take-take (offset_of bytes i) n block (omega (arith, far, rises, cut)) in
         let two : take 6 bytes ≡ take 6 block = take-take 6 n block (omega (arith, header, cut)) in
-        sym one ∙ take-offset bytes i pack ∙ ap (λ (z : List ℕ). z ++ entries (take i (spellings_of bytes))) two
+        sym one ∙ take_offset bytes i pack ∙ ap (λ (z : List ℕ). z ++ entries (take i (spellings_of bytes))) two
 
 -- a block with its listpack's entries from a place on, and its header, written anew
 abbrev pub rewritten : List ℕ → ℕ → List ℕ → ℕ → List ℕ
@@ -116,7 +116,7 @@ told_behind block more tail from count p q place tail_is short counted few =
     let all : take last xs ≡ xs = take_all last xs (omega arith) in
     let front : take from block ≡ take 6 block ++ entries xs =
     ap (λ (k : ℕ). take k block) (sym at) ∙ front_at block last p ∙ ap (λ (zs : List (List ℕ)). take 6 block ++ entries zs) all in
-    let behind : tail ≡ entries ys ++ 0xFF ∷ [] = tail_is ∙ drop-offset more 0 other in
+    let behind : tail ≡ entries ys ++ 0xFF ∷ [] = tail_is ∙ drop_offset more 0 other in
     let header : 7 ≤ length bytes = pack.header in
     let whole = retold block tail from n count xs ys front behind (omega (arith, length-take (total block) block, header)) in
     let joined : length (entries (xs ++ ys)) ≡ length (entries xs) + length (entries ys) = ap length (flat_map-append entry_of xs ys) ∙ length-append (entries xs) (entries ys) in
@@ -127,7 +127,7 @@ told_behind block more tail from count p q place tail_is short counted few =
     ap (λ (zs : List (List ℕ)). zs ++ ys) p.written ∙ ap (λ (zs : List (List ℕ)). map spelling (map text_of xs) ++ zs) q.written
     ∙ sym (map-append spelling (map text_of xs) (map text_of ys)) ∙ ap (map spelling) (sym (map-append text_of xs ys)) in
     let t = packed_block n count (xs ++ ys) (drop (from + length tail) block) (All-append IsSpelling xs ys pack.each other.each) written long (omega (arith, rest, place, short))
-    (omega (arith, counted, length-texts bytes, length-texts more, length-append xs ys)) few in
+    (omega (arith, counted, length_texts bytes, length_texts more, length-append xs ys)) few in
     (subst (λ (b : List ℕ). IsPacked (filled Packed b)) (sym whole) t.0, ap (λ (b : List ℕ). texts (filled Packed b)) whole ∙ t.1 ∙ map-append text_of xs ys)
 
 -- so it is in the block of a packed node
@@ -163,7 +163,7 @@ told_front block i from p inside at =
     retold block end from n i xs [] front refl (omega (arith, length-take (total block) block, header)) ∙ ap (λ (zs : List (List ℕ)). packed n i zs ++ rest) (append-nil xs) in
     let long : n ≡ 7 + length (entries xs) = omega (arith, at) in
     let written : xs ≡ map spelling (map text_of xs) = ap (take i) p.written ∙ take-map spelling i (map text_of ss) ∙ ap (map spelling) (take-map text_of i ss) in
-    let counted : i ≡ length xs = sym (length-take-le i ss (omega (arith, inside, length-texts bytes))) in
+    let counted : i ≡ length xs = sym (length-take-le i ss (omega (arith, inside, length_texts bytes))) in
     let t = packed_block n i xs rest (All-take IsSpelling i ss pack.each) written long (omega (arith, at, far, rises, p.short)) counted (omega (arith, inside, count_small bytes p)) in
     (subst (λ (b : List ℕ). IsPacked (filled Packed b)) (sym whole) t.0, ap (λ (b : List ℕ). texts (filled Packed b)) whole ∙ t.1 ∙ sym (take-map text_of i ss))
 
@@ -200,7 +200,7 @@ offset_room m node i from is packed off =
     let p : IsPacked bytes = subst (λ (c : Container). IsHeld c (filled c block)) packed is.is_held in
     let size : length (bytes_of m node) ≡ length bytes = ap (λ (c : Container). length (filled c block)) packed in
     let place : IsAt bytes i from = subst (λ (c : Container). IsOffsetIn c (filled c block) i from) packed off in
-    omega (arith, size, place.1, offset_inside bytes i p.pack (omega (arith, place.0, length-texts bytes)))
+    omega (arith, size, place.1, offset_inside bytes i p.pack (omega (arith, place.0, length_texts bytes)))
 
 -- two writes into one block
 module _ (m mid : Blocks) (at : BlockRef) (from : ℕ) (tail : List ℕ) (first : mid ≡ with_block m at (Some (overwritten (bytes_at m at) from tail))) where
@@ -211,12 +211,12 @@ module _ (m mid : Blocks) (at : BlockRef) (from : ℕ) (tail : List ℕ) (first 
       let inner = overwritten (bytes_at m at) from tail in
       second
       ∙ ap (λ (k : Blocks). with_block k at (Some (overwritten (bytes_at k at) 0 head))) first
-      ∙ with_block-twice m at (Some inner) (Some (overwritten (bytes_at (with_block m at (Some inner)) at) 0 head))
-      ∙ ap (λ (over : List ℕ). with_block m at (Some (overwritten over 0 head))) (bytes_at-placed m at inner)
+      ∙ with_block_twice m at (Some inner) (Some (overwritten (bytes_at (with_block m at (Some inner)) at) 0 head))
+      ∙ ap (λ (over : List ℕ). with_block m at (Some (overwritten over 0 head))) (bytes_at_placed m at inner)
 
   -- a write leaves the block's length
   pub length_written : from + length tail ≤ length (bytes_at m at) → length (bytes_at mid at) ≡ length (bytes_at m at)
-  length_written room = ap (λ (k : Blocks). length (bytes_at k at)) first ∙ ap length (bytes_at-placed m at (overwritten (bytes_at m at) from tail)) ∙ kept (bytes_at m at) room
+  length_written room = ap (λ (k : Blocks). length (bytes_at k at)) first ∙ ap length (bytes_at_placed m at (overwritten (bytes_at m at) from tail)) ∙ kept (bytes_at m at) room
     where
       kept : (over : List ℕ) → from + length tail ≤ length over → length (overwritten over from tail) ≡ length over
       kept over h = grind (arith, common_steps, h)

@@ -11,8 +11,8 @@ use Rattle.std.proofs.lemmas.Bool.{cases_eq}
 use Rattle.rax_packed.specs.Nodes.{Link, Node, Leaf, Inner, ref_bytes, edges_of, refs_bytes, Rising, IsRef, ref_from, prefix_from, body_from, node_of, IsNode}
 use Rattle.rax_packed.specs.Ways.{prefix_in, PartsAt, Lacks, LeadsTo, IsInnerBytes}
 use Rattle.byteorder.specs.Endian.{little_number}
-use Rattle.rax_packed.proofs.Keys.{less-cmp, greater-cmp, index_rises}
-use Rattle.rax_packed.proofs.Spellings.{ref_from-bytes, length-ref_bytes, length-refs_bytes, IsLeafAt, IsInnerAt, node_cases, as_inner}
+use Rattle.rax_packed.proofs.Keys.{less_cmp, greater_cmp, index_rises}
+use Rattle.rax_packed.proofs.Spellings.{ref_from_bytes, length_ref_bytes, length_refs_bytes, IsLeafAt, IsInnerAt, node_cases, as_inner}
 
 -- a list parts at each of its places
 pub split_at : {X : Type 0} (xs : List X) (k : ℕ) (d : X) → k < length xs → xs ≡ take k xs ++ get_or xs k d ∷ drop (suc k) xs
@@ -68,14 +68,14 @@ leaf_way rest bytes key shared leaf all is alike =
 pub ref_at : (links : List Link) (k : ℕ) (d : Link) (more : List ℕ) → k < length links → AllByRecursion (λ l. IsRef l.to) links
     → ref_from (drop (12 * k) (refs_bytes links ++ more)) ≡ (get_or links k d).to
 ref_at [] k d more h fit = absurd (omega arith)
-ref_at (l ∷ links) zero d more h fit = ap ref_from (append_assoc (ref_bytes l.to) (refs_bytes links) more) ∙ ref_from-bytes l.to (refs_bytes links ++ more) fit.0
+ref_at (l ∷ links) zero d more h fit = ap ref_from (append_assoc (ref_bytes l.to) (refs_bytes links) more) ∙ ref_from_bytes l.to (refs_bytes links ++ more) fit.0
 ref_at (l ∷ links) (suc k) d more h fit =
     let step : 12 * suc k ≡ 12 + 12 * k = omega arith in
     let joined = append_assoc (ref_bytes l.to) (refs_bytes links) more in
     let skip : drop (12 * suc k) ((ref_bytes l.to ++ refs_bytes links) ++ more) ≡ drop (12 * k) (refs_bytes links ++ more) =
     ap (λ n. drop n ((ref_bytes l.to ++ refs_bytes links) ++ more)) step
     ∙ sym (drop-drop (12 * k) 12 ((ref_bytes l.to ++ refs_bytes links) ++ more))
-    ∙ ap (drop (12 * k)) (ap (drop 12) joined ∙ drop_at (ref_bytes l.to) (refs_bytes links ++ more) 12 (length-ref_bytes l.to)) in
+    ∙ ap (drop (12 * k)) (ap (drop 12) joined ∙ drop_at (ref_bytes l.to) (refs_bytes links ++ more) 12 (length_ref_bytes l.to)) in
     ap ref_from skip ∙ ref_at links k d more (omega arith) fit.1
 
 -- an element of a list of links, by the edges
@@ -192,9 +192,9 @@ missing_way rest bytes key edges refs shared place inner read all is alike withi
       many = length-take-le place links (omega arith);
       key_is = begun prefix key shared is (omega arith) alike ∙ ap (λ xs. prefix ++ xs) (drop_more key shared 0 (omega arith) ∙ ap (λ n. get_or key shared 0 ∷ drop n key) next);
       begins = omega arith;
-      less = below_take links place byte (λ i less inside. less-cmp (get_or (edges_of links) i 0) byte (ap (λ xs. nat_cmp (get_or xs i 0) byte) (sym read.edges_are) ∙ point.0 i 0 (omega arith) less));
+      less = below_take links place byte (λ i less inside. less_cmp (get_or (edges_of links) i 0) byte (ap (λ xs. nat_cmp (get_or xs i 0) byte) (sym read.edges_are) ∙ point.0 i 0 (omega arith) less));
       more = above_drop links place byte
-          (λ i more inside. greater-cmp (get_or (edges_of links) i 0) byte (ap (λ xs. nat_cmp (get_or xs i 0) byte) (sym read.edges_are) ∙ point.1 i 0 more (omega arith)));
+          (λ i more inside. greater_cmp (get_or (edges_of links) i 0) byte (ap (λ xs. nat_cmp (get_or xs i 0) byte) (sym read.edges_are) ∙ point.1 i 0 more (omega arith)));
     }
 
 -- the count of an inner node's links and their edges lie within what stands behind its prefix
@@ -211,7 +211,7 @@ links_within rest bytes body inner is =
 -- the twelve bytes of a link's reference lie within those read for the references
 pub link_within : (links : List Link) (edges refs : List ℕ) (place : ℕ) → IsRead links edges refs → place < length edges → 12 * place + 12 ≤ length refs
 link_within links edges refs place read within =
-    omega (arith, ap length read.refs_are, length-append (refs_bytes links) read.more, length-refs_bytes links, ap length read.edges_are, length-map links (λ l. l.edge))
+    omega (arith, ap length read.refs_are, length-append (refs_bytes links) read.more, length_refs_bytes links, ap length read.edges_are, length-map links (λ l. l.edge))
 
 -- the bytes of an inner node are laid out as one's
 pub inner_told : (bytes : List ℕ) (inner : IsInnerBytes bytes) → IsInnerAt inner.rest bytes
@@ -227,8 +227,8 @@ pub record IsBody (bytes : List ℕ) (len : ℕ) : Type 0 where
   pub short : length (prefix_from bytes) ≤ 16
 
 -- behind the prefix stand all bytes but the first two and as many as the second tells
-length-body_from : (bytes : List ℕ) → length (body_from bytes) ≡ length bytes - 2 - slice_index bytes 1
-length-body_from bytes = omega (arith, length-drop (slice_index bytes 1) (drop 2 bytes), length-drop 2 bytes)
+length_body_from : (bytes : List ℕ) → length (body_from bytes) ≡ length bytes - 2 - slice_index bytes 1
+length_body_from bytes = omega (arith, length-drop (slice_index bytes 1) (drop 2 bytes), length-drop 2 bytes)
 
 -- behind its prefix a leaf has twelve bytes, and an inner node two and thirteen for each link
 pub body_within : (rest len : ℕ) (bytes : List ℕ) → IsNode rest bytes → rest ≤ 16 → (slice_index bytes 0 ≡ 0 → len ≡ 12)
@@ -242,7 +242,7 @@ body_within rest len bytes node few leaf inner = elim (node_cases rest bytes nod
       let told = i.1.laid.told in
       let most = i.1.few in
       let short = i.1.inner.short in
-      record { within = omega (arith, length-body_from bytes); few = omega arith; short = omega arith })
+      record { within = omega (arith, length_body_from bytes); few = omega arith; short = omega arith })
 ]
 
 -- an inner node has at least two bytes behind its prefix
@@ -251,7 +251,7 @@ body_two rest bytes node other =
     let inner = as_inner rest bytes node other in
     let long = inner.laid.long in
     let told = inner.laid.told in
-    omega (arith, length-body_from bytes)
+    omega (arith, length_body_from bytes)
 
 -- the second byte of a node is the length of its prefix
 pub prefix_len : (rest : ℕ) (bytes : List ℕ) → IsNode rest bytes → slice_index bytes 1 ≡ length (prefix_from bytes)

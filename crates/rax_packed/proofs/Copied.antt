@@ -2,7 +2,7 @@
 use Rattle.std.proofs.Common.{[], ◌++◌, sym, subst, arith}
 use Rattle.blocks.specs.Blocks.{Blocks, times, Changes, Owned}
 use Rattle.blocks.proofs.Times.{times-append}
-use Rattle.blocks.proofs.Change.{Changes-beside, Changes-owned}
+use Rattle.blocks.proofs.Change.{changes_beside, changes_owned}
 use Rattle.rax_packed.specs.declared.tree.PackedTree.{PackedTree}
 use Rattle.rax_packed.specs.Laws.{Stays}
 use Rattle.rax_packed.specs.Maps.{refs_of, IsSound}
@@ -20,8 +20,8 @@ module _ (a mid : Blocks) (tree copy : PackedTree) (s : IsSound a tree) (p : Cha
   both : Owned (refs_of mid copy ++ refs_of mid tree) mid
   both =
       subst (λ l. Owned (refs_of mid copy ++ l) mid) (sym original.refs_are)
-      (Changes-owned a mid (refs_of a tree) (refs_of mid copy ++ refs_of a tree)
-      (Changes-beside a mid [] (refs_of mid copy) (refs_of a tree) (refs_of mid copy ++ refs_of a tree) p s.owned (λ r. times r (refs_of a tree)) (λ r. omega arith)
+      (changes_owned a mid (refs_of a tree) (refs_of mid copy ++ refs_of a tree)
+      (changes_beside a mid [] (refs_of mid copy) (refs_of a tree) (refs_of mid copy ++ refs_of a tree) p s.owned (λ r. times r (refs_of a tree)) (λ r. omega arith)
       (λ r. times-append r (refs_of mid copy) (refs_of a tree))))
 
   -- the copy stands when the original is given back

@@ -8,8 +8,8 @@ use Rattle.std.proofs.lemmas.List.Concat.{flat_map-append}
 use Rattle.std.proofs.lemmas.Bool.{cond-true}
 use Rattle.blocks.specs.declared.BlockRef.{BlockRef}
 use Rattle.blocks.specs.Blocks.{Blocks, ref_eq, times, live, IsIn, Changes, Owned, with_block, bytes_at, overwritten}
-use Rattle.blocks.proofs.Refs.{ref_eq-refl, ref_eq-sym, with_block-same, with_block-other, apart_live}
-use Rattle.blocks.proofs.Change.{one, cases_in, with_block-undone, live-is, other_than, Counts-then, Counts-changed, Counts-written, Changes-counted, Changes-both, Changes-owned, Changes-then}
+use Rattle.blocks.proofs.Refs.{ref_eq_refl, ref_eq_sym, with_block_same, with_block_other, apart_live}
+use Rattle.blocks.proofs.Change.{one, cases_in, with_block_undone, live_is_in_change, other_than, counts_then, counts_changed, counts_written, changes_counted, changes_both, changes_owned, changes_then}
 use Rattle.rax_packed.specs.Nodes.{Link, Node, Leaf, Inner, IsInner, IsNode, HoldsNode, Fits, IsRef, spelled, ref_bytes, node_of}
 use Rattle.rax_packed.specs.Trees.{Entry, node_at, under, entries, refs, IsTree, refs_at, IsTreeAt}
 use Rattle.rax_packed.specs.Ways.{IsInnerBytes, links_in, prefix_in}
@@ -37,7 +37,7 @@ all_same a b p = λ i r. p.kept r refl refl i
 
 -- the blocks before one was placed
 pub base_is : (b m : Blocks) (new : BlockRef) (bytes : List ℕ) → b new ≡ None → m ≡ with_block b new (Some bytes) → with_block m new None ≡ b
-base_is b m new bytes fresh put = ap (λ x. with_block x new None) put ∙ with_block-undone b new (Some bytes) fresh
+base_is b m new bytes fresh put = ap (λ x. with_block x new None) put ∙ with_block_undone b new (Some bytes) fresh
 
 -- the node with other links
 abbrev pub relinked : Node → List Link → Node
@@ -63,7 +63,7 @@ copying_none left n (Leaf prefix value) b m new fits put change = record {
   done = [];
   many = refl;
   bytes = spelled (Leaf prefix value);
-  block = ap (λ f. f new) put ∙ with_block-same b new (Some (spelled (Leaf prefix value)));
+  block = ap (λ f. f new) put ∙ with_block_same b new (Some (spelled (Leaf prefix value)));
   holds = refl;
   fits = fits;
   trees = tt;
@@ -75,7 +75,7 @@ copying_none left n (Inner prefix links) b m new fits put change = record {
   done = [];
   many = refl;
   bytes = spelled (Inner prefix links);
-  block = ap (λ f. f new) put ∙ with_block-same b new (Some (spelled (Inner prefix links)));
+  block = ap (λ f. f new) put ∙ with_block_same b new (Some (spelled (Inner prefix links)));
   holds = (0, sym (append-nil (spelled (Inner prefix links))));
   fits = fits;
   trees = tt;
@@ -103,7 +103,7 @@ module _ (left n : ℕ) (prefix : List ℕ) (links : List Link) (b m m2 m3 : Blo
 
   -- the copy's reference counts once as itself
   here : one new new ≡ 1
-  here = cond-true _ _ _ (ref_eq-refl new)
+  here = cond-true _ _ _ (ref_eq_refl new)
 
   -- the copy's reference is live before the next tree is copied
   new_live : IsSome (m new)
@@ -145,7 +145,7 @@ module _ (left n : ℕ) (prefix : List ℕ) (links : List Link) (b m m2 m3 : Blo
 
   -- the writing leaves each block but the copy's own
   others : (r : BlockRef) → ref_eq r new ≡ false → m3 r ≡ m2 r
-  others r apart = ap (λ f. f r) is ∙ with_block-other m2 new r (Some (overwritten (bytes_at m2 new) offset (ref_bytes child))) apart
+  others r apart = ap (λ f. f r) is ∙ with_block_other m2 new r (Some (overwritten (bytes_at m2 new) offset (ref_bytes child))) apart
 
   -- the trees that were copied before are the same after the next one's link was written
   same_done : SameBelow (suc left) m m3 c.done
@@ -154,7 +154,7 @@ module _ (left n : ℕ) (prefix : List ℕ) (links : List Link) (b m m2 m3 : Blo
 
   -- the tree just copied is the same after its link was written
   same_child : SameTree (suc left) m2 m3 child
-  same_child = same_tree (suc left) m2 m3 child (λ r isin. others r (ref_eq-sym r new ∙ apart_live m new r new_live (copy.changes.fresh r isin refl)))
+  same_child = same_tree (suc left) m2 m3 child (λ r isin. others r (ref_eq_sym r new ∙ apart_live m new r new_live (copy.changes.fresh r isin refl)))
 
   -- the links that name copies and those behind the place make up the links of the copy's node
   now_links : (c.done ++ now ∷ []) ++ behind ≡ c.done ++ now ∷ behind
@@ -173,7 +173,7 @@ module _ (left n : ℕ) (prefix : List ℕ) (links : List Link) (b m m2 m3 : Blo
 
   -- before the link is written, the copy's block and the copied trees were placed, and no other block has changed
   placed : Changes b m2 [] ((new ∷ refs_below (suc left) m c.done) ++ refs_at left m2 child)
-  placed = Changes-both b m m2 [] (new ∷ refs_below (suc left) m c.done) [] (refs_at left m2 child) (λ r. omega arith) c.changes copy.changes
+  placed = changes_both b m m2 [] (new ∷ refs_below (suc left) m c.done) [] (refs_at left m2 child) (λ r. omega arith) c.changes copy.changes
 
   -- after the link was written, the copy's block and the copied trees were placed, and no other block has changed
   changed : Changes b m3 [] (new ∷ refs_below (suc left) m3 (c.done ++ now ∷ []))
@@ -182,9 +182,9 @@ module _ (left n : ℕ) (prefix : List ℕ) (links : List Link) (b m m2 m3 : Blo
       let after = new ∷ refs_below (suc left) m3 (c.done ++ now ∷ []) in
       let same : (r : BlockRef) → times r after ≡ times r before = λ r. ap (λ xs. times r (new ∷ xs)) refs_now in
       let isin : IsIn new before = omega (arith, here) in
-      Changes-counted b m3 [] after (λ r. omega arith)
-      (Counts-then b m2 m3 [] before after (Counts-changed b m2 [] before (λ r. omega arith) placed)
-      (Counts-written m2 m3 new (overwritten (bytes_at m2 new) offset (ref_bytes child)) before after (subst (λ o. IsSome o) (sym new_same) new_live) is isin same))
+      changes_counted b m3 [] after (λ r. omega arith)
+      (counts_then b m2 m3 [] before after (counts_changed b m2 [] before (λ r. omega arith) placed)
+      (counts_written m2 m3 new (overwritten (bytes_at m2 new) offset (ref_bytes child)) before after (subst (λ o. IsSome o) (sym new_same) new_live) is isin same))
 
   -- the entries below the links that name copies are those below as many first links of the old node
   copied_entries : (begin : List ℕ) → below_links begin (entries (suc left) m3) (c.done ++ now ∷ []) ≡ below_links begin (entries (suc left) b) (take (k + 1) links)
@@ -201,7 +201,7 @@ module _ (left n : ℕ) (prefix : List ℕ) (links : List Link) (b m m2 m3 : Blo
     done = c.done ++ now ∷ [];
     many = omega (arith, length-append c.done (now ∷ []), c.many);
     bytes = overwritten c.bytes offset (ref_bytes child);
-    block = ap (λ f. f new) is ∙ with_block-same m2 new (Some (overwritten (bytes_at m2 new) offset (ref_bytes child))) ∙ ap (λ xs. Some (overwritten xs offset (ref_bytes child))) stood;
+    block = ap (λ f. f new) is ∙ with_block_same m2 new (Some (overwritten (bytes_at m2 new) offset (ref_bytes child))) ∙ ap (λ xs. Some (overwritten xs offset (ref_bytes child))) stood;
     holds = subst (λ ls. HoldsNode (overwritten c.bytes offset (ref_bytes child)) (Inner prefix ls)) (sym now_links)
         (relinked_bytes c.bytes prefix c.done behind l.edge offset l.to child holds_old refl);
     fits = subst (λ ls. IsInner n prefix ls) (sym now_links) (inner_relinked n prefix c.done behind l.edge l.to child ref inner_old);
@@ -297,7 +297,7 @@ module _ (n : ℕ) (b m : Blocks) (at : BlockRef) (t : IsTreeAt n b at) (own : O
 
   -- the blocks of the tree that the link names are as they were before others were placed
   stays : (r : BlockRef) → IsIn r (refs_at left b to) → m r ≡ b r
-  stays r isin = kept_live b m news r p (live-is b r (omega (arith, counted r, isin)))
+  stays r isin = kept_live b m news r p (live_is_in_change b r (omega (arith, counted r, isin)))
 
   -- the tree that the link names is the same as before others were placed
   pub source_same : SameTree (suc left) b m to
@@ -350,13 +350,13 @@ module _ (left n : ℕ) (prefix : List ℕ) (links : List Link) (b m : Blocks) (
     };
     within = omega (arith, ap (λ q. length (links_in q)) whole, length-append c.done (drop k links), length-drop k links, c.many, h);
     trees = subst (AllByRecursion (λ l. IsTreeAt left m l.to)) (sym first) c.trees;
-    owned = subst (λ ls. Owned (new ∷ refs_below (suc left) m ls) m) (sym first) (Changes-owned b m [] (new ∷ refs_below (suc left) m c.done) c.changes);
+    owned = subst (λ ls. Owned (new ∷ refs_below (suc left) m ls) m) (sym first) (changes_owned b m [] (new ∷ refs_below (suc left) m c.done) c.changes);
   }
 
   -- where the copy's node and its first trees are given back, the store is as before the copy
   pub uncopied : (after : Blocks) → Changes m after (new ∷ refs_below (suc left) m (take k (links_in (node_at m new)))) [] → after ≡ b
   uncopied after ended = all_same b after
-      (Changes-then b m after [] (new ∷ refs_below (suc left) m c.done) [] c.changes (subst (λ ls. Changes m after (new ∷ refs_below (suc left) m ls) []) first ended))
+      (changes_then b m after [] (new ∷ refs_below (suc left) m c.done) [] c.changes (subst (λ ls. Changes m after (new ∷ refs_below (suc left) m ls) []) first ended))
 
 -- one turn of the loop that copies the trees below a node's links
 module _ (n below count : ℕ) (b m : Blocks) (at new : BlockRef) (k : ℕ) (d : Link) (bytes : List ℕ) (t : IsTreeAt n b at) (own : Owned (refs_at n b at) b) (few : n ≤ 16)

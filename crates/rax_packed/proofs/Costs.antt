@@ -162,9 +162,9 @@ entries_by test es = count_by (λ (e : Entry). test e.key) es
 abbrev marks_by : (List ℕ → Bool) → List Mark → ℕ
 marks_by test ms = count_by (λ (m : Mark). test m.least) ms
 
-sum_by-map : {X Y : Type 0} (f : Y → ℕ) (g : X → Y) (xs : List X) → sum_by f (map g xs) ≡ sum_by (λ x. f (g x)) xs
-sum_by-map f g [] = refl
-sum_by-map f g (x ∷ xs) = omega (arith, sum_by-cons f (g x) (map g xs), sum_by-cons (λ x. f (g x)) x xs, sum_by-map f g xs)
+sum_by_map : {X Y : Type 0} (f : Y → ℕ) (g : X → Y) (xs : List X) → sum_by f (map g xs) ≡ sum_by (λ x. f (g x)) xs
+sum_by_map f g [] = refl
+sum_by_map f g (x ∷ xs) = omega (arith, sum_by-cons f (g x) (map g xs), sum_by-cons (λ x. f (g x)) x xs, sum_by_map f g xs)
 
 -- the first key of some entries, behind more bytes
 first_behind : (begin : List ℕ) (es more : List Entry) → 0 < length es → first_key (map (under begin) es ++ more) ≡ begin ++ first_key es
@@ -209,9 +209,9 @@ module _ (levels left : ℕ) (b : Blocks) (each : (to : BlockRef) → IsTree lev
         sum_by-append (λ (c : Cost). cond (test c.key) c.blocks 0) (map (cost_under begin) cs) (costs_below (costs levels b) 1 prefix links),
         sum_by-append (λ (e : Entry). cond (test e.key) 1 0) (map (under begin) es) more,
         sum_by-append (λ (m : Mark). cond (test m.least) 1 0) (map (mark_under begin) ms) (marks_below prefix (marks levels b) links),
-        sum_by-map (λ (c : Cost). cond (test c.key) c.blocks 0) (cost_under begin) cs,
-        sum_by-map (λ (e : Entry). cond (test e.key) 1 0) (under begin) es,
-        sum_by-map (λ (m : Mark). cond (test m.least) 1 0) (mark_under begin) ms,
+        sum_by_map (λ (c : Cost). cond (test c.key) c.blocks 0) (cost_under begin) cs,
+        sum_by_map (λ (e : Entry). cond (test e.key) 1 0) (under begin) es,
+        sum_by_map (λ (m : Mark). cond (test m.least) 1 0) (mark_under begin) ms,
       )
 
   -- below links that have no node above them

@@ -9,34 +9,34 @@ use Rattle.byteorder.specs.Endian.{little_bytes}
 use Rattle.byteorder.specs.Numbers.{length-bytes_low_first}
 use Rattle.blocks.specs.declared.BlockRef.{BlockRef}
 use Rattle.blocks.specs.Blocks.{Blocks, times, Changes, Owned, with_block, bytes_at, overwritten}
-use Rattle.blocks.proofs.Refs.{with_block-same, with_block-other}
-use Rattle.blocks.proofs.Change.{one, Counts-ended, Changes-counted, Counts-then, Counts-beside, Counts-changed}
+use Rattle.blocks.proofs.Refs.{with_block_same, with_block_other}
+use Rattle.blocks.proofs.Change.{one, counts_ended, changes_counted, counts_then, counts_beside, counts_changed}
 use Rattle.rax_packed.specs.Nodes.{Link, Leaf, Inner, HoldsNode, IsRef, edges_of, refs_bytes, spelled, node_of}
 use Rattle.rax_packed.specs.Trees.{under, entries, refs, entries_at, refs_at, IsTreeAt, Becomes}
 use Rattle.rax_packed.specs.Ways.{LeadsTo, IsInnerBytes, prefix_in, links_in}
 use Rattle.rax_packed.proofs.Choices.{inner_told}
 use Rattle.rax_packed.specs.Packed.{without}
-use Rattle.rax_packed.proofs.Keys.{order-same}
+use Rattle.rax_packed.proofs.Keys.{order_same}
 use Rattle.rax_packed.proofs.Entries.{below_links}
 use Rattle.rax_packed.proofs.Frames.{refs_below, leaf_entries, leaf_refs}
 use Rattle.rax_packed.proofs.Grafts.{IsGraft, grafted}
 use Rattle.rax_packed.proofs.Links.{inner_skip}
-use Rattle.rax_packed.proofs.Looks.{node_read, tree_live, all-middle}
-use Rattle.rax_packed.proofs.Spellings.{node_told, length-refs_bytes}
+use Rattle.rax_packed.proofs.Looks.{node_read, tree_live, all_middle}
+use Rattle.rax_packed.proofs.Spellings.{node_told, length_refs_bytes}
 use Rattle.rax_packed.proofs.Steps.{split, child, kept_block, step_tree, step_entries, step_changes, step_without, times_owns}
 
 -- a leaf is all of its tree
 pub cut_leaf : (b : Blocks) (at value : BlockRef) (bytes key : List ℕ) → b at ≡ Some bytes → node_of bytes ≡ Leaf key value → without (entries_at (length key) b at) key ≡ []
 unfolding without
 cut_leaf b at value bytes key read is =
-    ap (λ es. without es key) (leaf_entries (length key) b at key value (node_read b at bytes read ∙ is)) ∙ cond-false _ _ _ (ap is_ne (order-same key))
+    ap (λ es. without es key) (leaf_entries (length key) b at key value (node_read b at bytes read ∙ is)) ∙ cond-false _ _ _ (ap is_ne (order_same key))
 
 pub cut_leaf_ended : (b after : Blocks) (at value : BlockRef) (bytes key : List ℕ) → IsTreeAt (length key) b at → Owned (refs_at (length key) b at) b → b at ≡ Some bytes
     → node_of bytes ≡ Leaf key value → after ≡ with_block b at None → Changes b after (refs_at (length key) b at) []
 cut_leaf_ended b after at value bytes key t own read is ended =
     let all = leaf_refs (length key) b at key value (node_read b at bytes read ∙ is) in
-    Changes-counted b after (refs_at (length key) b at) [] own
-    (Counts-ended b after at (refs_at (length key) b at) [] (tree_live (suc (length key)) (length key) b at t) ended (λ r. omega (arith, ap (times r) all)))
+    changes_counted b after (refs_at (length key) b at) [] own
+    (counts_ended b after at (refs_at (length key) b at) [] (tree_live (suc (length key)) (length key) b at t) ended (λ r. omega (arith, ap (times r) all)))
 
 -- the link at a place taken out of its list
 remove_at : (before after : List Link) (link : Link) (place : ℕ) → length before ≡ place → remove (before ++ link ∷ after) place ≡ before ++ after
@@ -45,8 +45,8 @@ remove_at before after link place many =
     ap (λ xs. xs ++ drop (suc place) (before ++ link ∷ after)) (take_at before (link ∷ after) place many)
     ∙ ap (λ xs. before ++ drop (suc place) xs) (sym (append_assoc before (link ∷ []) after)) ∙ ap (λ xs. before ++ xs) (drop_at (before ++ link ∷ []) after (suc place) longer)
 
-length-spelled : (prefix : List ℕ) (links : List Link) → length (spelled (Inner prefix links)) ≡ 4 + length prefix + 13 * length links
-length-spelled prefix links =
+length_spelled : (prefix : List ℕ) (links : List Link) → length (spelled (Inner prefix links)) ≡ 4 + length prefix + 13 * length links
+length_spelled prefix links =
     omega (
       arith,
       length-append prefix (little_bytes 2 (length links) ++ (edges_of links ++ refs_bytes links)),
@@ -54,7 +54,7 @@ length-spelled prefix links =
           (edges_of links ++ refs_bytes links),
       length-append (edges_of links) (refs_bytes links),
       length-map links (λ l. l.edge),
-      length-refs_bytes links,
+      length_refs_bytes links,
       length-bytes_low_first 0 2
           (length links),
     )
@@ -71,8 +71,8 @@ narrowed_bytes bytes prefix before after link holds =
     omega (
       arith,
       length-append less thirteen,
-      length-spelled prefix (before ++ link ∷ after),
-      length-spelled prefix (before ++ after),
+      length_spelled prefix (before ++ link ∷ after),
+      length_spelled prefix (before ++ after),
       length-append before (link ∷ after),
       length-append
           before after,
@@ -101,7 +101,7 @@ module _ (b : Blocks) (at to : BlockRef) (bytes key : List ℕ) (place from : �
       let s = split b at to bytes key place from t read leads in
       let es = without (entries_at (length (drop from key)) b to) (drop from key) in
       let block : mid at ≡ Some s.node.bytes = kept_block b at to bytes key place from t read leads mid (refs_at (length (drop from key)) mid to) own below.changes ∙ s.node.block in
-      let ref : IsRef to = all-middle (λ l. IsRef l.to) s.before s.after (record { edge = s.edge; to = to }) s.node.inner.refs in
+      let ref : IsRef to = all_middle (λ l. IsRef l.to) s.before s.after (record { edge = s.edge; to = to }) s.node.inner.refs in
       record {
         tree = step_tree b at to bytes key place from t read leads mid mid to es own below s.node.bytes block s.node.holds ref (λ r h. refl);
         entries_are = step_entries b at to bytes key place from t read leads mid mid to es own below s.node.bytes block s.node.holds ref (λ r h. refl)
@@ -147,10 +147,10 @@ module _ (b : Blocks) (at to : BlockRef) (bytes key : List ℕ) (place from : �
         let all : (r : BlockRef) → times r (refs_at (length key) b at) ≡ one r at + times r (refs_at (length (drop from key)) b to) =
         λ r. omega (arith, times_owns b at to bytes key place from t read leads r, ap (times r) low, ap (times r) high) in
         let part : Owned (refs_at (length (drop from key)) b to) b = λ r. omega (arith, own r, all r) in
-        let first = Counts-beside b mid (refs_at (length (drop from key)) b to) [] (refs_at (length key) b at) (at ∷ [])
-        (Counts-changed b mid (refs_at (length (drop from key)) b to) [] part ended) (λ r. one r at) (λ r. omega (arith, all r)) (λ r. omega arith) in
-        Changes-counted b after (refs_at (length key) b at) [] own (Counts-then b mid after (refs_at (length key) b at) (at ∷ []) [] first
-        (Counts-ended mid after at (at ∷ []) [] (subst (λ o. IsSome o) (sym mid_same) (tree_live (suc (length key)) (length key) b at t)) back (λ r. omega arith)))
+        let first = counts_beside b mid (refs_at (length (drop from key)) b to) [] (refs_at (length key) b at) (at ∷ [])
+        (counts_changed b mid (refs_at (length (drop from key)) b to) [] part ended) (λ r. one r at) (λ r. omega (arith, all r)) (λ r. omega arith) in
+        changes_counted b after (refs_at (length key) b at) [] own (counts_then b mid after (refs_at (length key) b at) (at ∷ []) [] first
+        (counts_ended mid after at (at ∷ []) [] (subst (λ o. IsSome o) (sym mid_same) (tree_live (suc (length key)) (length key) b at t)) back (λ r. omega arith)))
 
     -- the node has other links
     pub cut_unlinked : (after : Blocks) → 1 < length (links_in (node_of (bytes_at mid at)))
@@ -168,7 +168,7 @@ module _ (b : Blocks) (at to : BlockRef) (bytes key : List ℕ) (place from : �
         let is : overwritten (bytes_at mid at) 0 (spelled (Inner (prefix_in (node_of (bytes_at mid at))) (remove (links_in (node_of (bytes_at mid at))) place)) ++ thirteen) ≡ now =
         ap (λ m. overwritten (bytes_at mid at) 0 (spelled (Inner (prefix_in m) (remove (links_in m) place)) ++ thirteen)) node_is
         ∙ ap (λ ls. overwritten (bytes_at mid at) 0 (spelled (Inner s.prefix ls) ++ thirteen)) left ∙ ap (λ xs. overwritten xs 0 (spelled (Inner s.prefix (s.before ++ s.after)) ++ thirteen)) stood in
-        let block : after at ≡ Some now = ap (λ m. m at) written ∙ with_block-same mid at
+        let block : after at ≡ Some now = ap (λ m. m at) written ∙ with_block_same mid at
         (Some (overwritten (bytes_at mid at) 0 (spelled (Inner (prefix_in (node_of (bytes_at mid at))) (remove (links_in (node_of (bytes_at mid at))) place)) ++ thirteen)))
         ∙ ap Some is in
         let several : 0 < length (s.before ++ s.after) = omega (arith, ap (λ n. length (links_in n)) node_is, length-append s.before (link ∷ s.after), length-append s.before s.after) in
@@ -182,7 +182,7 @@ module _ (b : Blocks) (at to : BlockRef) (bytes key : List ℕ) (place from : �
           block = block;
           holds = narrowed_bytes s.node.bytes s.prefix s.before s.after link s.node.holds;
           inner = inner_skip (length key) s.prefix s.before s.after link several s.node.inner;
-          others = λ r other. ap (λ m. m r) written ∙ with_block-other mid at r
+          others = λ r other. ap (λ m. m r) written ∙ with_block_other mid at r
               (Some (overwritten (bytes_at mid at) 0 (spelled (Inner (prefix_in (node_of (bytes_at mid at))) (remove (links_in (node_of (bytes_at mid at))) place)) ++ thirteen))) other;
         } in
         let done = grafted (length key) (length key) b mid after at s.prefix s.before (link ∷ []) [] s.after graft in
@@ -201,7 +201,7 @@ narrow_room bytes place told within =
     omega (
       arith,
       length-append (spelled (Inner (prefix_in (node_of bytes)) less)) thirteen,
-      length-spelled (prefix_in (node_of bytes)) less,
+      length_spelled (prefix_in (node_of bytes)) less,
       ap (λ n. length (links_in n)) inner.node_is,
       ap
           (λ n. length (prefix_in n)) inner.node_is,

@@ -7,16 +7,16 @@ use Rattle.std.specs.Ordering.{is_eq}
 use Rattle.blocks.specs.declared.BlockRef.{BlockRef}
 use Rattle.blocks.specs.Blocks.{Blocks, live, IsIn, Changes, Owned}
 use Rattle.blocks.proofs.Times.{times-append}
-use Rattle.blocks.proofs.Change.{cases_in, live-once, Owned-others}
+use Rattle.blocks.proofs.Change.{cases_in, live_once, owned_others}
 use Rattle.rax_packed.specs.declared.tree.PackedTree.{PackedTree}
 use Rattle.rax_packed.specs.Nodes.{Link, Node, Leaf, Inner, Fits, Rising, node_of}
 use Rattle.rax_packed.specs.Trees.{Entry, Mark, node_at, mark_under, entries, entries_in, refs, first_key, marks, marks_in, Below, IsTree}
 use Rattle.rax_packed.specs.Packed.{order, value_at}
 use Rattle.rax_packed.specs.Maps.{root_entries, root_refs, root_marks, refs_of, IsRoot}
 use Rattle.rax_packed.specs.Laws.{Stays, PackedLaws}
-use Rattle.rax_packed.proofs.Keys.{order-same}
+use Rattle.rax_packed.proofs.Keys.{order_same}
 use Rattle.rax_packed.proofs.Costs.{tree_keys, tree_few, tree_blocks}
-use Rattle.rax_packed.proofs.Entries.{all-append, value_at-link, key_under, below_links}
+use Rattle.rax_packed.proofs.Entries.{all-append, value_at_link, key_under, below_links}
 use Rattle.rax_packed.proofs.Frames.{marks_below, block_node, same_tree}
 use Rattle.rax_packed.proofs.Looks.{rising_split}
 use Rattle.rax_packed.proofs.Marked.{marks_name}
@@ -57,13 +57,13 @@ stays a b tree same =
 
 beside : (a b : Blocks) (refs old new : List BlockRef) → Owned (refs ++ old) a → Changes a b old new → (r : BlockRef) → IsIn r refs → b r ≡ a r
 beside a b refs old new own p r isin =
-    Owned-others a b old new (refs ++ old) own p r (omega (arith, isin, times-append r refs old)) (omega (arith, isin, own r, times-append r refs old, live-once a r))
+    owned_others a b old new (refs ++ old) own p r (omega (arith, isin, times-append r refs old)) (omega (arith, isin, own r, times-append r refs old, live_once a r))
 
 -- the first key of entries is one of theirs
 first_stands : (es : List Entry) → 0 < length es → IsSome (value_at es (first_key es))
 unfolding value_at
 first_stands [] h = absurd (omega arith)
-first_stands (e ∷ es) h = by_test (is_eq (order e.key e.key)) (ap is_eq (order-same e.key))
+first_stands (e ∷ es) h = by_test (is_eq (order e.key e.key)) (ap is_eq (order_same e.key))
   where
     by_test : (t : Bool) → t ≡ true → IsSome (option_map (λ x. x.value) (cond t (Some e) (find (λ x. is_eq (order x.key e.key)) es)))
     by_test true h = refl
@@ -81,7 +81,7 @@ module _ (levels left : ℕ) (b : Blocks) (prefix : List ℕ) (each : (to : Bloc
   stand_under before after l (m ∷ ms) rising h =
       let sides = rising_split before after l rising in
       let all = below_links prefix (entries levels b) (before ++ l ∷ after) in (
-        subst (λ o. IsSome o) (sym (ap (value_at all) (sym (key_under prefix m.least l.edge)) ∙ value_at-link prefix m.least (entries levels b) before after l sides.0 sides.1)) h.0,
+        subst (λ o. IsSome o) (sym (ap (value_at all) (sym (key_under prefix m.least l.edge)) ∙ value_at_link prefix m.least (entries levels b) before after l sides.0 sides.1)) h.0,
         stand_under before after l ms rising h.1,
       )
 

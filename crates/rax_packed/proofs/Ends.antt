@@ -13,53 +13,53 @@ use Rattle.rax_packed.specs.Nodes.{Link}
 use Rattle.rax_packed.specs.Trees.{Entry, under}
 use Rattle.rax_packed.specs.Ways.{beside}
 use Rattle.rax_packed.specs.Packed.{order, or_else, first_of, last_of, end_of, nearest}
-use Rattle.rax_packed.proofs.Entries.{All, keeps, drops, filter-under}
+use Rattle.rax_packed.proofs.Entries.{All, keeps, drops, filter_under}
 
 pub or_else-none : {X : Type 0} (x : Option X) → or_else x None ≡ x
 or_else-none None = refl
 or_else-none (Some x) = refl
 
-or_else-assoc : {X : Type 0} (x y z : Option X) → or_else (or_else x y) z ≡ or_else x (or_else y z)
-or_else-assoc None y z = refl
-or_else-assoc (Some x) y z = refl
+or_else_assoc : {X : Type 0} (x y z : Option X) → or_else (or_else x y) z ≡ or_else x (or_else y z)
+or_else_assoc None y z = refl
+or_else_assoc (Some x) y z = refl
 
-pub or_else-map : {X Y : Type 0} (f : X → Y) (x y : Option X) → option_map f (or_else x y) ≡ or_else (option_map f x) (option_map f y)
-or_else-map f None y = refl
-or_else-map f (Some x) y = refl
+pub or_else_map : {X Y : Type 0} (f : X → Y) (x y : Option X) → option_map f (or_else x y) ≡ or_else (option_map f x) (option_map f y)
+or_else_map f None y = refl
+or_else_map f (Some x) y = refl
 
-pub first_of-append : (xs ys : List Entry) → first_of (xs ++ ys) ≡ or_else (first_of xs) (first_of ys)
-first_of-append [] ys = refl
-first_of-append (x ∷ xs) ys = refl
+pub first_of_append : (xs ys : List Entry) → first_of (xs ++ ys) ≡ or_else (first_of xs) (first_of ys)
+first_of_append [] ys = refl
+first_of_append (x ∷ xs) ys = refl
 
 pub last_of-append : (xs ys : List Entry) → last_of (xs ++ ys) ≡ or_else (last_of ys) (last_of xs)
 last_of-append [] ys = sym (or_else-none (last_of ys))
-last_of-append (x ∷ xs) ys = ap (λ o. or_else o (Some x)) (last_of-append xs ys) ∙ or_else-assoc (last_of ys) (last_of xs) (Some x)
+last_of-append (x ∷ xs) ys = ap (λ o. or_else o (Some x)) (last_of-append xs ys) ∙ or_else_assoc (last_of ys) (last_of xs) (Some x)
 
-last_of-under : (begin : List ℕ) (es : List Entry) → last_of (map (under begin) es) ≡ option_map (under begin) (last_of es)
-last_of-under begin [] = refl
-last_of-under begin (e ∷ es) = ap (λ o. or_else o (Some (under begin e))) (last_of-under begin es) ∙ sym (or_else-map (under begin) (last_of es) (Some e))
+last_of_under : (begin : List ℕ) (es : List Entry) → last_of (map (under begin) es) ≡ option_map (under begin) (last_of es)
+last_of_under begin [] = refl
+last_of_under begin (e ∷ es) = ap (λ o. or_else o (Some (under begin e))) (last_of_under begin es) ∙ sym (or_else_map (under begin) (last_of es) (Some e))
 
-pub end_of-under : (up : Bool) (begin : List ℕ) (es : List Entry) → end_of up (map (under begin) es) ≡ option_map (under begin) (end_of up es)
-end_of-under true begin [] = refl
-end_of-under true begin (e ∷ es) = refl
-end_of-under false begin es = last_of-under begin es
+pub end_of_under : (up : Bool) (begin : List ℕ) (es : List Entry) → end_of up (map (under begin) es) ≡ option_map (under begin) (end_of up es)
+end_of_under true begin [] = refl
+end_of_under true begin (e ∷ es) = refl
+end_of_under false begin es = last_of_under begin es
 
 -- the entries before the middle, or behind it
 abbrev pub side_of : Bool → List Entry → List Entry → List Entry
 side_of true before after = after
 side_of false before after = before
 
-pub nearest-parts : (up : Bool) (key : List ℕ) (before middle after : List Entry) → All Less key before → All Greater key after
+pub nearest_parts : (up : Bool) (key : List ℕ) (before middle after : List Entry) → All Less key before → All Greater key after
     → nearest up (before ++ (middle ++ after)) key ≡ or_else (nearest up middle key) (end_of up (side_of up before after))
 unfolding nearest
-nearest-parts true key before middle after less more =
+nearest_parts true key before middle after less more =
     let test : Ordering → Bool = λ o. not (is_lt o) in
     let f : Entry → Bool = λ e. test (order e.key key) in
     ap first_of
     (filter-append f before (middle ++ after) ∙ ap (λ xs. xs ++ filter f (middle ++ after)) (drops test Less key before refl less) ∙ filter-append f middle after
     ∙ ap (λ xs. filter f middle ++ xs) (keeps test Greater key after refl more))
-    ∙ first_of-append (filter f middle) after
-nearest-parts false key before middle after less more =
+    ∙ first_of_append (filter f middle) after
+nearest_parts false key before middle after less more =
     let test : Ordering → Bool = λ o. not (is_gt o) in
     let f : Entry → Bool = λ e. test (order e.key key) in
     ap last_of
@@ -67,26 +67,26 @@ nearest-parts false key before middle after less more =
     ∙ ap (λ xs. before ++ xs) (filter-append f middle after ∙ ap (λ xs. filter f middle ++ xs) (drops test Greater key after refl more) ∙ append-nil (filter f middle)))
     ∙ last_of-append before (filter f middle)
 
-pub nearest-under : (up : Bool) (begin key : List ℕ) (es : List Entry) → nearest up (map (under begin) es) (begin ++ key) ≡ option_map (under begin) (nearest up es key)
+pub nearest_under : (up : Bool) (begin key : List ℕ) (es : List Entry) → nearest up (map (under begin) es) (begin ++ key) ≡ option_map (under begin) (nearest up es key)
 unfolding nearest
-nearest-under true begin key es =
+nearest_under true begin key es =
     let test : Ordering → Bool = λ o. not (is_lt o) in
-    ap first_of (filter-under test begin key es) ∙ end_of-under true begin (filter (λ e. test (order e.key key)) es)
-nearest-under false begin key es =
+    ap first_of (filter_under test begin key es) ∙ end_of_under true begin (filter (λ e. test (order e.key key)) es)
+nearest_under false begin key es =
     let test : Ordering → Bool = λ o. not (is_gt o) in
-    ap last_of (filter-under test begin key es) ∙ end_of-under false begin (filter (λ e. test (order e.key key)) es)
+    ap last_of (filter_under test begin key es) ∙ end_of_under false begin (filter (λ e. test (order e.key key)) es)
 
-pub nearest-empty : (up : Bool) (key : List ℕ) → nearest up [] key ≡ None
+pub nearest_empty : (up : Bool) (key : List ℕ) → nearest up [] key ≡ None
 unfolding nearest
-nearest-empty true key = refl
-nearest-empty false key = refl
+nearest_empty true key = refl
+nearest_empty false key = refl
 
 -- where all keys stand on one side
-pub nearest-less : (up : Bool) (key : List ℕ) (es : List Entry) → All Less key es → nearest up es key ≡ end_of up (side_of up es [])
-nearest-less up key es less = ap (λ xs. nearest up xs key) (sym (append-nil es)) ∙ nearest-parts up key es [] [] less tt ∙ ap (λ o. or_else o (end_of up (side_of up es []))) (nearest-empty up key)
+pub nearest_less : (up : Bool) (key : List ℕ) (es : List Entry) → All Less key es → nearest up es key ≡ end_of up (side_of up es [])
+nearest_less up key es less = ap (λ xs. nearest up xs key) (sym (append-nil es)) ∙ nearest_parts up key es [] [] less tt ∙ ap (λ o. or_else o (end_of up (side_of up es []))) (nearest_empty up key)
 
-pub nearest-greater : (up : Bool) (key : List ℕ) (es : List Entry) → All Greater key es → nearest up es key ≡ end_of up (side_of up [] es)
-nearest-greater up key es more = nearest-parts up key [] [] es tt more ∙ ap (λ o. or_else o (end_of up (side_of up [] es))) (nearest-empty up key)
+pub nearest_greater : (up : Bool) (key : List ℕ) (es : List Entry) → All Greater key es → nearest up es key ≡ end_of up (side_of up [] es)
+nearest_greater up key es more = nearest_parts up key [] [] es tt more ∙ ap (λ o. or_else o (end_of up (side_of up [] es))) (nearest_empty up key)
 
 -- the links on one side of a place
 abbrev pub side_links : Bool → ℕ → List Link → List Link
@@ -112,8 +112,8 @@ pub side_end : (up : Bool) (prefix : List ℕ) (entries : Link → List Entry) (
 side_end true prefix entries links place link is =
     let f : Link → List Entry = λ l. map (under (prefix ++ l.edge ∷ [])) (entries l) in (
       first_of (flat_map f (drop (suc place) links)),
-      ap (λ ls. first_of (flat_map f ls)) (drop_from links place link is) ∙ first_of-append (f link) (flat_map f (drop (suc place) links))
-          ∙ ap (λ o. or_else o (first_of (flat_map f (drop (suc place) links)))) (end_of-under true (prefix ++ link.edge ∷ []) (entries link)),
+      ap (λ ls. first_of (flat_map f ls)) (drop_from links place link is) ∙ first_of_append (f link) (flat_map f (drop (suc place) links))
+          ∙ ap (λ o. or_else o (first_of (flat_map f (drop (suc place) links)))) (end_of_under true (prefix ++ link.edge ∷ []) (entries link)),
     )
 side_end false prefix entries links zero link is = cc
 side_end false prefix entries links (suc place) link is =
@@ -122,7 +122,7 @@ side_end false prefix entries links (suc place) link is =
       ap (λ ls. last_of (flat_map f ls)) (take_upto links place link is)
           ∙ ap last_of (flat_map-append f (take place links) (link ∷ []) ∙ ap (λ xs. flat_map f (take place links) ++ xs) (append-nil (f link)))
           ∙ last_of-append (flat_map f (take place links)) (f link)
-          ∙ ap (λ o. or_else o (last_of (flat_map f (take place links)))) (end_of-under false (prefix ++ link.edge ∷ []) (entries link)),
+          ∙ ap (λ o. or_else o (last_of (flat_map f (take place links)))) (end_of_under false (prefix ++ link.edge ∷ []) (entries link)),
     )
 
 -- no link on that side

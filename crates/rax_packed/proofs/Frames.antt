@@ -5,7 +5,7 @@ use Rattle.std.proofs.lemmas.Bool.{cond-true}
 use Rattle.blocks.specs.declared.BlockRef.{BlockRef}
 use Rattle.blocks.specs.Blocks.{Blocks, IsIn, bytes_at}
 use Rattle.blocks.proofs.Times.{times-append}
-use Rattle.blocks.proofs.Refs.{ref_eq-refl}
+use Rattle.blocks.proofs.Refs.{ref_eq_refl}
 use Rattle.blocks.proofs.Change.{one}
 use Rattle.rax_packed.specs.Nodes.{Link, Node, Leaf, Inner, HoldsNode, IsInner, IsRef, Fits, node_of}
 use Rattle.rax_packed.specs.Trees.{Mark, node_at, under, mark_under, entries_in, entries, refs_in, refs, first_key, marks_in, marks, Below, IsTree}
@@ -72,7 +72,7 @@ pub same_tree : (levels : ℕ) (b after : Blocks) (at : BlockRef) → ((r : Bloc
 unfolding entries refs marks IsTree
 same_tree zero b after at h = record { entries_are = refl; refs_are = refl; marks_are = refl; tree = λ rest t. t }
 same_tree (suc levels) b after at h =
-    let here : one at at ≡ 1 = cond-true _ _ _ (ref_eq-refl at) in
+    let here : one at at ≡ 1 = cond-true _ _ _ (ref_eq_refl at) in
     let block : after at ≡ b at = h at (omega arith) in
     let node : node_at after at ≡ node_at b at = ap (λ o. node_of (unwrap_or o [])) block in
     let parts = in_node levels b after (node_at b at) (λ to k. same_tree levels b after to k) (λ r is. h r (omega (arith, is))) in

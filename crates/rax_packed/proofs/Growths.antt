@@ -8,15 +8,15 @@ use Rattle.std.proofs.lemmas.Bool.{cond-true}
 use Rattle.blocks.specs.declared.BlockRef.{BlockRef}
 use Rattle.blocks.specs.Blocks.{Blocks, ref_eq, times, Owned, with_block}
 use Rattle.blocks.proofs.Times.{times-append}
-use Rattle.blocks.proofs.Refs.{ref_eq-refl, ref_eq-sym, with_block-same, with_block-other, apart_live}
-use Rattle.blocks.proofs.Change.{one, live-once, live-is, other_than, Counts, Counts-same, Counts-then, Counts-placed, Counts-ended, Changes-counted}
+use Rattle.blocks.proofs.Refs.{ref_eq_refl, ref_eq_sym, with_block_same, with_block_other, apart_live}
+use Rattle.blocks.proofs.Change.{one, live_once, live_is_in_change, other_than, Counts, counts_same, counts_then, counts_placed, counts_ended, changes_counted}
 use Rattle.rax_packed.specs.Nodes.{Link, Leaf, Inner, IsInner, IsRef, spelled, node_of}
 use Rattle.rax_packed.specs.Trees.{Entry, under, node_at, entries, refs, IsTree, entries_at, refs_at, IsTreeAt, Becomes}
 use Rattle.rax_packed.specs.Ways.{Lacks, IsInnerBytes, prefix_in, links_in}
 use Rattle.rax_packed.specs.Packed.{with_entry}
-use Rattle.rax_packed.proofs.Entries.{below_links, with_entry-parts, links_less, links_greater, key_under, all-front, all-back, all-append}
+use Rattle.rax_packed.proofs.Entries.{below_links, with_entry_parts, links_less, links_greater, key_under, all_front, all_back, all-append}
 use Rattle.rax_packed.proofs.Frames.{refs_below, SameBelow, same_below, InnerAt, LeafAt, inner_at, inner_tree, inner_node, inner_entries, inner_refs, leaf_tree, leaf_node, leaf_entries, leaf_refs}
-use Rattle.rax_packed.proofs.Grafts.{owned_by, times-owned_by, three_refs, three_entries}
+use Rattle.rax_packed.proofs.Grafts.{owned_by, times_owned_by, three_refs, three_entries}
 use Rattle.rax_packed.proofs.Links.{inner_join}
 use Rattle.rax_packed.proofs.Looks.{node_read, rest_is, tree_live, tree_node}
 use Rattle.rax_packed.proofs.Spellings.{count_most}
@@ -28,16 +28,16 @@ pub record Puts (b m : Blocks) (news : List BlockRef) : Type 0 where
 
 -- where nothing has changed, no block was put
 pub puts_none : (b : Blocks) → Puts b b []
-puts_none b = record { counts = λ old new same. Counts-same b old new (λ r. omega (arith, same r)); kept = λ r is. refl }
+puts_none b = record { counts = λ old new same. counts_same b old new (λ r. omega (arith, same r)); kept = λ r is. refl }
 
 -- where one more block is placed after others were put, all of them were put
 pub puts_more : (b m after : Blocks) (news : List BlockRef) (at : BlockRef) (bytes : List ℕ) → Puts b m news → m at ≡ None → after ≡ with_block m at (Some bytes) → Puts b after (at ∷ news)
 puts_more b m after news at bytes puts fresh is =
     record {
-      counts = λ old new same. Counts-then b m after old (news ++ old) new (puts.counts old (news ++ old) (λ r. omega (arith, times-append r news old)))
-          (Counts-placed m after at bytes (news ++ old) new fresh is (λ r. omega (arith, same r, times-append r news old)));
+      counts = λ old new same. counts_then b m after old (news ++ old) new (puts.counts old (news ++ old) (λ r. omega (arith, times-append r news old)))
+          (counts_placed m after at bytes (news ++ old) new fresh is (λ r. omega (arith, same r, times-append r news old)));
       kept = λ r live. (let here = puts.kept r live in
-          ap (λ n. n r) is ∙ with_block-other m at r (Some bytes) (apart_live m r at (subst (λ o. IsSome o) (sym here) live) fresh) ∙ here);
+          ap (λ n. n r) is ∙ with_block_other m at r (Some bytes) (apart_live m r at (subst (λ o. IsSome o) (sym here) live) fresh) ∙ here);
     }
 
 -- Blocks were put, then one was given back, and nothing else has changed.
@@ -49,24 +49,24 @@ pub record Swaps (b m : Blocks) (at : BlockRef) (news : List BlockRef) : Type 0 
 pub swaps : (b m after : Blocks) (at : BlockRef) (news : List BlockRef) → Puts b m news → IsSome (b at) → after ≡ with_block m at None → Swaps b after at news
 swaps b m after at news puts was is =
     record {
-      counts = λ old new same. Counts-then b m after old (news ++ old) new (puts.counts old (news ++ old) (λ r. omega (arith, times-append r news old)))
-          (Counts-ended m after at (news ++ old) new (subst (λ o. IsSome o) (sym (puts.kept at was)) was) is (λ r. omega (arith, same r, times-append r news old)));
-      kept = λ r live other. ap (λ n. n r) is ∙ with_block-other m at r None other ∙ puts.kept r live;
+      counts = λ old new same. counts_then b m after old (news ++ old) new (puts.counts old (news ++ old) (λ r. omega (arith, times-append r news old)))
+          (counts_ended m after at (news ++ old) new (subst (λ o. IsSome o) (sym (puts.kept at was)) was) is (λ r. omega (arith, same r, times-append r news old)));
+      kept = λ r live other. ap (λ n. n r) is ∙ with_block_other m at r None other ∙ puts.kept r live;
     }
 
 -- a block holds its bytes still where another one is put
 pub put_stays : (m after : Blocks) (at r : BlockRef) (bytes : List ℕ) (seen : List ℕ) → m r ≡ Some seen → m at ≡ None → after ≡ with_block m at (Some bytes) → after r ≡ Some seen
 put_stays m after at r bytes seen here fresh is =
-    ap (λ n. n r) is ∙ with_block-other m at r (Some bytes) (apart_live m r at (subst (λ o. IsSome o) (sym here) refl) fresh) ∙ here
+    ap (λ n. n r) is ∙ with_block_other m at r (Some bytes) (apart_live m r at (subst (λ o. IsSome o) (sym here) refl) fresh) ∙ here
 
 -- a put block holds the bytes that were put
 pub put_here : (m after : Blocks) (at : BlockRef) (bytes : List ℕ) → after ≡ with_block m at (Some bytes) → after at ≡ Some bytes
-put_here m after at bytes is = ap (λ n. n at) is ∙ with_block-same m at (Some bytes)
+put_here m after at bytes is = ap (λ n. n at) is ∙ with_block_same m at (Some bytes)
 
 -- a block that was put since holds its bytes still where one that was live before is given back
 pub ended_stays : (b m after : Blocks) (at r : BlockRef) (seen : List ℕ) → m r ≡ Some seen → IsSome (b at) → b r ≡ None → after ≡ with_block m at None → after r ≡ Some seen
 ended_stays b m after at r seen here was fresh is =
-    ap (λ n. n r) is ∙ with_block-other m at r None (ref_eq-sym r at ∙ apart_live b at r was fresh) ∙ here
+    ap (λ n. n r) is ∙ with_block_other m at r None (ref_eq_sym r at ∙ apart_live b at r was fresh) ∙ here
 
 -- a reference that isn't live after blocks were put wasn't live before
 pub fresh_before : (b m : Blocks) (r : BlockRef) (news : List BlockRef) → Puts b m news → m r ≡ None → b r ≡ None
@@ -87,7 +87,7 @@ lacking_entries n b key prefix below before after edge value is less more =
     let full = prefix ++ edge ∷ below in
     ap (λ es. with_entry es key value) (flat_map-append f before after)
     ∙ ap (λ k. with_entry (below_links prefix (entries n b) before ++ ([] ++ below_links prefix (entries n b) after)) k value) is
-    ∙ with_entry-parts full (below_links prefix (entries n b) before) [] (below_links prefix (entries n b) after) (links_less prefix below edge (entries n b) before less)
+    ∙ with_entry_parts full (below_links prefix (entries n b) before) [] (below_links prefix (entries n b) after) (links_less prefix below edge (entries n b) before less)
     (links_greater prefix below edge (entries n b) after more) value
     ∙ ap (λ k. below_links prefix (entries n b) before ++ ((record { key = k; value = value }) ∷ below_links prefix (entries n b) after)) (key_under prefix below edge)
 
@@ -115,7 +115,7 @@ module _ (b later : Blocks) (at leaf new : BlockRef) (key : List ℕ) (place fro
 
   -- the old reference counts once as itself
   here : one at at ≡ 1
-  here = cond-true _ _ _ (ref_eq-refl at)
+  here = cond-true _ _ _ (ref_eq_refl at)
 
   -- the tree's references are the node's own, and those below the links before and after the key's byte
   refs_are : refs_at (length key) b at ≡ at ∷ (refs_below (length key) b lacks.before ++ refs_below (length key) b lacks.after)
@@ -127,15 +127,15 @@ module _ (b later : Blocks) (at leaf new : BlockRef) (key : List ℕ) (place fro
 
   -- the blocks of the tree but the node's own are as they were
   kept : (r : BlockRef) → 0 < times r (refs_at (length key) b at) → one r at ≡ 0 → later r ≡ b r
-  kept r is out = changed.kept r (live-is b r (omega (arith, own r, is))) (other_than r at out)
+  kept r is out = changed.kept r (live_is_in_change b r (omega (arith, own r, is))) (other_than r at out)
 
   -- the trees below the links before the key's byte are as they were
   same_before : SameBelow (length key) b later lacks.before
-  same_before = same_below (length key) b later lacks.before (λ r is. kept r (omega (arith, in_refs r, is)) (omega (arith, own r, in_refs r, live-once b r, is)))
+  same_before = same_below (length key) b later lacks.before (λ r is. kept r (omega (arith, in_refs r, is)) (omega (arith, own r, in_refs r, live_once b r, is)))
 
   -- the trees below the links after the key's byte are as they were
   same_after : SameBelow (length key) b later lacks.after
-  same_after = same_below (length key) b later lacks.after (λ r is. kept r (omega (arith, in_refs r, is)) (omega (arith, own r, in_refs r, live-once b r, is)))
+  same_after = same_below (length key) b later lacks.after (λ r is. kept r (omega (arith, in_refs r, is)) (omega (arith, own r, in_refs r, live_once b r, is)))
 
   -- how many bytes of each key are left below the node's links
   left : ℕ
@@ -177,8 +177,8 @@ module _ (b later : Blocks) (at leaf new : BlockRef) (key : List ℕ) (place fro
     below =
         (let P : Link → Type 0 = λ l. IsTree (length key) (length key - suc (length lacks.prefix)) b l.to in
         let Q : Link → Type 0 = λ l. IsTree (length key) (length key - suc (length lacks.prefix)) later l.to in
-        all-append Q lacks.before (link ∷ lacks.after) (same_before.trees (length key - suc (length lacks.prefix)) (all-front P lacks.before lacks.after node.below))
-        (hung.0, same_after.trees (length key - suc (length lacks.prefix)) (all-back P lacks.before lacks.after node.below)));
+        all-append Q lacks.before (link ∷ lacks.after) (same_before.trees (length key - suc (length lacks.prefix)) (all_front P lacks.before lacks.after node.below))
+        (hung.0, same_after.trees (length key - suc (length lacks.prefix)) (all_back P lacks.before lacks.after node.below)));
   }
 
   -- the node at the new reference is the one with the new leaf's link
@@ -213,12 +213,12 @@ module _ (b later : Blocks) (at leaf new : BlockRef) (key : List ℕ) (place fro
     entries_are = now_entries ∙ sym
         (ap (λ es. with_entry es key value) (inner_entries (length key) b at lacks.prefix (lacks.before ++ lacks.after) lacks.node_is)
         ∙ lacking_entries (length key) b key lacks.prefix lacks.below lacks.before lacks.after lacks.edge value lacks.key_is lacks.less lacks.more);
-    changes = Changes-counted b later (refs_at (length key) b at) (refs_at (length key) later new) own
+    changes = changes_counted b later (refs_at (length key) b at) (refs_at (length key) later new) own
         (changed.counts (refs_at (length key) b at) (refs_at (length key) later new)
         (λ r.
         (let now_in : times r (refs_at (length key) later new) ≡ one r new +
         (times r (refs_below (length key) b lacks.before) + (times r (leaf ∷ []) + times r (refs_below (length key) b lacks.after))) = ap (times r) now_refs
-        ∙ times-owned_by r new (refs_below (length key) b lacks.before) (leaf ∷ []) (refs_below (length key) b lacks.after) in
+        ∙ times_owned_by r new (refs_below (length key) b lacks.before) (leaf ∷ []) (refs_below (length key) b lacks.after) in
         omega (arith, now_in, in_refs r))));
   }
 

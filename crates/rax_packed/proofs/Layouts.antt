@@ -5,20 +5,20 @@ use Rattle.std.specs.List.{insert, remove, drop-map}
 use Rattle.byteorder.specs.Endian.{little_bytes, little_number}
 use Rattle.rax_packed.specs.Nodes.{Link, Inner, ref_bytes, edges_of, refs_bytes, spelled, ref_from, prefix_from, body_from, node_of}
 use Rattle.rax_packed.specs.Ways.{shortened_by}
-use Rattle.rax_packed.proofs.Spellings.{length-ref_bytes, refs_bytes-append, length-refs_bytes, IsLeafAt, IsInnerAt, IsLaid}
+use Rattle.rax_packed.proofs.Spellings.{length_ref_bytes, refs_bytes_append, length_refs_bytes, IsLeafAt, IsInnerAt, IsLaid}
 use Rattle.byteorder.specs.Numbers.{length-bytes_low_first}
 
 -- the references of the first links, and of those behind them
 pub refs_take : (links : List Link) (k : ℕ) → k ≤ length links → take (12 * k) (refs_bytes links) ≡ refs_bytes (take k links)
 refs_take links k h =
-    let long : length (refs_bytes (take k links)) ≡ 12 * k = length-refs_bytes (take k links) ∙ ap (λ n. 12 * n) (length-take-le k links h) in
-    ap (λ ls. take (12 * k) (refs_bytes ls)) (sym (take-append-drop k links)) ∙ ap (take (12 * k)) (refs_bytes-append (take k links) (drop k links))
+    let long : length (refs_bytes (take k links)) ≡ 12 * k = length_refs_bytes (take k links) ∙ ap (λ n. 12 * n) (length-take-le k links h) in
+    ap (λ ls. take (12 * k) (refs_bytes ls)) (sym (take-append-drop k links)) ∙ ap (take (12 * k)) (refs_bytes_append (take k links) (drop k links))
     ∙ take_at (refs_bytes (take k links)) (refs_bytes (drop k links)) (12 * k) long
 
 pub refs_drop : (links : List Link) (k : ℕ) → k ≤ length links → drop (12 * k) (refs_bytes links) ≡ refs_bytes (drop k links)
 refs_drop links k h =
-    let long : length (refs_bytes (take k links)) ≡ 12 * k = length-refs_bytes (take k links) ∙ ap (λ n. 12 * n) (length-take-le k links h) in
-    ap (λ ls. drop (12 * k) (refs_bytes ls)) (sym (take-append-drop k links)) ∙ ap (drop (12 * k)) (refs_bytes-append (take k links) (drop k links))
+    let long : length (refs_bytes (take k links)) ≡ 12 * k = length_refs_bytes (take k links) ∙ ap (λ n. 12 * n) (length-take-le k links h) in
+    ap (λ ls. drop (12 * k) (refs_bytes ls)) (sym (take-append-drop k links)) ∙ ap (drop (12 * k)) (refs_bytes_append (take k links) (drop k links))
     ∙ drop_at (refs_bytes (take k links)) (refs_bytes (drop k links)) (12 * k) long
 
 pub edges_take : (links : List Link) (k : ℕ) → take k (edges_of links) ≡ edges_of (take k links)
@@ -37,7 +37,7 @@ wide prefix links place link low high low_refs high_refs count within counted is
     let many : length (first ++ link ∷ last) ≡ count = omega (arith, length-append first (link ∷ last), length-take-le place links within, length-drop place links) in
     let edges : edges_of (first ++ link ∷ last) ≡ low ++ link.edge ∷ high = map-append (λ l. l.edge) first (link ∷ last)
     ∙ ap (λ xs. xs ++ link.edge ∷ edges_of last) (sym (is_low ∙ edges_take links place)) ∙ ap (λ xs. low ++ link.edge ∷ xs) (sym (is_high ∙ edges_drop links place)) in
-    let refs : refs_bytes (first ++ link ∷ last) ≡ low_refs ++ (ref_bytes link.to ++ high_refs) = refs_bytes-append first (link ∷ last)
+    let refs : refs_bytes (first ++ link ∷ last) ≡ low_refs ++ (ref_bytes link.to ++ high_refs) = refs_bytes_append first (link ∷ last)
     ∙ ap (λ xs. xs ++ (ref_bytes link.to ++ refs_bytes last)) (sym (is_low_refs ∙ refs_take links place within))
     ∙ ap (λ xs. low_refs ++ (ref_bytes link.to ++ xs)) (sym (is_high_refs ∙ refs_drop links place within)) in
     sym (ap (λ n. 1 ∷ length prefix ∷ (prefix ++ (little_bytes 2 n ++ (edges_of (first ++ link ∷ last) ++ refs_bytes (first ++ link ∷ last))))) many
@@ -57,7 +57,7 @@ narrow prefix links place low high low_refs high_refs zeros count within counted
     let many : length (first ++ last) ≡ count = omega (arith, length-append first last, length-take-le place links (omega arith), length-drop (suc place) links) in
     let edges : edges_of (first ++ last) ≡ low ++ high = map-append (λ l. l.edge) first last ∙ ap (λ xs. xs ++ edges_of last) (sym (is_low ∙ edges_take links place))
     ∙ ap (λ xs. low ++ xs) (sym (is_high ∙ edges_drop links (suc place))) in
-    let refs : refs_bytes (first ++ last) ≡ low_refs ++ high_refs = refs_bytes-append first last
+    let refs : refs_bytes (first ++ last) ≡ low_refs ++ high_refs = refs_bytes_append first last
     ∙ ap (λ xs. xs ++ refs_bytes last) (sym (is_low_refs ∙ refs_take links place (omega arith)))
     ∙ ap (λ xs. low_refs ++ xs) (sym (is_high_refs ∙ refs_drop links (suc place) (omega arith))) in
     sym (ap (λ n. (1 ∷ length prefix ∷ (prefix ++ (little_bytes 2 n ++ (edges_of (first ++ last) ++ refs_bytes (first ++ last))))) ++ zeros) many
@@ -79,7 +79,7 @@ short_leaf rest from bytes leaf =
     body l =
         let value = ref_from (body_from bytes) in
         let is : body_from bytes ≡ ref_bytes value = ap body_from l.bytes_are ∙ drop_at (prefix_from bytes) (ref_bytes value) (length (prefix_from bytes)) refl in
-        ap (take 12) (is ∙ sym (append-nil (ref_bytes value))) ∙ take_at (ref_bytes value) [] 12 (length-ref_bytes value)
+        ap (take 12) (is ∙ sym (append-nil (ref_bytes value))) ∙ take_at (ref_bytes value) [] 12 (length_ref_bytes value)
 
 pub short_inner : (rest from : ℕ) (bytes : List ℕ) → IsInnerAt rest bytes → 1 ∷ length (drop from (prefix_from bytes))
     ∷ (drop from (prefix_from bytes) ++ take (2 + 13 * little_number 2 (body_from bytes)) (body_from bytes)) ≡ spelled (shortened_by from (node_of bytes))
@@ -101,7 +101,7 @@ short_inner rest from bytes inner =
           length-append (little_bytes 2 (length links)) (edges_of links ++ refs_bytes links),
           length-append (edges_of links) (refs_bytes links),
           length-map links (λ l. l.edge),
-          length-refs_bytes links,
+          length_refs_bytes links,
           length-bytes_low_first 0 2 (length links),
         )) in
         ap (take (2 + 13 * little_number 2 (body_from bytes))) is ∙ take_at whole zeros (2 + 13 * little_number 2 (body_from bytes)) long

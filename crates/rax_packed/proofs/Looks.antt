@@ -11,12 +11,12 @@ use Rattle.std.proofs.lemmas.Bool.{cond-true}
 use Rattle.blocks.specs.declared.BlockRef.{BlockRef}
 use Rattle.blocks.specs.Blocks.{Blocks, bytes_at}
 use Rattle.rax_packed.specs.Nodes.{Link, Node, Leaf, Inner, IsNode, node_of, ref_bytes, Rising}
-use Rattle.rax_packed.proofs.Spellings.{length-ref_bytes}
+use Rattle.rax_packed.proofs.Spellings.{length_ref_bytes}
 use Rattle.rax_packed.specs.Trees.{Entry, node_at, under, entries_in, entries, refs, marks, IsTree, entries_at, refs_at, marks_at, IsTreeAt}
 use Rattle.rax_packed.specs.Ways.{prefix_in, PartsAt, Lacks, LeadsTo}
 use Rattle.rax_packed.specs.Packed.{order, value_at}
-use Rattle.rax_packed.proofs.Keys.{order-less, order-greater, order-same, cases_order}
-use Rattle.rax_packed.proofs.Entries.{All, all-append, below_links, links_less, links_greater, value_at-parts, value_at-link}
+use Rattle.rax_packed.proofs.Keys.{order_less_in_keys, order_greater_in_keys, order_same, cases_order}
+use Rattle.rax_packed.proofs.Entries.{All, all-append, below_links, links_less, links_greater, value_at_parts, value_at_link}
 use Rattle.rax_packed.proofs.Frames.{InnerAt, inner_at, leaf_at, inner_entries, leaf_entries, same_levels}
 
 -- a tree's reference has a block, whose bytes hold a node that fits there
@@ -69,7 +69,7 @@ parts_side levels b at key shared parts =
         less,
         node_side Less key (entries levels b) (node_at b at)
             (λ rest. ap (λ xs. order xs key) (split rest) ∙ ap (order (begin ++ parts.own ∷ (parts.own_rest ++ rest))) parts.key_is
-            ∙ order-less begin (parts.own_rest ++ rest) parts.other_rest parts.own parts.other less),
+            ∙ order_less_in_keys begin (parts.own_rest ++ rest) parts.other_rest parts.own parts.other less),
       )
       | inr upto ↦ elim upto [
         | inl same ↦ absurd (parts.apart same)
@@ -77,7 +77,7 @@ parts_side levels b at key shared parts =
           more,
           node_side Greater key (entries levels b) (node_at b at)
               (λ rest. ap (λ xs. order xs key) (split rest) ∙ ap (order (begin ++ parts.own ∷ (parts.own_rest ++ rest))) parts.key_is
-              ∙ order-greater begin (parts.own_rest ++ rest) parts.other_rest parts.own parts.other more),
+              ∙ order_greater_in_keys begin (parts.own_rest ++ rest) parts.other_rest parts.own parts.other more),
         )
       ]
     ]
@@ -92,15 +92,15 @@ pub parts_value : (levels : ℕ) (b : Blocks) (at : BlockRef) (key : List ℕ) (
 parts_value levels b at key shared parts =
     let es = entries (suc levels) b at in
     elim (parts_side levels b at key shared parts) [
-      | inl less ↦ ap (λ xs. value_at xs key) (sym (append-nil es)) ∙ value_at-parts key es [] [] less.1 tt ∙ empty_value key
-      | inr more ↦ ap (λ xs. value_at xs key) refl ∙ value_at-parts key [] [] es tt more.1 ∙ empty_value key
+      | inl less ↦ ap (λ xs. value_at xs key) (sym (append-nil es)) ∙ value_at_parts key es [] [] less.1 tt ∙ empty_value key
+      | inr more ↦ ap (λ xs. value_at xs key) refl ∙ value_at_parts key [] [] es tt more.1 ∙ empty_value key
     ]
 
 -- a leaf whose prefix is the key has its value at the key
 pub leaf_value : (levels : ℕ) (b : Blocks) (at value : BlockRef) (key : List ℕ) → node_at b at ≡ Leaf key value → value_at (entries (suc levels) b at) key ≡ Some value
 unfolding value_at
 leaf_value levels b at value key is =
-    ap (λ es. value_at es key) (leaf_entries levels b at key value is) ∙ ap (λ r. unwrap_entry r) (cond-true _ _ _ (ap is_eq (order-same key)))
+    ap (λ es. value_at es key) (leaf_entries levels b at key value is) ∙ ap (λ r. unwrap_entry r) (cond-true _ _ _ (ap is_eq (order_same key)))
   where
     unwrap_entry : Option Entry → Option BlockRef
     unwrap_entry None = None
@@ -127,9 +127,9 @@ rising_split (l ∷ before) after link rising =
     front (x ∷ xs) link ys n h = (h.0, front xs link ys n h.1)
 
 -- what holds of all elements of a list holds of one between two parts of it
-pub all-middle : {X : Type 0} (P : X → Type 0) (xs ys : List X) (x : X) → AllByRecursion P (xs ++ x ∷ ys) → P x
-all-middle P [] ys x h = h.0
-all-middle P (y ∷ xs) ys x h = all-middle P xs ys x h.1
+pub all_middle : {X : Type 0} (P : X → Type 0) (xs ys : List X) (x : X) → AllByRecursion P (xs ++ x ∷ ys) → P x
+all_middle P [] ys x h = h.0
+all_middle P (y ∷ xs) ys x h = all_middle P xs ys x h.1
 
 -- a node and a key at the link by which the key goes on, with lesser edges before it and greater ones after it
 pub record Split (b : Blocks) (at : BlockRef) (key : List ℕ) (place from : ℕ) (to : BlockRef) (n rest : ℕ) : Type 0 where
@@ -179,7 +179,7 @@ link_value n b at to key place from rest t leads =
     let s = link_split n rest b at to key place from t leads in
     ap (λ es. value_at es key) (inner_entries n b at s.prefix (s.before ++ (record { edge = s.edge; to = to }) ∷ s.after) leads.node_is)
     ∙ ap (value_at (below_links s.prefix (entries n b) (s.before ++ (record { edge = s.edge; to = to }) ∷ s.after))) s.key_is
-    ∙ value_at-link s.prefix s.below (entries n b) s.before s.after (record { edge = s.edge; to = to }) s.less s.more
+    ∙ value_at_link s.prefix s.below (entries n b) s.before s.after (record { edge = s.edge; to = to }) s.less s.more
     ∙ ap (value_at (entries n b to)) (sym (rest_is s.prefix s.below key s.edge from s.key_is leads.begins))
 
 -- the link by which a key goes on names a tree with one level less, whose keys are as long as the key's rest
@@ -190,7 +190,7 @@ link_tree n rest b at to key place from t all leads =
     let s = link_split n rest b at to key place from t leads in
     let below = ap length (rest_is s.prefix s.below key s.edge from s.key_is leads.begins) in
     let left : length (drop from key) ≡ rest - suc (length s.prefix) = omega (arith, ap length s.key_is, length-append s.prefix (s.edge ∷ s.below)) in
-    subst (λ m. IsTree n m b to) (sym left) (all-middle (λ l. IsTree n (rest - suc (length s.prefix)) b l.to) s.before s.after (record { edge = s.edge; to = to }) s.node.below)
+    subst (λ m. IsTree n m b to) (sym left) (all_middle (λ l. IsTree n (rest - suc (length s.prefix)) b l.to) s.before s.after (record { edge = s.edge; to = to }) s.node.below)
 
 -- the rest of a key that goes on by a link begins no later than where the key ends
 pub from_within : (node : Node) (to : BlockRef) (key : List ℕ) (place from : ℕ) → LeadsTo node key place from to → from ≤ length key
@@ -205,7 +205,7 @@ lacks_value levels b at key place from lacks =
     (inner_entries levels b at lacks.prefix (lacks.before ++ lacks.after) lacks.node_is
     ∙ flat_map-append (λ l. map (under (lacks.prefix ++ l.edge ∷ [])) (entries levels b l.to)) lacks.before lacks.after)
     ∙ ap (value_at (f lacks.before ++ f lacks.after)) lacks.key_is
-    ∙ value_at-parts full (f lacks.before) [] (f lacks.after) (links_less lacks.prefix lacks.below lacks.edge (entries levels b) lacks.before lacks.less)
+    ∙ value_at_parts full (f lacks.before) [] (f lacks.after) (links_less lacks.prefix lacks.below lacks.edge (entries levels b) lacks.before lacks.less)
     (links_greater lacks.prefix lacks.below lacks.edge (entries levels b) lacks.after lacks.more)
     ∙ empty_value full
 
@@ -258,5 +258,5 @@ pub leaf_room : (b : Blocks) (at old : BlockRef) (bytes key : List ℕ) → IsTr
 leaf_room b at old bytes key t read is =
     let leaf = leaf_at (length key) (length key) b at key old t (node_read b at bytes read ∙ is) in
     let long : length (bytes_at b at) ≡ 2 + (length key + 12) = ap (λ o. length (unwrap_or o [])) leaf.block ∙ ap length leaf.holds
-    ∙ ap (λ n. suc (suc n)) (length-append key (ref_bytes old) ∙ ap (λ n. length key + n) (length-ref_bytes old)) ∙ omega arith in
+    ∙ ap (λ n. suc (suc n)) (length-append key (ref_bytes old) ∙ ap (λ n. length key + n) (length_ref_bytes old)) ∙ omega arith in
     omega arith

@@ -16,7 +16,7 @@ use Rattle.rax_packed.proofs.Cuts.{cut_leaf}
 use Rattle.rax_packed.proofs.Entries.{below_links}
 use Rattle.rax_packed.proofs.Frames.{leaf_entries}
 use Rattle.rax_packed.proofs.Looks.{node_read}
-use Rattle.rax_packed.proofs.Roots.{without-missing}
+use Rattle.rax_packed.proofs.Roots.{without_missing}
 use Rattle.rax_packed.proofs.Steps.{split, child, old_entries, step_without}
 
 -- with a value at the key there is one entry more than without the key
@@ -38,7 +38,7 @@ with_without es key value =
 
 -- a key that is missing makes one entry more
 pub with_missing : (es : List Entry) (key : List ℕ) (value : BlockRef) → value_at es key ≡ None → length (with_entry es key value) ≡ suc (length es)
-with_missing es key value missing = with_without es key value ∙ ap (λ xs. suc (length xs)) (without-missing key es missing)
+with_missing es key value missing = with_without es key value ∙ ap (λ xs. suc (length xs)) (without_missing key es missing)
 
 -- a leaf has the key once
 pub leaf_once : (b : Blocks) (at value : BlockRef) (bytes key : List ℕ) → b at ≡ Some bytes → node_of bytes ≡ Leaf key value

@@ -21,9 +21,9 @@ use Rattle.rax_packed.specs.Turns.{Turns}
 use Rattle.rax_packed.specs.Ways.{aside, links_in, prefix_in, PartsAt, Lacks, LeadsTo}
 use Rattle.rax_packed.proofs.Costs.{cost_key, links_alike, tree_alike, same_costs}
 use Rattle.rax_packed.proofs.Ends.{drop_from}
-use Rattle.rax_packed.proofs.Entries.{All, keeps_by, drops_by, filter-under_by, key_under, links_less, links_greater}
+use Rattle.rax_packed.proofs.Entries.{All, keeps_by, drops_by, filter_under_by, key_under, links_less, links_greater}
 use Rattle.rax_packed.proofs.Frames.{inner_node, leaf_entries}
-use Rattle.rax_packed.proofs.Keys.{order-same}
+use Rattle.rax_packed.proofs.Keys.{order_same}
 use Rattle.rax_packed.proofs.Looks.{Split, Named, node_read, parts_side, shorter}
 use Rattle.rax_packed.proofs.Seeks.{begin_is, take_two}
 use Rattle.rax_packed.proofs.Spellings.{count_most}
@@ -31,9 +31,9 @@ use Rattle.rax_packed.proofs.Steps.{split, below_is, child}
 use Rattle.rax_packed.proofs.Turnings.{ReadAt, aside_all, turn_named, turn_deeper, turn_within}
 
 -- a pass over keys, and then over others
-pub pass-append : (pass : Going) (xs ys : List Cost) → pass_over pass (xs ++ ys) ≡ pass_over (pass_over pass xs) ys
-pass-append pass [] ys = refl
-pass-append pass (c ∷ xs) ys = pass-append (counted pass.left pass.next c) xs ys
+pub pass_append : (pass : Going) (xs ys : List Cost) → pass_over pass (xs ++ ys) ≡ pass_over (pass_over pass xs) ys
+pass_append pass [] ys = refl
+pass_append pass (c ∷ xs) ys = pass_append (counted pass.left pass.next c) xs ys
 
 -- a pass that has ended stays as it is
 ended_at : (left : ℕ) (next : Option (List ℕ)) (xs : List Cost) → IsSome next → pass_over (record { left = left; next = next }) xs ≡ record { left = left; next = next }
@@ -69,7 +69,7 @@ pass_both pass front begin whole xs ys is =
     sym (
     ap (pass_over pass) (map-append (cost_under front) (map (cost_under begin) xs) ys)
     ∙ ap (λ cs. pass_over pass (cs ++ map (cost_under front) ys)) (under_both front begin xs ∙ ap (λ f. map (cost_under f) xs) (sym is))
-    ∙ pass-append pass (map (cost_under whole) xs) (map (cost_under front) ys)
+    ∙ pass_append pass (map (cost_under whole) xs) (map (cost_under front) ys)
     )
 
 -- how many nodes have the least key of the link behind these
@@ -82,12 +82,12 @@ behind_one [] = refl
 behind_one (l ∷ links) = refl
 
 -- the costs below joined links
-below-append : (below : ℕ → BlockRef → List Cost) (nodes : ℕ) (prefix : List ℕ) (xs ys : List Link) → costs_below below nodes prefix (xs ++ ys) ≡ costs_below below nodes prefix xs
+below_append : (below : ℕ → BlockRef → List Cost) (nodes : ℕ) (prefix : List ℕ) (xs ys : List Link) → costs_below below nodes prefix (xs ++ ys) ≡ costs_below below nodes prefix xs
     ++ costs_below below (behind xs nodes) prefix ys
-below-append below nodes prefix [] ys = refl
-below-append below nodes prefix (l ∷ xs) ys =
+below_append below nodes prefix [] ys = refl
+below_append below nodes prefix (l ∷ xs) ys =
     let here = map (cost_under (prefix ++ l.edge ∷ [])) (below nodes l.to) in
-    ap (λ cs. here ++ cs) (below-append below 1 prefix xs ys ∙ ap (λ n. costs_below below 1 prefix xs ++ costs_below below n prefix ys) (behind_one xs))
+    ap (λ cs. here ++ cs) (below_append below 1 prefix xs ys ∙ ap (λ n. costs_below below 1 prefix xs ++ costs_below below n prefix ys) (behind_one xs))
     ∙ sym (append_assoc here (costs_below below 1 prefix xs) (costs_below below 1 prefix ys))
 
 -- how many nodes have a link's least key, by its place
@@ -134,7 +134,7 @@ module _ (b : Blocks) (at : BlockRef) (bytes rest : List ℕ) (nodes : ℕ) (t :
   pub from_leaf : (value : BlockRef) → node_of bytes ≡ Leaf rest value → costs_from (costs_at (length rest) b nodes at) rest ≡ costs_in (costs (length rest) b) nodes (aside true 0 (node_at b at))
   from_leaf value is =
       from_kept Equal rest (costs_at (length rest) b nodes at) refl
-      (tree_alike Equal rest (suc (length rest)) b nodes at (subst (All Equal rest) (sym (leaf_entries (length rest) b at rest value (node_read b at bytes read ∙ is))) (order-same rest, tt)))
+      (tree_alike Equal rest (suc (length rest)) b nodes at (subst (All Equal rest) (sym (leaf_entries (length rest) b at rest value (node_read b at bytes read ∙ is))) (order_same rest, tt)))
       ∙ whole_node (length rest) b nodes at
 
   -- all entries stand on one side of a key that leaves the node's prefix
@@ -179,7 +179,7 @@ module _ (b : Blocks) (at : BlockRef) (bytes rest : List ℕ) (nodes : ℕ) (t :
       let node : node_at b at ≡ Inner lacks.prefix (lacks.before ++ lacks.after) = node_read b at bytes read ∙ lacks.node_is in
       let front = costs_below (costs n b) (nodes + 1) lacks.prefix lacks.before in
       let back = costs_below (costs n b) (behind lacks.before (nodes + 1)) lacks.prefix lacks.after in
-      ap (λ cs. costs_from cs rest) (inner_costs n b nodes at lacks.prefix (lacks.before ++ lacks.after) node ∙ below-append (costs n b) (nodes + 1) lacks.prefix lacks.before lacks.after)
+      ap (λ cs. costs_from cs rest) (inner_costs n b nodes at lacks.prefix (lacks.before ++ lacks.after) node ∙ below_append (costs n b) (nodes + 1) lacks.prefix lacks.before lacks.after)
       ∙ ap (costs_from (front ++ back)) lacks.key_is
       ∙ from-append key front back
       ∙ ap (λ cs. cs ++ costs_from back key)
@@ -217,7 +217,7 @@ module _ (b : Blocks) (at : BlockRef) (bytes rest : List ℕ) (nodes : ℕ) (t :
     middle k =
         let begin = s.prefix ++ s.edge ∷ [] in
         ap (costs_from (map (cost_under begin) (costs (length rest) b k to))) (key_under s.prefix s.below s.edge)
-        ∙ filter-under_by cost_key (cost_under begin) stays begin s.below (costs (length rest) b k to) (λ c. refl)
+        ∙ filter_under_by cost_key (cost_under begin) stays begin s.below (costs (length rest) b k to) (λ c. refl)
         ∙ ap (λ f. map (cost_under f) (costs_from (costs (length rest) b k to) s.below)) (sym (begin_is true b at bytes rest [] t read place from to leads))
         ∙ ap (λ cs. map (cost_under (take from rest)) (costs_from cs s.below))
         (same_costs (suc (length (drop from rest))) (length rest) (length (drop from rest)) b k to (shorter (node_of bytes) to rest place from (length rest) refl leads) named.tree)
@@ -234,7 +234,7 @@ module _ (b : Blocks) (at : BlockRef) (bytes rest : List ℕ) (nodes : ℕ) (t :
         let back = costs_below (costs n b) 1 s.prefix s.after in
         let k = behind s.before (nodes + 1) in
         let here = map (cost_under begin) (costs n b k to) in
-        ap (λ cs. costs_from cs rest) (inner_costs n b nodes at s.prefix (s.before ++ link ∷ s.after) node ∙ below-append (costs n b) (nodes + 1) s.prefix s.before (link ∷ s.after))
+        ap (λ cs. costs_from cs rest) (inner_costs n b nodes at s.prefix (s.before ++ link ∷ s.after) node ∙ below_append (costs n b) (nodes + 1) s.prefix s.before (link ∷ s.after))
         ∙ ap (costs_from (front ++ (here ++ back))) s.key_is
         ∙ from-append key front (here ++ back)
         ∙ ap (λ cs. cs ++ costs_from (here ++ back) key)

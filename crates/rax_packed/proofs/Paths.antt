@@ -14,10 +14,10 @@ use Rattle.rax_packed.specs.Trees.{Entry, Mark, node_at, under, mark_under, entr
 use Rattle.rax_packed.specs.Ways.{LeadsTo}
 use Rattle.rax_packed.specs.Packed.{order}
 use Rattle.rax_packed.specs.Paths.{is_least, is_first, nodes_with}
-use Rattle.rax_packed.proofs.Keys.{order-append, order-less, order-greater, order-same, cases_order}
-use Rattle.rax_packed.proofs.Entries.{all-append, all-front, all-weaker, below_links, key_under}
+use Rattle.rax_packed.proofs.Keys.{order_append, order_less_in_keys, order_greater_in_keys, order_same, cases_order}
+use Rattle.rax_packed.proofs.Entries.{all-append, all_front, all_weaker, below_links, key_under}
 use Rattle.rax_packed.proofs.Frames.{marks_below, block_node, inner_node, inner_entries, inner_marks, leaf_entries, leaf_marks}
-use Rattle.rax_packed.proofs.Looks.{Split, Named, all-middle}
+use Rattle.rax_packed.proofs.Looks.{Split, Named, all_middle}
 use Rattle.rax_packed.proofs.Steps.{split, below_is, child}
 
 -- a node that fits has an entry where each tree below it has one
@@ -46,14 +46,14 @@ tree_some (suc levels) rest b at t =
 pub first_under : (prefix below : List ℕ) (edge : ℕ) (es more : List Entry) → 0 < length es → is_first (map (under (prefix ++ edge ∷ [])) es ++ more) (prefix ++ edge ∷ below) ≡ is_first es below
 first_under prefix below edge [] more h = absurd (omega arith)
 first_under prefix below edge (e ∷ es) more h =
-    ap (λ k. is_eq (order ((prefix ++ edge ∷ []) ++ e.key) k)) (key_under prefix below edge) ∙ ap is_eq (order-append (prefix ++ edge ∷ []) e.key below)
+    ap (λ k. is_eq (order ((prefix ++ edge ∷ []) ++ e.key) k)) (key_under prefix below edge) ∙ ap is_eq (order_append (prefix ++ edge ∷ []) e.key below)
 
 -- a key isn't the first of entries that begin with one behind a lesser edge
 pub first_before : (prefix below : List ℕ) (lower edge : ℕ) (es more : List Entry) → lower < edge → 0 < length es
     → is_first (map (under (prefix ++ lower ∷ [])) es ++ more) (prefix ++ edge ∷ below) ≡ false
 first_before prefix below lower edge [] more less h = absurd (omega arith)
 first_before prefix below lower edge (e ∷ es) more less h =
-    ap (λ k. is_eq (order k (prefix ++ edge ∷ below))) (append_assoc prefix (lower ∷ []) e.key) ∙ ap is_eq (order-less prefix e.key below lower edge less)
+    ap (λ k. is_eq (order k (prefix ++ edge ∷ below))) (append_assoc prefix (lower ∷ []) e.key) ∙ ap is_eq (order_less_in_keys prefix e.key below lower edge less)
 
 -- a key isn't the first of the entries below links that begin with ones of lesser edges, each with an entry
 pub first_later : (prefix below : List ℕ) (edge : ℕ) (es : BlockRef → List Entry) (before after : List Link) → 0 < length before → AllByRecursion (λ l. l.edge < edge) before
@@ -62,14 +62,14 @@ first_later prefix below edge es [] after some less full = absurd (omega arith)
 first_later prefix below edge es (l ∷ before) after some less full = first_before prefix below l.edge edge (es l.to) (below_links prefix es (before ++ after)) less.0 full.0
 
 -- the nodes of a key among joined lists of marks are those of both parts
-pub nodes_with-append : (xs ys : List Mark) (key : List ℕ) → nodes_with (xs ++ ys) key ≡ nodes_with xs key ++ nodes_with ys key
+pub nodes_with_append : (xs ys : List Mark) (key : List ℕ) → nodes_with (xs ++ ys) key ≡ nodes_with xs key ++ nodes_with ys key
 unfolding nodes_with
-nodes_with-append xs ys key = ap (map (λ m. m.at)) (filter-append (is_least key) xs ys) ∙ map-append (λ m. m.at) (filter (is_least key) xs) (filter (is_least key) ys)
+nodes_with_append xs ys key = ap (map (λ m. m.at)) (filter-append (is_least key) xs ys) ∙ map-append (λ m. m.at) (filter (is_least key) xs) (filter (is_least key) ys)
 
 -- a mark in front adds its node to those of a key just where the key is its least one
-pub nodes_with-cons : (m : Mark) (ms : List Mark) (key : List ℕ) → nodes_with (m ∷ ms) key ≡ cond (is_least key m) (m.at ∷ nodes_with ms key) (nodes_with ms key)
+pub nodes_with_cons : (m : Mark) (ms : List Mark) (key : List ℕ) → nodes_with (m ∷ ms) key ≡ cond (is_least key m) (m.at ∷ nodes_with ms key) (nodes_with ms key)
 unfolding nodes_with
-nodes_with-cons m ms key = by_test (is_least key m)
+nodes_with_cons m ms key = by_test (is_least key m)
   where
     by_test : (t : Bool) → map (λ m. m.at) (cond t (m ∷ filter (is_least key) ms) (filter (is_least key) ms)) ≡ cond t (m.at ∷ map (λ m. m.at) (filter (is_least key) ms))
         (map (λ m. m.at) (filter (is_least key) ms))
@@ -77,22 +77,22 @@ nodes_with-cons m ms key = by_test (is_least key m)
     by_test false = refl
 
 -- among no marks there is no node of a key
-pub nodes_with-none : (key : List ℕ) → nodes_with [] key ≡ []
+pub nodes_with_none : (key : List ℕ) → nodes_with [] key ≡ []
 unfolding nodes_with
-nodes_with-none key = refl
+nodes_with_none key = refl
 
 -- with more bytes before both, a key is the least one of a mark just where it was without them
 pub least_under : (begin key : List ℕ) (m : Mark) → is_least (begin ++ key) (mark_under begin m) ≡ is_least key m
-least_under begin key m = ap is_eq (order-append begin m.least key)
+least_under begin key m = ap is_eq (order_append begin m.least key)
 
 -- the nodes of a key are the same with more bytes before the key and before each least key
-pub nodes_with-under : (begin key : List ℕ) (ms : List Mark) → nodes_with (map (mark_under begin) ms) (begin ++ key) ≡ nodes_with ms key
-nodes_with-under begin key [] = nodes_with-none (begin ++ key) ∙ sym (nodes_with-none key)
-nodes_with-under begin key (m ∷ ms) =
-    nodes_with-cons (mark_under begin m) (map (mark_under begin) ms) (begin ++ key)
+pub nodes_with_under : (begin key : List ℕ) (ms : List Mark) → nodes_with (map (mark_under begin) ms) (begin ++ key) ≡ nodes_with ms key
+nodes_with_under begin key [] = nodes_with_none (begin ++ key) ∙ sym (nodes_with_none key)
+nodes_with_under begin key (m ∷ ms) =
+    nodes_with_cons (mark_under begin m) (map (mark_under begin) ms) (begin ++ key)
     ∙ ap (λ t. cond t (m.at ∷ nodes_with (map (mark_under begin) ms) (begin ++ key)) (nodes_with (map (mark_under begin) ms) (begin ++ key))) (least_under begin key m)
-    ∙ ap (λ xs. cond (is_least key m) (m.at ∷ xs) xs) (nodes_with-under begin key ms)
-    ∙ sym (nodes_with-cons m ms key)
+    ∙ ap (λ xs. cond (is_least key m) (m.at ∷ xs) xs) (nodes_with_under begin key ms)
+    ∙ sym (nodes_with_cons m ms key)
 
 -- the key is the least of none of these
 abbrev pub AreOthers : List ℕ → List Mark → Type 0
@@ -100,16 +100,16 @@ AreOthers key ms = AllByRecursion (λ m. is_least key m ≡ false) ms
 
 -- where the key is the least of none of the marks, there is no node of it
 pub others_none : (key : List ℕ) (ms : List Mark) → AreOthers key ms → nodes_with ms key ≡ []
-others_none key [] h = nodes_with-none key
-others_none key (m ∷ ms) h = nodes_with-cons m ms key ∙ cond-false _ _ _ h.0 ∙ others_none key ms h.1
+others_none key [] h = nodes_with_none key
+others_none key (m ∷ ms) h = nodes_with_cons m ms key ∙ cond-false _ _ _ h.0 ∙ others_none key ms h.1
 
 -- keys that go on behind the same bytes by different ones aren't equal in the order
 other_order : (prefix below rest : List ℕ) (x y : ℕ) → x ≢ y → is_eq (order (prefix ++ x ∷ rest) (prefix ++ y ∷ below)) ≡ false
 other_order prefix below rest x y apart = elim (cases_order x y) [
-  | inl less ↦ ap is_eq (order-less prefix rest below x y less)
+  | inl less ↦ ap is_eq (order_less_in_keys prefix rest below x y less)
   | inr upto ↦ elim upto [
     | inl same ↦ absurd (apart same)
-    | inr more ↦ ap is_eq (order-greater prefix rest below x y more)
+    | inr more ↦ ap is_eq (order_greater_in_keys prefix rest below x y more)
   ]
 ]
 
@@ -129,21 +129,21 @@ other_links prefix below edge below_of (l ∷ links) h =
 
 -- links with lesser edges than a byte don't have it as their edge
 pub less_apart : (edge : ℕ) (links : List Link) → AllByRecursion (λ l. l.edge < edge) links → AllByRecursion (λ l. l.edge ≢ edge) links
-less_apart edge links h = all-weaker (λ l. l.edge < edge) (λ l. l.edge ≢ edge) links (λ l less same. omega arith) h
+less_apart edge links h = all_weaker (λ l. l.edge < edge) (λ l. l.edge ≢ edge) links (λ l less same. omega arith) h
 
 -- links with greater edges than a byte don't have it as their edge
 pub more_apart : (edge : ℕ) (links : List Link) → AllByRecursion (λ l. edge < l.edge) links → AllByRecursion (λ l. l.edge ≢ edge) links
-more_apart edge links h = all-weaker (λ l. edge < l.edge) (λ l. l.edge ≢ edge) links (λ l more same. omega arith) h
+more_apart edge links h = all_weaker (λ l. edge < l.edge) (λ l. l.edge ≢ edge) links (λ l more same. omega arith) h
 
 -- a leaf's prefix is the first key of its entries
 pub leaf_first : (levels : ℕ) (b : Blocks) (at : BlockRef) (key : List ℕ) (value : BlockRef) → node_at b at ≡ Leaf key value → is_first (entries (suc levels) b at) key ≡ true
-leaf_first levels b at key value is = ap (λ es. is_first es key) (leaf_entries levels b at key value is) ∙ ap is_eq (order-same key)
+leaf_first levels b at key value is = ap (λ es. is_first es key) (leaf_entries levels b at key value is) ∙ ap is_eq (order_same key)
 
 -- the nodes of a leaf's key are the leaf alone
 pub leaf_nodes : (levels : ℕ) (b : Blocks) (at : BlockRef) (key : List ℕ) (value : BlockRef) → node_at b at ≡ Leaf key value → nodes_with (marks (suc levels) b at) key ≡ at ∷ []
 leaf_nodes levels b at key value is =
-    ap (λ ms. nodes_with ms key) (leaf_marks levels b at key value is) ∙ nodes_with-cons (record { least = key; at = at }) [] key ∙ cond-true _ _ _ (ap is_eq (order-same key))
-    ∙ ap (λ xs. at ∷ xs) (nodes_with-none key)
+    ap (λ ms. nodes_with ms key) (leaf_marks levels b at key value is) ∙ nodes_with_cons (record { least = key; at = at }) [] key ∙ cond-true _ _ _ (ap is_eq (order_same key))
+    ∙ ap (λ xs. at ∷ xs) (nodes_with_none key)
 
 -- links whose number is zero are the empty list
 no_links : (links : List Link) → length links ≡ 0 → links ≡ []
@@ -174,7 +174,7 @@ module _ (b : Blocks) (at to : BlockRef) (bytes key : List ℕ) (place from : �
 
   -- each link of the node names a tree that has an entry
   full : AllByRecursion (λ l. 0 < length (entries (length key) b l.to)) links
-  full = all-weaker (λ l. IsTree (length key) (length key - suc (length s.prefix)) b l.to) (λ l. 0 < length (entries (length key) b l.to)) links
+  full = all_weaker (λ l. IsTree (length key) (length key - suc (length s.prefix)) b l.to) (λ l. 0 < length (entries (length key) b l.to)) links
       (λ l u. tree_some (length key) (length key - suc (length s.prefix)) b l.to u) s.node.below
 
   -- the link names a tree, whose keys are as long as the key's rest
@@ -192,7 +192,7 @@ module _ (b : Blocks) (at to : BlockRef) (bytes key : List ℕ) (place from : �
       ∙ ap (λ ls. is_first (below_links s.prefix (entries (length key) b) (ls ++ link ∷ s.after)) key) (no_links s.before (omega (arith, s.many, zeroth)))
       ∙ ap (is_first (below_links s.prefix (entries (length key) b) (link ∷ s.after))) s.key_is
       ∙ first_under s.prefix s.below s.edge (entries (length key) b to) (below_links s.prefix (entries (length key) b) s.after)
-      (all-middle (λ l. 0 < length (entries (length key) b l.to)) s.before s.after link full)
+      (all_middle (λ l. 0 < length (entries (length key) b l.to)) s.before s.after link full)
       ∙ ap (λ es. is_first es s.below) (sym named.entries_are)
       ∙ ap (is_first (entries_at (length (drop from key)) b to)) (sym rest)
 
@@ -202,7 +202,7 @@ module _ (b : Blocks) (at to : BlockRef) (bytes key : List ℕ) (place from : �
       ap (λ es. is_first es key) entries_below
       ∙ ap (is_first (below_links s.prefix (entries (length key) b) links)) s.key_is
       ∙ first_later s.prefix s.below s.edge (entries (length key) b) s.before (link ∷ s.after) (omega (arith, s.many, other)) s.less
-      (all-front (λ l. 0 < length (entries (length key) b l.to)) s.before (link ∷ s.after) full)
+      (all_front (λ l. 0 < length (entries (length key) b l.to)) s.before (link ∷ s.after) full)
 
   -- the key's nodes below all links of the node are those of its rest in the tree below its own link
   middle : nodes_with (marks_below s.prefix (marks (length key) b) links) key ≡ nodes_with (marks_at (length (drop from key)) b to) (drop from key)
@@ -212,13 +212,13 @@ module _ (b : Blocks) (at to : BlockRef) (bytes key : List ℕ) (place from : �
       let here : List Mark = map (mark_under (s.prefix ++ s.edge ∷ [])) (marks (length key) b to) in
       ap (nodes_with (f links)) s.key_is
       ∙ ap (λ ms. nodes_with ms whole) (flat_map-append (λ l. map (mark_under (s.prefix ++ l.edge ∷ [])) (marks (length key) b l.to)) s.before (link ∷ s.after))
-      ∙ nodes_with-append (f s.before) (here ++ f s.after) whole
+      ∙ nodes_with_append (f s.before) (here ++ f s.after) whole
       ∙ ap (λ xs. xs ++ nodes_with (here ++ f s.after) whole) (others_none whole (f s.before) (other_links s.prefix s.below s.edge (marks (length key) b) s.before (less_apart s.edge s.before s.less)))
-      ∙ nodes_with-append here (f s.after) whole
+      ∙ nodes_with_append here (f s.after) whole
       ∙ ap (λ xs. nodes_with here whole ++ xs) (others_none whole (f s.after) (other_links s.prefix s.below s.edge (marks (length key) b) s.after (more_apart s.edge s.after s.more)))
       ∙ append-nil (nodes_with here whole)
       ∙ ap (nodes_with here) (key_under s.prefix s.below s.edge)
-      ∙ nodes_with-under (s.prefix ++ s.edge ∷ []) s.below (marks (length key) b to)
+      ∙ nodes_with_under (s.prefix ++ s.edge ∷ []) s.below (marks (length key) b to)
       ∙ ap (λ ms. nodes_with ms s.below) (sym named.marks_are)
       ∙ ap (nodes_with (marks_at (length (drop from key)) b to)) (sym rest)
 
@@ -227,7 +227,7 @@ module _ (b : Blocks) (at to : BlockRef) (bytes key : List ℕ) (place from : �
       (nodes_with (marks_at (length (drop from key)) b to) (drop from key))
   nodes_are =
       ap (λ ms. nodes_with ms key) (inner_marks (length key) b at s.prefix links node_is)
-      ∙ nodes_with-cons (record { least = first_key (entries_at (length key) b at); at = at }) (marks_below s.prefix (marks (length key) b) links) key
+      ∙ nodes_with_cons (record { least = first_key (entries_at (length key) b at); at = at }) (marks_below s.prefix (marks (length key) b) links) key
       ∙ ap (λ xs. cond (is_first (entries_at (length key) b at) key) (at ∷ xs) xs) middle
 
   -- under one test, the top node may end the nodes above it or begin those below

@@ -8,8 +8,8 @@ use Rattle.std.proofs.lemmas.Bool.{cond-true}
 use Rattle.blocks.specs.declared.BlockRef.{BlockRef}
 use Rattle.blocks.specs.Blocks.{Blocks, times, live, Changes, Owned, with_block}
 use Rattle.blocks.proofs.Times.{times-append}
-use Rattle.blocks.proofs.Refs.{ref_eq-refl}
-use Rattle.blocks.proofs.Change.{one, live-once, live-is, cases_in, Owned-others, Changes-both, Counts-ended, Changes-counted, Counts-then, Counts-changed, Counts-beside}
+use Rattle.blocks.proofs.Refs.{ref_eq_refl}
+use Rattle.blocks.proofs.Change.{one, live_once, live_is_in_change, cases_in, owned_others, changes_both, counts_ended, changes_counted, counts_then, counts_changed, counts_beside}
 use Rattle.rax_packed.specs.Nodes.{Link, Node, Leaf, Inner, IsNode, IsRef, refs_bytes, ref_from, prefix_from, node_of}
 use Rattle.rax_packed.proofs.Choices.{inner_told, ref_at}
 use Rattle.rax_packed.proofs.Spellings.{node_cases}
@@ -63,7 +63,7 @@ node_own n b at own = subst (λ xs. Owned xs b) (node_refs n b at) own
 -- a block, and the trees of links, are given back one after the other
 module _ (n left : ℕ) (b : Blocks) (at : BlockRef) (links : List Link) (trees : AllByRecursion (λ l. IsTree n left b l.to) links) (own : Owned (at ∷ refs_below n b links) b) where
   here : one at at ≡ 1
-  here = cond-true _ _ _ (ref_eq-refl at)
+  here = cond-true _ _ _ (ref_eq_refl at)
 
   -- after the trees of the first links
   module _ (mid : Blocks) (k : ℕ) (d : Link) (h : k < length links) (gone : Changes b mid (refs_below n b (take k links)) []) where
@@ -75,11 +75,11 @@ module _ (n left : ℕ) (b : Blocks) (at : BlockRef) (links : List Link) (trees 
     all r = ap (λ m. one r at + m) (refs_split n b links k d r h)
 
     pub mid_block : mid at ≡ b at
-    mid_block = Owned-others b mid (refs_below n b (take k links)) [] (at ∷ refs_below n b links) own gone at (omega (arith, here)) (omega (arith, own at, all at, live-once b at, here))
+    mid_block = owned_others b mid (refs_below n b (take k links)) [] (at ∷ refs_below n b links) own gone at (omega (arith, here)) (omega (arith, own at, all at, live_once b at, here))
 
     same : SameTree n b mid (get_or links k d).to
     same = same_tree n b mid (get_or links k d).to
-        (λ r is. Owned-others b mid (refs_below n b (take k links)) [] (at ∷ refs_below n b links) own gone r (omega (arith, all r, is)) (omega (arith, own r, all r, live-once b r, is)))
+        (λ r is. owned_others b mid (refs_below n b (take k links)) [] (at ∷ refs_below n b links) own gone r (omega (arith, all r, is)) (omega (arith, own r, all r, live_once b r, is)))
 
     pub mid_child : Named mid (get_or links k d).to n left
     mid_child = named mid (get_or links k d).to n left (same.tree left (all_at (λ l. IsTree n left b l.to) links k d h trees))
@@ -96,31 +96,31 @@ module _ (n left : ℕ) (b : Blocks) (at : BlockRef) (links : List Link) (trees 
         elim (cases_in r (refs n b (get_or links k d).to)) [
           | inl out ↦ omega (arith, out)
           | inr is ↦
-              (let kept : mid r ≡ b r = Owned-others b mid (refs_below n b (take k links)) [] (at ∷ refs_below n b links) own gone r (omega (arith, all r, is))
-              (omega (arith, own r, all r, live-once b r, is)) in
+              (let kept : mid r ≡ b r = owned_others b mid (refs_below n b (take k links)) [] (at ∷ refs_below n b links) own gone r (omega (arith, all r, is))
+              (omega (arith, own r, all r, live_once b r, is)) in
               let still : live mid r ≡ live b r = ap (λ o. cond (is_some o) 1 0) kept in omega (arith, part, still))
         ]))
 
     pub mid_next : (after : Blocks) → Changes mid after (refs_at left mid (get_or links k d).to) [] → Changes b after (refs_below n b (take (k + 1) links)) []
     mid_next after ended =
         subst (λ xs. Changes b after xs []) (sym (refs_more n b links k d h))
-        (Changes-both b mid after (refs_below n b (take k links)) [] (refs n b (get_or links k d).to) [] first gone (subst (λ xs. Changes mid after xs []) mid_refs ended))
+        (changes_both b mid after (refs_below n b (take k links)) [] (refs n b (get_or links k d).to) [] first gone (subst (λ xs. Changes mid after xs []) mid_refs ended))
 
   -- after all of them
   pub last_block : (mid : Blocks) → Changes b mid (refs_below n b links) [] → mid at ≡ b at
-  last_block mid gone = Owned-others b mid (refs_below n b links) [] (at ∷ refs_below n b links) own gone at (omega (arith, here)) (omega (arith, own at, live-once b at, here))
+  last_block mid gone = owned_others b mid (refs_below n b links) [] (at ∷ refs_below n b links) own gone at (omega (arith, here)) (omega (arith, own at, live_once b at, here))
 
   -- and the block itself
   pub all_gone : (mid after : Blocks) → Changes b mid (refs_below n b links) [] → after ≡ with_block mid at None → Changes b after (at ∷ refs_below n b links) []
   all_gone mid after gone back =
       let part : Owned (refs_below n b links) b = λ r. omega (arith, own r) in
       let same = last_block mid gone in
-      let stands : IsSome (b at) = live-is b at (omega (arith, own at, here)) in
-      let first = Counts-beside b mid (refs_below n b links) [] (at ∷ refs_below n b links) (at ∷ []) (Counts-changed b mid (refs_below n b links) [] part gone) (λ r. one r at)
+      let stands : IsSome (b at) = live_is_in_change b at (omega (arith, own at, here)) in
+      let first = counts_beside b mid (refs_below n b links) [] (at ∷ refs_below n b links) (at ∷ []) (counts_changed b mid (refs_below n b links) [] part gone) (λ r. one r at)
       (λ r. omega arith) (λ r. omega arith) in
-      Changes-counted b after (at ∷ refs_below n b links) [] own
-      (Counts-then b mid after (at ∷ refs_below n b links) (at ∷ []) [] first
-      (Counts-ended mid after at (at ∷ []) [] (subst (λ o. IsSome o) (sym same) stands) back (λ r. omega arith)))
+      changes_counted b after (at ∷ refs_below n b links) [] own
+      (counts_then b mid after (at ∷ refs_below n b links) (at ∷ []) [] first
+      (counts_ended mid after at (at ∷ []) [] (subst (λ o. IsSome o) (sym same) stands) back (λ r. omega arith)))
 
 -- the node that a link names
 pub child_ref : (bytes refs : List ℕ) (place : ℕ) (d : Link) → IsInnerBytes bytes → place < length (links_in (node_of bytes)) → refs ≡ refs_bytes (links_in (node_of bytes))

@@ -6,8 +6,8 @@ use Rattle.std.proofs.lemmas.List.Concat.{flat_map-append}
 use Rattle.blocks.specs.declared.BlockRef.{BlockRef}
 use Rattle.blocks.specs.Blocks.{Blocks, ref_eq, times, IsIn, Changes, Owned, with_block, bytes_at, overwritten}
 use Rattle.blocks.specs.Slabs.{Heap, wants, Calmer}
-use Rattle.blocks.proofs.Refs.{ref_eq-refl}
-use Rattle.blocks.proofs.Change.{one, live-once, Owned-others, Changes-beside, Changes-then, Changes-owned}
+use Rattle.blocks.proofs.Refs.{ref_eq_refl}
+use Rattle.blocks.proofs.Change.{one, live_once, owned_others, changes_beside, changes_then, changes_owned}
 use Rattle.rax_packed.specs.Nodes.{Leaf, IsRef, ref_bytes, node_of}
 use Rattle.rax_packed.specs.Trees.{Entry, Mark, node_at, under, mark_under, entries_in, entries, refs_in, refs, first_key, marks_in, marks, Below, IsTree, entries_at, refs_at, marks_at}
 use Rattle.rax_packed.specs.Trees.{IsTreeAt, Becomes}
@@ -15,7 +15,7 @@ use Rattle.rax_packed.specs.Ways.{LeadsTo, prefix_in, links_in}
 use Rattle.rax_packed.specs.Paths.{is_first, moved, ArePassed}
 use Rattle.rax_packed.proofs.Entries.{below_links, key_under}
 use Rattle.rax_packed.proofs.Frames.{marks_below, same_tree, in_node, inner_marks, leaf_marks}
-use Rattle.rax_packed.proofs.Keys.{order-same}
+use Rattle.rax_packed.proofs.Keys.{order_same}
 use Rattle.rax_packed.proofs.Looks.{Split, Named}
 use Rattle.rax_packed.proofs.Paths.{AreOthers, other_links, less_apart, more_apart, least_under, node_is, entries_below, first_zero, first_other}
 use Rattle.rax_packed.proofs.Steps.{split, below_is, child, link_tree, link_entries, link_changes, link_marks}
@@ -34,7 +34,7 @@ module _ (rest : ℕ) (m n : Blocks) (at new : BlockRef) (t : IsTreeAt rest m at
   -- the blocks of the nodes below the top one are as they were
   kept : (r : BlockRef) → IsIn r below → n r ≡ m r
   kept r is = let all : times r (refs_at rest m at) ≡ one r at + times r below = ap (times r) top in
-      Owned-others m n (at ∷ []) (new ∷ []) (refs_at rest m at) own p r (omega (arith, all, is)) (omega (arith, own r, all, live-once m r, is))
+      owned_others m n (at ∷ []) (new ∷ []) (refs_at rest m at) own p r (omega (arith, all, is)) (omega (arith, own r, all, live_once m r, is))
 
   -- the new reference has the node that the old one had
   node : node_at n new ≡ node_at m at
@@ -78,7 +78,7 @@ module _ (rest : ℕ) (m n : Blocks) (at new : BlockRef) (t : IsTreeAt rest m at
   pub moved_changes : Changes m n (refs_at rest m at) (refs_at rest n new)
   moved_changes =
       subst (Changes m n (refs_at rest m at)) (sym moved_refs) (subst (λ xs. Changes m n xs (new ∷ below)) (sym top)
-      (Changes-beside m n (at ∷ []) (new ∷ []) (at ∷ below) (new ∷ below) p (subst (λ xs. Owned xs m) top own) (λ r. times r below) (λ r. omega arith) (λ r. omega arith)))
+      (changes_beside m n (at ∷ []) (new ∷ []) (at ∷ below) (new ∷ below) p (subst (λ xs. Owned xs m) top own) (λ r. times r below) (λ r. omega arith) (λ r. omega arith)))
 
   -- the tree has become one of the same entries at its new reference
   pub moved_becomes : Becomes rest m n at new (entries_at rest m at)
@@ -124,7 +124,7 @@ passed_others h k key (x ∷ xs) a = (record { least = refl; calm = λ e. (let b
 -- where each node has the reference that it had, none has moved
 pub moved_same : (xs : List Mark) → moved xs xs ≡ 0
 moved_same [] = refl
-moved_same (x ∷ xs) = let here : cond {A = ℕ} (ref_eq x.at x.at) 0 1 ≡ 0 = cond-true _ _ _ (ref_eq-refl x.at) in omega (arith, here, moved_same xs)
+moved_same (x ∷ xs) = let here : cond {A = ℕ} (ref_eq x.at x.at) 0 1 ≡ 0 = cond-true _ _ _ (ref_eq_refl x.at) in omega (arith, here, moved_same xs)
 
 -- in joined lists as many nodes have moved as in both parts together
 pub moved_append : (h k : Heap) (key : List ℕ) (xs us ys vs : List Mark) → ArePassed h k key xs us → moved (xs ++ ys) (us ++ vs) ≡ moved xs us + moved ys vs
@@ -154,7 +154,7 @@ module _ (b n : Blocks) (at new value : BlockRef) (key : List ℕ) (t : IsTreeAt
   pub leaf_passed : (h k : Heap) → wants k new ≡ false → (wants h at ≡ false → new ≡ at) → ArePassed h k key (marks_at (length key) b at) (marks_at (length key) n new)
   leaf_passed h k calm stays =
       subst (λ ms. ArePassed h k key ms (marks_at (length key) n new)) (sym old_leaf) (subst (ArePassed h k key ((record { least = key; at = at }) ∷ [])) (sym new_leaf)
-      (record { least = refl; calm = λ e. calm; others = λ e. (let bad : true ≡ false = sym (ap is_eq (order-same key)) ∙ e in cc); stays = stays }, tt))
+      (record { least = refl; calm = λ e. calm; others = λ e. (let bad : true ≡ false = sym (ap is_eq (order_same key)) ∙ e in cc); stays = stays }, tt))
 
   -- one node has moved where the leaf's new reference is another one, and none where it is the same
   pub leaf_moved : moved (marks_at (length key) b at) (marks_at (length key) n new) ≡ cond (ref_eq at new) 0 1 + 0
@@ -194,7 +194,7 @@ module _ (b mid later n : Blocks) (at to new final : BlockRef) (bytes key : List
 
   -- after the link was written anew, the tree's references are owned
   own_later : Owned (refs_at (length key) later at) later
-  own_later = Changes-owned b later (refs_at (length key) b at) (refs_at (length key) later at) changed
+  own_later = changes_owned b later (refs_at (length key) b at) (refs_at (length key) later at) changed
 
   -- after the link was written anew, the tree has the entries that it had
   same_entries : entries_at (length key) later at ≡ entries_at (length key) b at
@@ -210,7 +210,7 @@ module _ (b mid later n : Blocks) (at to new final : BlockRef) (bytes key : List
   relocated = record {
     tree = moved_tree (length key) later n at final relinked own_later carried p;
     entries_are = moved_entries (length key) later n at final relinked own_later carried p ∙ same_entries;
-    changes = Changes-then b later n (refs_at (length key) b at) (refs_at (length key) later at) (refs_at (length key) n final) changed
+    changes = changes_then b later n (refs_at (length key) b at) (refs_at (length key) later at) (refs_at (length key) n final) changed
         (moved_changes (length key) later n at final relinked own_later carried p);
   }
 

@@ -16,11 +16,11 @@ use Rattle.rax_packed.specs.Trees.{Entry, under, node_at, entries_in, entries, e
 use Rattle.rax_packed.specs.Ways.{prefix_in, links_in, aside, IsInnerBytes, IsByteAhead, PartsAt, Lacks, LeadsTo}
 use Rattle.rax_packed.specs.Turns.{IsBehind}
 use Rattle.rax_packed.specs.Packed.{order, or_else, first_of, last_of, end_of, nearest}
-use Rattle.rax_packed.proofs.Keys.{order-same}
+use Rattle.rax_packed.proofs.Keys.{order_same}
 use Rattle.rax_packed.proofs.Choices.{prefix_told, prefix_len, parts_within}
 use Rattle.rax_packed.proofs.Spellings.{count_most}
 use Rattle.rax_packed.proofs.Entries.{All, below_links, links_less, links_greater, key_under}
-use Rattle.rax_packed.proofs.Ends.{side_of, nearest-parts, nearest-under, nearest-less, nearest-greater, nearest-empty}
+use Rattle.rax_packed.proofs.Ends.{side_of, nearest_parts, nearest_under, nearest_less, nearest_greater, nearest_empty}
 use Rattle.rax_packed.proofs.Frames.{inner_node, inner_entries, leaf_entries}
 use Rattle.rax_packed.proofs.Looks.{Split, node_read, parts_side, link_below}
 use Rattle.rax_packed.proofs.Steps.{split, below_is}
@@ -49,8 +49,8 @@ key_byte node key shared parts = (
 -- the one entry is the nearest to its own key
 one_nearest : (up : Bool) (key : List ℕ) (e : Entry) → e.key ≡ key → nearest up (e ∷ []) key ≡ Some e
 unfolding nearest
-one_nearest true key e is = ap first_of (cond-true _ _ _ (ap (λ o. not (is_lt o)) (ap (λ k. order k key) is ∙ order-same key)))
-one_nearest false key e is = ap last_of (cond-true _ _ _ (ap (λ o. not (is_gt o)) (ap (λ k. order k key) is ∙ order-same key)))
+one_nearest true key e is = ap first_of (cond-true _ _ _ (ap (λ o. not (is_lt o)) (ap (λ k. order k key) is ∙ order_same key)))
+one_nearest false key e is = ap last_of (cond-true _ _ _ (ap (λ o. not (is_gt o)) (ap (λ k. order k key) is ∙ order_same key)))
 
 -- what is found below a link is found at the node, whatever else stands beside the link
 map_some : (front begin : List ℕ) (k : List ℕ) (o other : Option Entry) → Some k ≡ option_map (λ e. (front ++ begin) ++ e.key) o
@@ -101,8 +101,8 @@ module _ (up : Bool) (b : Blocks) (at : BlockRef) (bytes rest front : List ℕ) 
       by_side : (u : Bool) → ((parts.own < parts.other) × All Less rest (entries_at (length rest) b at)) ⊎ ((parts.other < parts.own) × All Greater rest (entries_at (length rest) b at))
           → IsByteAhead u parts.other parts.own → nearest u (entries_at (length rest) b at) rest ≡ end_of u (entries_at (length rest) b at)
       by_side true (inl low) ahead = absurd (omega (arith, low.0))
-      by_side true (inr high) ahead = nearest-greater true rest (entries_at (length rest) b at) high.1
-      by_side false (inl low) ahead = nearest-less false rest (entries_at (length rest) b at) low.1
+      by_side true (inr high) ahead = nearest_greater true rest (entries_at (length rest) b at) high.1
+      by_side false (inl low) ahead = nearest_less false rest (entries_at (length rest) b at) low.1
       by_side false (inr high) ahead = absurd (omega (arith, high.0))
 
   -- where the key leaves the prefix and its byte doesn't come before the node's, no entry of the tree is nearest
@@ -125,10 +125,10 @@ module _ (up : Bool) (b : Blocks) (at : BlockRef) (bytes rest front : List ℕ) 
 
       by_side : (u : Bool) → ((parts.own < parts.other) × All Less rest (entries_at (length rest) b at)) ⊎ ((parts.other < parts.own) × All Greater rest (entries_at (length rest) b at))
           → (IsByteAhead u parts.other parts.own → ⊥) → nearest u (entries_at (length rest) b at) rest ≡ None
-      by_side true (inl low) h = nearest-less true rest (entries_at (length rest) b at) low.1
+      by_side true (inl low) h = nearest_less true rest (entries_at (length rest) b at) low.1
       by_side true (inr high) h = absurd (h high.0)
       by_side false (inl low) h = absurd (h low.0)
-      by_side false (inr high) h = nearest-greater false rest (entries_at (length rest) b at) high.1
+      by_side false (inr high) h = nearest_greater false rest (entries_at (length rest) b at) high.1
 
   -- where no link has the key's byte, the entry at the end of those on one side of its place is nearest
   pub sought_beside : (place from : ℕ) (lacks : Lacks (node_of bytes) rest place from)
@@ -141,9 +141,9 @@ module _ (up : Bool) (b : Blocks) (at : BlockRef) (bytes rest front : List ℕ) 
       let f : Link → List Entry = λ l. map (under (lacks.prefix ++ l.edge ∷ [])) (es l.to) in
       ap (λ xs. nearest up xs rest) (inner_entries n b at lacks.prefix links node ∙ flat_map-append f lacks.before lacks.after)
       ∙ ap (nearest up (below_links lacks.prefix es lacks.before ++ ([] ++ below_links lacks.prefix es lacks.after))) lacks.key_is
-      ∙ nearest-parts up (lacks.prefix ++ lacks.edge ∷ lacks.below) (below_links lacks.prefix es lacks.before) [] (below_links lacks.prefix es lacks.after)
+      ∙ nearest_parts up (lacks.prefix ++ lacks.edge ∷ lacks.below) (below_links lacks.prefix es lacks.before) [] (below_links lacks.prefix es lacks.after)
       (links_less lacks.prefix lacks.below lacks.edge es lacks.before lacks.less) (links_greater lacks.prefix lacks.below lacks.edge es lacks.after lacks.more)
-      ∙ ap (λ o. or_else o (end_of up (side_of up (below_links lacks.prefix es lacks.before) (below_links lacks.prefix es lacks.after)))) (nearest-empty up (lacks.prefix ++ lacks.edge ∷ lacks.below))
+      ∙ ap (λ o. or_else o (end_of up (side_of up (below_links lacks.prefix es lacks.before) (below_links lacks.prefix es lacks.after)))) (nearest_empty up (lacks.prefix ++ lacks.edge ∷ lacks.below))
       ∙ by_side up node
     where
       by_side : (u : Bool) → node_at b at ≡ Inner lacks.prefix (lacks.before ++ lacks.after)
@@ -178,10 +178,10 @@ module _ (up : Bool) (b : Blocks) (at : BlockRef) (bytes rest front : List ℕ) 
         let child = link_below b at bytes rest t read place from to leads in
         ap (λ xs. nearest up xs rest) (inner_entries n b at s.prefix (s.before ++ link ∷ s.after) (inner_is s) ∙ flat_map-append f s.before (link ∷ s.after))
         ∙ ap (nearest up (below_links s.prefix es s.before ++ (map (under begin) (es to) ++ below_links s.prefix es s.after))) s.key_is
-        ∙ nearest-parts up (s.prefix ++ s.edge ∷ s.below) (below_links s.prefix es s.before) (map (under begin) (es to)) (below_links s.prefix es s.after)
+        ∙ nearest_parts up (s.prefix ++ s.edge ∷ s.below) (below_links s.prefix es s.before) (map (under begin) (es to)) (below_links s.prefix es s.after)
         (links_less s.prefix s.below s.edge es s.before s.less) (links_greater s.prefix s.below s.edge es s.after s.more)
         ∙ ap (λ o. or_else o (end_of up (side_of up (below_links s.prefix es s.before) (below_links s.prefix es s.after))))
-        (ap (nearest up (map (under begin) (es to))) (key_under s.prefix s.below s.edge) ∙ nearest-under up begin s.below (es to)
+        (ap (nearest up (map (under begin) (es to))) (key_under s.prefix s.below s.edge) ∙ nearest_under up begin s.below (es to)
         ∙ ap (λ xs. option_map (under begin) (nearest up xs s.below)) (sym child.entries_are)
         ∙ ap (λ k. option_map (under begin) (nearest up (entries_at (length (drop from rest)) b to) k)) (sym (below_is b at to bytes rest place from t read leads)))
       where

@@ -4,7 +4,7 @@ use Rattle.std.proofs.lemmas.List.{map-append}
 use Rattle.std.proofs.lemmas.List.Concat.{flat_map-append}
 use Rattle.blocks.specs.declared.BlockRef.{BlockRef}
 use Rattle.blocks.specs.Blocks.{Blocks, Owned, with_block, bytes_at, overwritten}
-use Rattle.blocks.proofs.Refs.{with_block-same}
+use Rattle.blocks.proofs.Refs.{with_block_same}
 use Rattle.rax_packed.specs.Nodes.{Leaf, IsRef, ref_bytes, node_of}
 use Rattle.rax_packed.specs.Trees.{Entry, Mark, under, mark_under, first_key, entries, marks, entries_at, marks_at, refs_at, node_at, IsTreeAt, Becomes}
 use Rattle.rax_packed.specs.Ways.{LeadsTo}
@@ -56,7 +56,7 @@ module _ (b after : Blocks) (at old value : BlockRef) (bytes key : List ℕ) (t 
   now : LeafAt (length key) after at key value
   now = record {
     bytes = overwritten leaf.bytes (2 + length key) (ref_bytes value);
-    block = ap (λ m. m at) written ∙ with_block-same b at (Some (overwritten (bytes_at b at) (2 + length key) (ref_bytes value)))
+    block = ap (λ m. m at) written ∙ with_block_same b at (Some (overwritten (bytes_at b at) (2 + length key) (ref_bytes value)))
         ∙ ap (λ xs. Some (overwritten xs (2 + length key) (ref_bytes value))) (ap (λ o. unwrap_or o []) leaf.block);
     holds = revalued_bytes leaf.bytes key old value leaf.holds;
     fits = (refl, fits);

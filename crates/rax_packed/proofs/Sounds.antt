@@ -4,7 +4,7 @@ use Rattle.std.proofs.lemmas.List.{length-map}
 use Rattle.blocks.specs.declared.BlockRef.{BlockRef}
 use Rattle.blocks.specs.Blocks.{Blocks, live, Owned}
 use Rattle.blocks.specs.Slabs.{Heap}
-use Rattle.blocks.proofs.Change.{Changes-owned}
+use Rattle.blocks.proofs.Change.{changes_owned}
 use Rattle.rax_packed.specs.declared.tree.PackedTree.{PackedTree}
 use Rattle.rax_packed.specs.Copies.{IsCopy}
 use Rattle.rax_packed.specs.Maps.{root_entries, root_refs, entries_of, refs_of, IsRoot, IsSound}
@@ -30,7 +30,7 @@ sound_root : (b after : Blocks) (now : PackedTree) (old new : BlockRef) (es : Li
     → now.keys ≡ length es → IsSound after now
 sound_root b after now old new es becomes root nodes keys = record {
   stands = subst (λ r. IsRoot after r) (sym root) becomes.tree;
-  owned = subst (λ xs. Owned xs after) (sym (ap (root_refs after) root)) (Changes-owned b after (refs_at 16 b old) (refs_at 16 after new) becomes.changes);
+  owned = subst (λ xs. Owned xs after) (sym (ap (root_refs after) root)) (changes_owned b after (refs_at 16 b old) (refs_at 16 after new) becomes.changes);
   nodes_are = nodes ∙ sym (ap (λ r. length (root_refs after r)) root);
   keys_are = keys ∙ sym (ap length (ap (root_entries after) root ∙ becomes.entries_are));
 }
@@ -99,7 +99,7 @@ pub copy_counts : (b after : Blocks) (tree now : PackedTree) (at new : BlockRef)
     → now.nodes ≡ tree.nodes → now.keys ≡ tree.keys → IsSound after now
 copy_counts b after tree now at new s root copy now_root nodes keys = record {
   stands = subst (λ r. IsRoot after r) (sym now_root) copy.tree;
-  owned = subst (λ xs. Owned xs after) (sym (ap (root_refs after) now_root)) (Changes-owned b after [] (refs_at 16 after new) copy.changes);
+  owned = subst (λ xs. Owned xs after) (sym (ap (root_refs after) now_root)) (changes_owned b after [] (refs_at 16 after new) copy.changes);
   nodes_are = nodes ∙ nodes_at b tree at s root ∙ sym copy.as_many ∙ sym (ap (λ r. length (root_refs after r)) now_root);
   keys_are = keys ∙ keys_at b tree at s root ∙ sym (ap length (ap (root_entries after) now_root ∙ copy.entries_are));
 }

@@ -12,23 +12,23 @@ use Rattle.rax_packed.specs.Nodes.{Link, Node, Leaf, Inner, ref_bytes, edges_of,
 use Rattle.rax_packed.specs.Nodes.{inner_from, node_of, IsNode}
 
 -- a reference is twelve bytes long
-pub length-ref_bytes : (r : BlockRef) → length (ref_bytes r) ≡ 12
+pub length_ref_bytes : (r : BlockRef) → length (ref_bytes r) ≡ 12
 unfolding ref_bytes
-length-ref_bytes r = omega (arith, length-append (little_bytes 8 r.slab) (little_bytes 4 r.slot), length-bytes_low_first 0 8 r.slab, length-bytes_low_first 0 4 r.slot)
+length_ref_bytes r = omega (arith, length-append (little_bytes 8 r.slab) (little_bytes 4 r.slot), length-bytes_low_first 0 8 r.slab, length-bytes_low_first 0 4 r.slot)
 
 -- the references of links are twelve bytes long each
-pub length-refs_bytes : (links : List Link) → length (refs_bytes links) ≡ 12 * length links
-length-refs_bytes [] = refl
-length-refs_bytes (l ∷ links) = omega (arith, length-append (ref_bytes l.to) (refs_bytes links), length-ref_bytes l.to, length-refs_bytes links)
+pub length_refs_bytes : (links : List Link) → length (refs_bytes links) ≡ 12 * length links
+length_refs_bytes [] = refl
+length_refs_bytes (l ∷ links) = omega (arith, length-append (ref_bytes l.to) (refs_bytes links), length_ref_bytes l.to, length_refs_bytes links)
 
 -- the bytes of the references of joined links are those of both parts
-pub refs_bytes-append : (xs ys : List Link) → refs_bytes (xs ++ ys) ≡ refs_bytes xs ++ refs_bytes ys
-refs_bytes-append xs ys = flat_map-append (λ l. ref_bytes l.to) xs ys
+pub refs_bytes_append : (xs ys : List Link) → refs_bytes (xs ++ ys) ≡ refs_bytes xs ++ refs_bytes ys
+refs_bytes_append xs ys = flat_map-append (λ l. ref_bytes l.to) xs ys
 
 -- a reference that code can hold is read back from its bytes, whatever follows them
-pub ref_from-bytes : (r : BlockRef) (more : List ℕ) → IsRef r → ref_from (ref_bytes r ++ more) ≡ r
+pub ref_from_bytes : (r : BlockRef) (more : List ℕ) → IsRef r → ref_from (ref_bytes r ++ more) ≡ r
 unfolding ref_bytes
-ref_from-bytes r more fits =
+ref_from_bytes r more fits =
     let joined : (little_bytes 8 r.slab ++ little_bytes 4 r.slot) ++ more ≡ little_bytes 8 r.slab
     ++ (little_bytes 4 r.slot ++ more) = append_assoc (little_bytes 8 r.slab) (little_bytes 4 r.slot) more in
     let slab : little_number 8 ((little_bytes 8 r.slab ++ little_bytes 4 r.slot) ++ more) ≡ r.slab = ap (little_number 8) joined
@@ -39,15 +39,15 @@ ref_from-bytes r more fits =
     λ i. record { slab = slab i; slot = slot i }
 
 -- links are read back from their edges and the bytes of their references, whatever follows each
-pub links_from-spelled : (links : List Link) (edges refs : List ℕ) → AllByRecursion (λ l. IsRef l.to) links → links_from (length links) (edges_of links ++ edges) (refs_bytes links ++ refs) ≡ links
-links_from-spelled [] edges refs fit = refl
-links_from-spelled (l ∷ links) edges refs fit =
+pub links_from_spelled : (links : List Link) (edges refs : List ℕ) → AllByRecursion (λ l. IsRef l.to) links → links_from (length links) (edges_of links ++ edges) (refs_bytes links ++ refs) ≡ links
+links_from_spelled [] edges refs fit = refl
+links_from_spelled (l ∷ links) edges refs fit =
     let joined : (ref_bytes l.to ++ refs_bytes links) ++ refs ≡ ref_bytes l.to ++ (refs_bytes links ++ refs) = append_assoc (ref_bytes l.to) (refs_bytes links) refs in
-    let to : ref_from ((ref_bytes l.to ++ refs_bytes links) ++ refs) ≡ l.to = ap ref_from joined ∙ ref_from-bytes l.to (refs_bytes links ++ refs) fit.0 in
+    let to : ref_from ((ref_bytes l.to ++ refs_bytes links) ++ refs) ≡ l.to = ap ref_from joined ∙ ref_from_bytes l.to (refs_bytes links ++ refs) fit.0 in
     let rest : drop 12 ((ref_bytes l.to ++ refs_bytes links) ++ refs) ≡ refs_bytes links ++ refs = ap (drop 12) joined
-    ∙ drop_at (ref_bytes l.to) (refs_bytes links ++ refs) 12 (length-ref_bytes l.to) in
+    ∙ drop_at (ref_bytes l.to) (refs_bytes links ++ refs) 12 (length_ref_bytes l.to) in
     let more : links_from (length links) (edges_of links ++ edges) (drop 12 ((ref_bytes l.to ++ refs_bytes links) ++ refs)) ≡ links =
-    ap (links_from (length links) (edges_of links ++ edges)) rest ∙ links_from-spelled links edges refs fit.1 in
+    ap (links_from (length links) (edges_of links ++ edges)) rest ∙ links_from_spelled links edges refs fit.1 in
     λ i. record { edge = l.edge; to = to i } ∷ more i
 
 -- links whose edges rise from a number on and are bytes are at most as many as the bytes from it on
@@ -77,8 +77,8 @@ abbrev pub inner_body : List Link → List ℕ → List ℕ
 inner_body links zeros = little_bytes 2 (length links) ++ (edges_of links ++ (refs_bytes links ++ zeros))
 
 -- the bytes of an inner node are its kind, the length of its prefix, the prefix, and what it has behind that
-inner-spelled : (prefix : List ℕ) (links : List Link) (zeros : List ℕ) → spelled (Inner prefix links) ++ zeros ≡ 1 ∷ length prefix ∷ (prefix ++ inner_body links zeros)
-inner-spelled prefix links zeros = ap (λ xs. 1 ∷ length prefix ∷ xs) (simp append_assoc)
+inner_spelled : (prefix : List ℕ) (links : List Link) (zeros : List ℕ) → spelled (Inner prefix links) ++ zeros ≡ 1 ∷ length prefix ∷ (prefix ++ inner_body links zeros)
+inner_spelled prefix links zeros = ap (λ xs. 1 ∷ length prefix ∷ xs) (simp append_assoc)
 
 -- the number of links, 256 at most, is read back from what an inner node has behind its prefix
 body_count : (links : List Link) (zeros : List ℕ) → length links ≤ 256 → little_number 2 (inner_body links zeros) ≡ length links
@@ -100,7 +100,7 @@ inner_back prefix links zeros few fit =
     ap (λ n. Inner prefix (links_from n (drop 2 body) (drop n (drop 2 body)))) count
     ∙ ap (λ refs. Inner prefix (links_from (length links) (drop 2 body) refs)) (body_refs links zeros)
     ∙ ap (λ edges. Inner prefix (links_from (length links) edges (refs_bytes links ++ zeros))) (body_rest links zeros)
-    ∙ ap (Inner prefix) (links_from-spelled links (refs_bytes links ++ zeros) zeros fit)
+    ∙ ap (Inner prefix) (links_from_spelled links (refs_bytes links ++ zeros) zeros fit)
 
 -- a leaf is read back from its bytes
 leaf_node : (prefix : List ℕ) (value : BlockRef) → IsRef value → node_of (spelled (Leaf prefix value)) ≡ Leaf prefix value
@@ -109,7 +109,7 @@ leaf_node prefix value fit =
     let bytes = spelled (Leaf prefix value) in
     ap (λ p. Leaf p (ref_from (body_from bytes))) (prefix_at 0 prefix (ref_bytes value))
     ∙ ap (λ body. Leaf prefix (ref_from body)) (body_at 0 prefix (ref_bytes value) ∙ sym (append-nil (ref_bytes value)))
-    ∙ ap (Leaf prefix) (ref_from-bytes value [] fit)
+    ∙ ap (Leaf prefix) (ref_from_bytes value [] fit)
 
 -- an inner node is read back from its bytes, whatever follows them
 inner_node : (prefix : List ℕ) (links : List Link) (zeros : List ℕ) → length links ≤ 256 → AllByRecursion (λ l. IsRef l.to) links
@@ -125,7 +125,7 @@ inner_node prefix links zeros few fit =
 pub node_told : (rest : ℕ) (bytes : List ℕ) (node : Node) → HoldsNode bytes node → Fits rest node → node_of bytes ≡ node
 node_told rest bytes (Leaf prefix value) holds fits = ap node_of holds ∙ leaf_node prefix value fits.1
 node_told rest bytes (Inner prefix links) holds fits =
-    ap node_of (holds.1 ∙ inner-spelled prefix links (replicate holds.0 0)) ∙ inner_node prefix links (replicate holds.0 0) (count_most links fits.rising fits.edges) fits.refs
+    ap node_of (holds.1 ∙ inner_spelled prefix links (replicate holds.0 0)) ∙ inner_node prefix links (replicate holds.0 0) (count_most links fits.rising fits.edges) fits.refs
 
 -- so they are bytes of a node
 pub node_held : (rest : ℕ) (bytes : List ℕ) (node : Node) → HoldsNode bytes node → Fits rest node → IsNode rest bytes
@@ -146,8 +146,8 @@ pub record IsLaid (bytes prefix : List ℕ) (links : List Link) : Type 0 where
   pub bytes_are : bytes ≡ spelled (Inner prefix links) ++ replicate zeros 0
 
 -- behind its prefix an inner node takes two bytes, thirteen for each link, and what follows them
-length-inner_body : (links : List Link) (zeros : List ℕ) → length (inner_body links zeros) ≡ 2 + 13 * length links + length zeros
-length-inner_body links zeros =
+length_inner_body : (links : List Link) (zeros : List ℕ) → length (inner_body links zeros) ≡ 2 + 13 * length links + length zeros
+length_inner_body links zeros =
     omega (
       arith,
       length-append (little_bytes 2 (length links)) (edges_of links ++ (refs_bytes links ++ zeros)),
@@ -155,7 +155,7 @@ length-inner_body links zeros =
       length-append
           (refs_bytes links) zeros,
       length-map links (λ l. l.edge),
-      length-refs_bytes links,
+      length_refs_bytes links,
       length-bytes_low_first 0 2 (length links),
     )
 
@@ -163,7 +163,7 @@ length-inner_body links zeros =
 pub laid : (bytes prefix : List ℕ) (links : List Link) → HoldsNode bytes (Inner prefix links) → length links ≤ 256 → IsLaid bytes prefix links
 laid bytes prefix links holds few =
     let zeros = replicate holds.0 0 in
-    let is : bytes ≡ 1 ∷ length prefix ∷ (prefix ++ inner_body links zeros) = holds.1 ∙ inner-spelled prefix links zeros in
+    let is : bytes ≡ 1 ∷ length prefix ∷ (prefix ++ inner_body links zeros) = holds.1 ∙ inner_spelled prefix links zeros in
     let zeros_long : length zeros ≡ holds.0 = length-replicate holds.0 0 in
     let body : body_from bytes ≡ inner_body links zeros = ap body_from is ∙ body_at 1 prefix (inner_body links zeros) in
     record {
@@ -174,7 +174,7 @@ laid bytes prefix links holds few =
       count = ap (little_number 2) body ∙ body_count links zeros few;
       edges = ap (drop 2) body ∙ body_rest links zeros;
       refs = ap (λ xs. drop (length links) (drop 2 xs)) body ∙ body_refs links zeros;
-      long = ap length is ∙ omega (arith, length-append prefix (inner_body links zeros), length-inner_body links zeros, zeros_long);
+      long = ap length is ∙ omega (arith, length-append prefix (inner_body links zeros), length_inner_body links zeros, zeros_long);
       bytes_are = holds.1;
     }
 
@@ -206,8 +206,8 @@ leaf_at rest bytes is node =
     record {
       node_is = is;
       told = ap (λ xs. slice_index xs 1) holds;
-      long = ap length holds ∙ omega (arith, length-append prefix (ref_bytes value), length-ref_bytes value);
-      body = ap (λ xs. length (body_from xs)) holds ∙ ap length (body_at 0 prefix (ref_bytes value)) ∙ length-ref_bytes value;
+      long = ap length holds ∙ omega (arith, length-append prefix (ref_bytes value), length_ref_bytes value);
+      body = ap (λ xs. length (body_from xs)) holds ∙ ap length (body_at 0 prefix (ref_bytes value)) ∙ length_ref_bytes value;
       whole = fits.0;
       bytes_are = holds;
       ref = fits.1;

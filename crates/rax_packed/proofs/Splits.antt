@@ -9,35 +9,35 @@ use Rattle.blocks.specs.declared.BlockRef.{BlockRef}
 use Rattle.blocks.specs.Blocks.{Blocks, times, IsIn, Changes, Owned, with_block}
 use Rattle.blocks.proofs.Times.{times-append}
 use Rattle.std.specs.Prelude.{slice_index}
-use Rattle.blocks.proofs.Change.{one, live-once, live-is, other_than, Changes-counted, with_block-undone}
+use Rattle.blocks.proofs.Change.{one, live_once, live_is_in_change, other_than, changes_counted, with_block_undone}
 use Rattle.rax_packed.proofs.Choices.{prefix_told, prefix_len, parts_within}
 use Rattle.rax_packed.specs.Nodes.{Link, Node, Leaf, Inner, IsInner, IsRef, spelled, node_of, prefix_from, IsNode}
 use Rattle.rax_packed.specs.Trees.{Entry, under, node_at, entries, refs_in, refs, IsTree, entries_at, refs_at, IsTreeAt, Becomes}
 use Rattle.rax_packed.specs.Ways.{PartsAt, fork_links, prefix_in, shortened_by}
 use Rattle.rax_packed.specs.Packed.{with_entry}
-use Rattle.rax_packed.proofs.Entries.{All, below_links, with_entry-parts, key_under}
+use Rattle.rax_packed.proofs.Entries.{All, below_links, with_entry_parts, key_under}
 use Rattle.rax_packed.proofs.Frames.{SameLevels, same_levels, refs_below, SameBelow, same_below, LevelsBelow, levels_below, InnerAt, LeafAt, inner_at, inner_tree, inner_node}
 use Rattle.rax_packed.proofs.Frames.{inner_entries, inner_refs, leaf_at, leaf_tree, leaf_node, leaf_entries, leaf_refs}
 use Rattle.rax_packed.proofs.Growths.{Puts, puts_none, puts_more, Swaps, swaps, put_stays, put_here, ended_stays, fresh_before}
 use Rattle.rax_packed.proofs.Looks.{node_read, parts_side, tree_live, tree_node}
 
 -- keys behind more bytes, in two steps or one
-map-under : (begin more : List ℕ) (edge : ℕ) (es : List Entry) → map (under (begin ++ edge ∷ more)) es ≡ map (under (begin ++ edge ∷ [])) (map (under more) es)
-map-under begin more edge [] = refl
-map-under begin more edge (e ∷ es) =
+map_under : (begin more : List ℕ) (edge : ℕ) (es : List Entry) → map (under (begin ++ edge ∷ more)) es ≡ map (under (begin ++ edge ∷ [])) (map (under more) es)
+map_under begin more edge [] = refl
+map_under begin more edge (e ∷ es) =
     let key : (begin ++ edge ∷ more) ++ e.key ≡ (begin ++ edge ∷ []) ++ (more ++ e.key) = append_assoc begin (edge ∷ more) e.key ∙ sym (append_assoc begin (edge ∷ []) (more ++ e.key)) in
-    let rest = map-under begin more edge es in
+    let rest = map_under begin more edge es in
     λ i. (record { key = key i; value = e.value }) ∷ rest i
 
 -- entries below links behind a longer prefix are those behind its end, with its beginning put before them
-below-under : (begin more : List ℕ) (edge : ℕ) (es : BlockRef → List Entry) (links : List Link)
+below_under : (begin more : List ℕ) (edge : ℕ) (es : BlockRef → List Entry) (links : List Link)
     → below_links (begin ++ edge ∷ more) es links ≡ map (under (begin ++ edge ∷ [])) (below_links more es links)
-below-under begin more edge es [] = refl
-below-under begin more edge es (l ∷ links) =
+below_under begin more edge es [] = refl
+below_under begin more edge es (l ∷ links) =
     let f = begin ++ edge ∷ [] in
     ap (λ p. map (under p) (es l.to) ++ below_links (begin ++ edge ∷ more) es links) (append_assoc begin (edge ∷ more) (l.edge ∷ []))
-    ∙ ap (λ xs. xs ++ below_links (begin ++ edge ∷ more) es links) (map-under begin (more ++ l.edge ∷ []) edge (es l.to))
-    ∙ ap (λ xs. map (under f) (map (under (more ++ l.edge ∷ [])) (es l.to)) ++ xs) (below-under begin more edge es links)
+    ∙ ap (λ xs. xs ++ below_links (begin ++ edge ∷ more) es links) (map_under begin (more ++ l.edge ∷ []) edge (es l.to))
+    ∙ ap (λ xs. map (under f) (map (under (more ++ l.edge ∷ [])) (es l.to)) ++ xs) (below_under begin more edge es links)
     ∙ sym (map-append (under f) (map (under (more ++ l.edge ∷ [])) (es l.to)) (below_links more es links))
 
 -- The node stands in another block with a shorter prefix, and its trees are as they were.
@@ -94,7 +94,7 @@ short_inner n b later at moved links begin rest own inner is stands same =
     let now_is = inner_node left left later moved rest links now in
     record {
       tree = inner_tree left left later moved rest links now;
-      entries_are = inner_entries n b at (begin ++ own ∷ rest) links is ∙ below-under begin rest own (entries n b) links
+      entries_are = inner_entries n b at (begin ++ own ∷ rest) links is ∙ below_under begin rest own (entries n b) links
           ∙ ap (map (under (begin ++ own ∷ []))) (sym (inner_entries left later moved rest links now_is ∙ lower.entries_are rest ∙ same.entries_are rest));
       below = refs_below n b links;
       old_refs = inner_refs n b at (begin ++ own ∷ rest) links is;
@@ -150,11 +150,11 @@ one_entry key value = refl
 -- an entry with a key that is after all others stands last
 last_entry : (es : List Entry) (key : List ℕ) (value : BlockRef) → All Less key es → with_entry es key value ≡ es ++ (record { key = key; value = value }) ∷ []
 last_entry es key value less =
-    ap (λ xs. with_entry xs key value) (sym (append-nil es)) ∙ with_entry-parts key es [] [] less tt value ∙ ap (λ xs. es ++ xs) (append-nil (with_entry [] key value) ∙ one_entry key value)
+    ap (λ xs. with_entry xs key value) (sym (append-nil es)) ∙ with_entry_parts key es [] [] less tt value ∙ ap (λ xs. es ++ xs) (append-nil (with_entry [] key value) ∙ one_entry key value)
 
 -- an entry with a key that is before all others stands first
 first_entry : (es : List Entry) (key : List ℕ) (value : BlockRef) → All Greater key es → with_entry es key value ≡ (record { key = key; value = value }) ∷ es
-first_entry es key value more = with_entry-parts key [] [] es tt more value ∙ ap (λ xs. xs ++ es) (one_entry key value)
+first_entry es key value more = with_entry_parts key [] [] es tt more value ∙ ap (λ xs. xs ++ es) (one_entry key value)
 
 module _ (b later : Blocks) (at leaf moved new : BlockRef) (key : List ℕ) (shared : ℕ) (value : BlockRef) (t : IsTreeAt (length key) b at) (own : Owned (refs_at (length key) b at) b)
     (parts : PartsAt (node_at b at) key shared)
@@ -171,7 +171,7 @@ module _ (b later : Blocks) (at leaf moved new : BlockRef) (key : List ℕ) (sha
   kept : (r : BlockRef) → IsIn r (refs_in (refs (length key) b) (node_at b at)) → later r ≡ b r
   kept r is =
       let all : times r (refs_at (length key) b at) ≡ one r at + times r (refs_in (refs (length key) b) (node_at b at)) = ap (times r) node_refs in
-      changed.kept r (live-is b r (omega (arith, own r, all, is))) (other_than r at (omega (arith, own r, all, live-once b r, is)))
+      changed.kept r (live_is_in_change b r (omega (arith, own r, all, is))) (other_than r at (omega (arith, own r, all, live_once b r, is)))
 
   -- the old node stands in the moved block with the end of its prefix alone, over the same trees
   short : Shortened (length key) (length key - suc (length parts.begin)) b later at moved parts.begin parts.own
@@ -226,7 +226,7 @@ module _ (b later : Blocks) (at leaf moved new : BlockRef) (key : List ℕ) (sha
   done : (ms : List BlockRef) → refs_at (length key) later new ≡ new ∷ ms → ((r : BlockRef) → times r ms ≡ one r moved + (times r short.below + one r leaf))
       → Changes b later (refs_at (length key) b at) (refs_at (length key) later new)
   done ms is in_ms =
-      Changes-counted b later (refs_at (length key) b at) (refs_at (length key) later new) own
+      changes_counted b later (refs_at (length key) b at) (refs_at (length key) later new) own
       (changed.counts (refs_at (length key) b at) (refs_at (length key) later new) (λ r. omega (arith, ap (times r) is, in_ms r, ap (times r) short.old_refs)))
 
   -- the tree has become one at the new reference with the value at the key, and no other block has changed
@@ -319,5 +319,5 @@ split_done b b1 b2 b3 later at leaf moved new key shared value t few own parts f
 pub undone_two : (b b1 b2 b3 b4 : Blocks) (leaf moved : BlockRef) (first second : List ℕ) → b leaf ≡ None → b1 ≡ with_block b leaf (Some first) → b1 moved ≡ None
     → b2 ≡ with_block b1 moved (Some second) → b3 ≡ with_block b2 moved None → b4 ≡ with_block b3 leaf None → b4 ≡ b
 undone_two b b1 b2 b3 b4 leaf moved first second fresh1 put1 fresh2 put2 back1 back2 =
-    let third : b3 ≡ b1 = back1 ∙ ap (λ m. with_block m moved None) put2 ∙ with_block-undone b1 moved (Some second) fresh2 in
-    back2 ∙ ap (λ m. with_block m leaf None) (third ∙ put1) ∙ with_block-undone b leaf (Some first) fresh1
+    let third : b3 ≡ b1 = back1 ∙ ap (λ m. with_block m moved None) put2 ∙ with_block_undone b1 moved (Some second) fresh2 in
+    back2 ∙ ap (λ m. with_block m leaf None) (third ∙ put1) ∙ with_block_undone b leaf (Some first) fresh1

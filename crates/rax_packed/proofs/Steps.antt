@@ -5,19 +5,19 @@ use Rattle.std.specs.Ordering.{is_lt, is_gt}
 use Rattle.std.proofs.lemmas.Bool.{cond-true, cond-false}
 use Rattle.blocks.specs.declared.BlockRef.{BlockRef}
 use Rattle.blocks.specs.Blocks.{Blocks, ref_eq, times, IsOut, Changes, Owned, with_block, bytes_at, overwritten}
-use Rattle.blocks.proofs.Refs.{ref_eq-refl, with_block-same, with_block-other}
-use Rattle.blocks.proofs.Change.{one, live-once, Owned-others, Counts-written, Changes-counted}
+use Rattle.blocks.proofs.Refs.{ref_eq_refl, with_block_same, with_block_other}
+use Rattle.blocks.proofs.Change.{one, live_once, owned_others, counts_written, changes_counted}
 use Rattle.rax_packed.specs.Nodes.{Link, Leaf, Inner, HoldsNode, IsRef, IsNode, node_of, ref_bytes}
 use Rattle.rax_packed.specs.Trees.{Entry, under, mark_under, first_key, entries, refs, marks, IsTree, entries_at, marks_at, refs_at, IsTreeAt, Becomes}
 use Rattle.rax_packed.specs.Ways.{LeadsTo, IsInnerBytes, prefix_in, links_in}
 use Rattle.rax_packed.specs.Packed.{order, with_entry, without}
-use Rattle.rax_packed.proofs.Entries.{below_links, with_entry-link, without-link}
+use Rattle.rax_packed.proofs.Entries.{below_links, with_entry_link, without_link}
 use Rattle.rax_packed.proofs.Frames.{SameLevels, same_levels, refs_below, marks_below, LeafAt, inner_node, inner_entries, inner_refs, leaf_at, leaf_tree, leaf_entries, leaf_refs, leaf_node}
-use Rattle.rax_packed.proofs.Grafts.{three_refs, times-owned_by, owned_by, IsGraft, Grafted, grafted}
-use Rattle.rax_packed.proofs.Keys.{order-same}
+use Rattle.rax_packed.proofs.Grafts.{three_refs, times_owned_by, owned_by, IsGraft, Grafted, grafted}
+use Rattle.rax_packed.proofs.Keys.{order_same}
 use Rattle.rax_packed.proofs.Links.{inner_relinked, revalued_bytes, relinked_bytes}
 use Rattle.rax_packed.proofs.Spellings.{node_told}
-use Rattle.rax_packed.proofs.Looks.{Split, Named, link_split, leads_at, link_below, rest_is, shorter, all-middle, node_read, tree_node}
+use Rattle.rax_packed.proofs.Looks.{Split, Named, link_split, leads_at, link_below, rest_is, shorter, all_middle, node_read, tree_node}
 
 -- the list of one link
 single : List Link → BlockRef → ℕ → List Link
@@ -67,7 +67,7 @@ module _ (b : Blocks) (at to : BlockRef) (bytes key : List ℕ) (place from : �
   times_owns r =
       let middle : times r (refs_below (length key) b ((record { edge = split.edge; to = to }) ∷ [])) ≡ times r (refs_at (length (drop from key)) b to) =
       ap (times r) (append-nil (refs (length key) b to) ∙ sym child.refs_are) in
-      ap (times r) owns_are ∙ times-owned_by r at (refs_below (length key) b split.before) (refs_below (length key) b ((record { edge = split.edge; to = to }) ∷ []))
+      ap (times r) owns_are ∙ times_owned_by r at (refs_below (length key) b split.before) (refs_below (length key) b ((record { edge = split.edge; to = to }) ∷ []))
       (refs_below (length key) b split.after)
       ∙ ap (λ m. one r at + (times r (refs_below (length key) b split.before) + (m + times r (refs_below (length key) b split.after)))) middle
 
@@ -78,14 +78,14 @@ module _ (b : Blocks) (at to : BlockRef) (bytes key : List ℕ) (place from : �
   -- the node's own reference isn't one of the tree below the link
   pub out_below : Owned (refs_at (length key) b at) b → IsOut at (refs_at (length (drop from key)) b to)
   out_below own =
-      let here : one at at ≡ 1 = cond-true _ _ _ (ref_eq-refl at) in
-      omega (arith, own at, times_owns at, here, live-once b at)
+      let here : one at at ≡ 1 = cond-true _ _ _ (ref_eq_refl at) in
+      omega (arith, own at, times_owns at, here, live_once b at)
 
   -- the block is as it was where only the tree below has changed
   pub kept_block : (mid : Blocks) (news : List BlockRef) → Owned (refs_at (length key) b at) b → Changes b mid (refs_at (length (drop from key)) b to) news → mid at ≡ b at
   kept_block mid news own change =
-      let here : one at at ≡ 1 = cond-true _ _ _ (ref_eq-refl at) in
-      Owned-others b mid (refs_at (length (drop from key)) b to) news (refs_at (length key) b at) own change at (omega (arith, times_owns at, here)) (out_below own)
+      let here : one at at ≡ 1 = cond-true _ _ _ (ref_eq_refl at) in
+      owned_others b mid (refs_at (length (drop from key)) b to) news (refs_at (length key) b at) own change at (omega (arith, times_owns at, here)) (out_below own)
 
   -- the tree below has become another, and the node names it
   module _ (mid later : Blocks) (new : BlockRef) (es : List Entry) (own : Owned (refs_at (length key) b at) b) (below : Becomes (length (drop from key)) b mid to new es)
@@ -154,7 +154,7 @@ module _ (b : Blocks) (at to : BlockRef) (bytes key : List ℕ) (place from : �
   step_with value =
       ap (λ es. with_entry es key value) old_entries
       ∙ ap (λ k. with_entry (below_links split.prefix (entries (length key) b) (split.before ++ (record { edge = split.edge; to = to }) ∷ split.after)) k value) split.key_is
-      ∙ with_entry-link split.prefix split.below (entries (length key) b) split.before split.after (record { edge = split.edge; to = to }) split.less split.more value
+      ∙ with_entry_link split.prefix split.below (entries (length key) b) split.before split.after (record { edge = split.edge; to = to }) split.less split.more value
       ∙ ap (λ es. below_links split.prefix (entries (length key) b) split.before ++ (map (under (split.prefix ++ split.edge ∷ [])) es ++ below_links split.prefix (entries (length key) b) split.after))
       (ap (λ es. with_entry es split.below value) (sym child.entries_are) ∙ ap (λ k. with_entry (entries_at (length (drop from key)) b to) k value) (sym below_is))
 
@@ -165,13 +165,13 @@ module _ (b : Blocks) (at to : BlockRef) (bytes key : List ℕ) (place from : �
   step_without =
       ap (λ es. without es key) old_entries
       ∙ ap (λ k. without (below_links split.prefix (entries (length key) b) (split.before ++ (record { edge = split.edge; to = to }) ∷ split.after)) k) split.key_is
-      ∙ without-link split.prefix split.below (entries (length key) b) split.before split.after (record { edge = split.edge; to = to }) split.less split.more
+      ∙ without_link split.prefix split.below (entries (length key) b) split.before split.after (record { edge = split.edge; to = to }) split.less split.more
       ∙ ap (λ es. below_links split.prefix (entries (length key) b) split.before ++ (map (under (split.prefix ++ split.edge ∷ [])) es ++ below_links split.prefix (entries (length key) b) split.after))
       (ap (λ es. without es split.below) (sym child.entries_are) ∙ ap (λ k. without (entries_at (length (drop from key)) b to) k) (sym below_is))
 
   -- the link's reference is one that code can hold
   pub ref_to : IsRef to
-  ref_to = all-middle (λ l. IsRef l.to) split.before split.after (record { edge = split.edge; to = to }) split.node.inner.refs
+  ref_to = all_middle (λ l. IsRef l.to) split.before split.after (record { edge = split.edge; to = to }) split.node.inner.refs
 
   -- where the tree below has come to hold the value under the same reference, so has the tree
   pub set_link : (mid : Blocks) (value : BlockRef) → Owned (refs_at (length key) b at) b
@@ -197,7 +197,7 @@ set_leaf b after at old value bytes key t own read is fits written =
     let stood : bytes_at b at ≡ leaf.bytes = ap (λ o. unwrap_or o []) leaf.block in
     let now : LeafAt (length key) after at key value = record {
       bytes = overwritten leaf.bytes (2 + length key) (ref_bytes value);
-      block = ap (λ m. m at) written ∙ with_block-same b at (Some (overwritten (bytes_at b at) (2 + length key) (ref_bytes value)))
+      block = ap (λ m. m at) written ∙ with_block_same b at (Some (overwritten (bytes_at b at) (2 + length key) (ref_bytes value)))
           ∙ ap (λ xs. Some (overwritten xs (2 + length key) (ref_bytes value))) stood;
       holds = revalued_bytes leaf.bytes key old value leaf.holds;
       fits = (refl, fits);
@@ -206,8 +206,8 @@ set_leaf b after at old value bytes key t own read is fits written =
     let old_refs = leaf_refs (length key) b at key old node in
     let new_refs = leaf_refs (length key) after at key value new_node in
     let es : entries_at (length key) b at ≡ (record { key = key; value = old }) ∷ [] = leaf_entries (length key) b at key old node in
-    let same = order-same key in
-    let here : one at at ≡ 1 = cond-true _ _ _ (ref_eq-refl at) in
+    let same = order_same key in
+    let here : one at at ≡ 1 = cond-true _ _ _ (ref_eq_refl at) in
     let alone : Owned (at ∷ []) b = subst (λ xs. Owned xs b) old_refs own in
     record {
       tree = leaf_tree (length key) (length key) after at key value now;
@@ -216,8 +216,8 @@ set_leaf b after at old value bytes key t own read is fits written =
           ∙ ap (λ xs. xs ++ (record { key = key; value = value }) ∷ cond (is_gt (order key key)) ((record { key = key; value = old }) ∷ []) []) (cond-false _ _ _ (ap is_lt same))
           ∙ ap (λ xs. (record { key = key; value = value }) ∷ xs) (cond-false _ _ _ (ap is_gt same)));
       changes = subst (λ xs. Changes b after xs (refs_at (length key) after at)) (sym old_refs) (subst (Changes b after (at ∷ [])) (sym new_refs)
-          (Changes-counted b after (at ∷ []) (at ∷ []) alone
-          (Counts-written b after at (overwritten (bytes_at b at) (2 + length key) (ref_bytes value)) (at ∷ []) (at ∷ []) (subst (λ o. IsSome o) (sym leaf.block) refl) written
+          (changes_counted b after (at ∷ []) (at ∷ []) alone
+          (counts_written b after at (overwritten (bytes_at b at) (2 + length key) (ref_bytes value)) (at ∷ []) (at ∷ []) (subst (λ o. IsSome o) (sym leaf.block) refl) written
           (omega (arith, here)) (λ r. refl))));
     }
 
@@ -251,9 +251,9 @@ module _ (b mid later : Blocks) (at to new : BlockRef) (bytes key : List ℕ) (p
       let is = written offset at_offset in
       record {
         now = overwritten s.node.bytes offset (ref_bytes new);
-        block = ap (λ m. m at) is ∙ with_block-same mid at (Some (overwritten (bytes_at mid at) offset (ref_bytes new))) ∙ ap (λ xs. Some (overwritten xs offset (ref_bytes new))) stood;
+        block = ap (λ m. m at) is ∙ with_block_same mid at (Some (overwritten (bytes_at mid at) offset (ref_bytes new))) ∙ ap (λ xs. Some (overwritten xs offset (ref_bytes new))) stood;
         holds = relinked_bytes s.node.bytes s.prefix s.before s.after s.edge offset to new s.node.holds refl;
-        others = λ r other. ap (λ m. m r) is ∙ with_block-other mid at r (Some (overwritten (bytes_at mid at) offset (ref_bytes new))) other;
+        others = λ r other. ap (λ m. m r) is ∙ with_block_other mid at r (Some (overwritten (bytes_at mid at) offset (ref_bytes new))) other;
       }
 
   -- after the link was written anew, a tree of keys of the same length stands at the node's reference

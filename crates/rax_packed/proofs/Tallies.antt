@@ -3,9 +3,9 @@ use Rattle.std.proofs.Common.{◌≡◌, ◌∙◌, ℕ, suc, ◌+◌, ◌<◌, 
 use Rattle.std.proofs.lemmas.Bool.{cond-true, cond-false}
 use Rattle.blocks.specs.declared.BlockRef.{BlockRef}
 use Rattle.blocks.specs.Blocks.{Blocks, ref_eq, live, times, Changes, Owned, with_block}
-use Rattle.blocks.proofs.Refs.{ref_eq-refl, cases_ref}
+use Rattle.blocks.proofs.Refs.{ref_eq_refl, cases_ref}
 use Rattle.blocks.proofs.Times.{times-append}
-use Rattle.blocks.proofs.Change.{one, live_written, Counts-changed}
+use Rattle.blocks.proofs.Change.{one, live_written, counts_changed}
 
 -- the list without a reference, once
 abbrev less : BlockRef → List BlockRef → List BlockRef
@@ -26,7 +26,7 @@ less_times : (q r : BlockRef) (xs : List BlockRef) → 0 < times r xs → times 
 less_times q r [] h = absurd (omega arith)
 less_times q r (x ∷ xs) h = elim (cases_ref x r) [
   | inl same ↦
-      (let is : ref_eq x r ≡ true = subst (λ y. ref_eq x y ≡ true) same (ref_eq-refl x) in
+      (let is : ref_eq x r ≡ true = subst (λ y. ref_eq x y ≡ true) same (ref_eq_refl x) in
       let left : less r (x ∷ xs) ≡ xs = cond-true _ _ _ is in
       let here : one q x ≡ one q r = ap (one q) same in
       omega (arith, ap (times q) left, here))
@@ -40,9 +40,9 @@ less_times q r (x ∷ xs) h = elim (cases_ref x r) [
 -- lists in which each reference stands as often are as long
 pub same_many : (xs ys : List BlockRef) → ((r : BlockRef) → times r xs ≡ times r ys) → length xs ≡ length ys
 same_many [] [] same = refl
-same_many [] (y ∷ ys) same = absurd (let here : one y y ≡ 1 = cond-true _ _ _ (ref_eq-refl y) in omega (arith, same y, here))
+same_many [] (y ∷ ys) same = absurd (let here : one y y ≡ 1 = cond-true _ _ _ (ref_eq_refl y) in omega (arith, same y, here))
 same_many (x ∷ xs) ys same =
-    let here : one x x ≡ 1 = cond-true _ _ _ (ref_eq-refl x) in
+    let here : one x x ≡ 1 = cond-true _ _ _ (ref_eq_refl x) in
     let some : 0 < times x ys = omega (arith, same x, here) in
     let rest = same_many xs (less x ys) (λ r. omega (arith, same r, less_times r x ys some)) in
     omega (arith, rest, less_length x ys some)
@@ -51,14 +51,14 @@ same_many (x ∷ xs) ys same =
 pub many : (b after : Blocks) (xs ys old new : List BlockRef) → Owned xs b → Changes b after xs ys → ((r : BlockRef) → live after r + times r old ≡ live b r + times r new)
     → length ys + length old ≡ length xs + length new
 many b after xs ys old new own p told =
-    let all = same_many (ys ++ old) (xs ++ new) (λ r. omega (arith, times-append r ys old, times-append r xs new, (Counts-changed b after xs ys own p).balance r, told r)) in
+    let all = same_many (ys ++ old) (xs ++ new) (λ r. omega (arith, times-append r ys old, times-append r xs new, (counts_changed b after xs ys own p).balance r, told r)) in
     omega (arith, all, length-append ys old, length-append xs new)
 
 -- the same where a part of what it owned has changed, and then nothing went or came
 pub step_many : (b mid later : Blocks) (xs ys old new : List BlockRef) → Owned xs b → Changes b later xs ys → Owned old b → Changes b mid old new
     → ((r : BlockRef) → live later r ≡ live mid r) → length ys + length old ≡ length xs + length new
 step_many b mid later xs ys old new own p part q same =
-    many b later xs ys old new own p (λ r. omega (arith, same r, (Counts-changed b mid old new part q).balance r))
+    many b later xs ys old new own p (λ r. omega (arith, same r, (counts_changed b mid old new part q).balance r))
 
 -- a block that is written stays live, and so do all others
 pub written_live : (m after : Blocks) (at : BlockRef) (bytes : List ℕ) → IsSome (m at) → after ≡ with_block m at (Some bytes) → (r : BlockRef) → live after r ≡ live m r

@@ -89,8 +89,8 @@ behind : (left : ℕ) (front back bytes : List ℕ) → bytes ≡ front ++ back 
 behind left front back bytes e le = omega (arith, ap length e, length-append front back, le)
 
 -- the format of no byte is exact
-pub give-exact : {A : Type 0} (x : A) → Exact (give x)
-give-exact {A = A} x = record {
+pub give_exact : {A : Type 0} (x : A) → Exact (give x)
+give_exact {A = A} x = record {
   takes = λ bytes y rest e. let p = ok_parts x y bytes rest e in ([], p.1, (sym p.0, refl));
   again = λ y word rest h. ap (λ (q : A). done (q, word ++ rest)) (sym h.0) ∙ ap (λ (q : List ℕ). done (y, q ++ rest)) h.1;
   fails = λ bytes kind left e. absurd cc;
@@ -99,8 +99,8 @@ give-exact {A = A} x = record {
 }
 
 -- the format of so many bytes is exact
-pub some_bytes-exact : (n : ℕ) → Exact (some_bytes n)
-some_bytes-exact n = record {
+pub some_bytes_exact : (n : ℕ) → Exact (some_bytes n)
+some_bytes_exact n = record {
   takes = λ bytes y rest e.
       let g = turned_ok (ltb (length bytes) n) (Ended, 0) (take n bytes, drop n bytes) (y, rest) e in
       let p = ok_parts (take n bytes) y (drop n bytes) rest (ap (λ (q : List ℕ × List ℕ). done q) g.1) in
@@ -123,8 +123,8 @@ some_bytes-exact n = record {
 }
 
 -- an exact format and behind it one that is exact for each of its values are exact together
-pub followed-exact : {A B : Type 0} (one : Format A) (next : A → Format B) → Exact one → ((x : A) → Exact (next x)) → Exact (followed one next)
-followed-exact one next e f = record {
+pub followed_exact : {A B : Type 0} (one : Format A) (next : A → Format B) → Exact one → ((x : A) → Exact (next x)) → Exact (followed one next)
+followed_exact one next e f = record {
   takes = λ bytes y rest h.
       let a = bind_ok (one.read bytes) (λ x. (next x.0).read x.1) (y, rest) h in
       let t = e.takes bytes a.0.0 a.0.1 a.1 in
@@ -154,8 +154,8 @@ followed-exact one next e f = record {
 }
 
 -- an exact format whose value must pass a test is exact
-pub checked-exact : {A : Type 0} (is : LoadKind) (skip : ℕ) (test : A → Bool) (one : Format A) → Exact one → Exact (checked is skip test one)
-checked-exact {A = A} is skip test one e = record {
+pub checked_exact : {A : Type 0} (is : LoadKind) (skip : ℕ) (test : A → Bool) (one : Format A) → Exact one → Exact (checked is skip test one)
+checked_exact {A = A} is skip test one e = record {
   takes = λ bytes y rest h.
       let a = bind_ok (one.read bytes) (λ (x : A × List ℕ). cond (test x.0) (done x) (lost (is, length bytes - skip))) (y, rest) h in
       let g = test_ok (test a.0.0) (is, length bytes - skip) a.0 (y, rest) a.2 in
@@ -200,12 +200,12 @@ pub record BranchExact {A : Type 0} (branch : Branch A) : Type 0 where
   pub exact : branch_exact branch
 
 -- a branch that goes on by an exact format is exact
-pub goes-exact : {A : Type 0} (one : Format A) → Exact one → BranchExact (Goes one)
-goes-exact one e = record { exact = e }
+pub goes_exact : {A : Type 0} (one : Format A) → Exact one → BranchExact (Goes one)
+goes_exact one e = record { exact = e }
 
 -- a branch that refuses its byte is exact
-pub refuses-exact : {A : Type 0} (is : LoadKind) → BranchExact {A = A} (Refuses is)
-refuses-exact is = record { exact = tt }
+pub refuses_exact : {A : Type 0} (is : LoadKind) → BranchExact {A = A} (Refuses is)
+refuses_exact is = record { exact = tt }
 
 -- a value that an exact branch reads is spelled by the bytes up to those that are left
 branch_takes : {A : Type 0} (branch : Branch A) → BranchExact branch → (rest : List ℕ) (x : A) (left : List ℕ) → branch_read branch rest ≡ Ok (x, left) → (word : List ℕ)
@@ -253,8 +253,8 @@ first_within {A = A} by e [] kind left h = let p = fault_parts {A = A × List �
 first_within by e (b ∷ bytes) kind left h = branch_within (by b) (e b) bytes kind left h
 
 -- the format whose first byte says what follows is exact, if the branch of each byte is
-pub by_first-exact : {A : Type 0} (by : ℕ → Branch A) → ((b : ℕ) → BranchExact (by b)) → Exact (by_first by)
-by_first-exact {A = A} by e = record {
+pub by_first_exact : {A : Type 0} (by : ℕ → Branch A) → ((b : ℕ) → BranchExact (by b)) → Exact (by_first by)
+by_first_exact {A = A} by e = record {
   takes = first_takes by e;
   again = λ x word rest h. ap (λ (z : List ℕ). first_read by (z ++ rest)) h.2 ∙ branch_again (by h.0) (e h.0) x h.1 rest h.3;
   fails = first_fails by e;
@@ -267,11 +267,11 @@ by_first-exact {A = A} by e = record {
 }
 
 -- the branch that a test picks of two is exact, if both are
-pub pick-exact : {A : Type 0} (b : Bool) (x y : Branch A) → BranchExact x → BranchExact y → BranchExact (pick b x y)
-pick-exact true x y e f = e
-pick-exact false x y e f = f
+pub pick_exact : {A : Type 0} (b : Bool) (x y : Branch A) → BranchExact x → BranchExact y → BranchExact (pick b x y)
+pick_exact true x y e f = e
+pick_exact false x y e f = f
 
 -- an exact branch whose value is seen as another is exact
-pub turned-exact : {A B : Type 0} (of : A → B) (branch : Branch A) → BranchExact branch → BranchExact (turned of branch)
-turned-exact of (Goes one) e = goes-exact _ (followed-exact one (λ x. give (of x)) e.exact (λ x. give-exact (of x)))
-turned-exact of (Refuses is) e = refuses-exact is
+pub turned_exact : {A B : Type 0} (of : A → B) (branch : Branch A) → BranchExact branch → BranchExact (turned of branch)
+turned_exact of (Goes one) e = goes_exact _ (followed_exact one (λ x. give (of x)) e.exact (λ x. give_exact (of x)))
+turned_exact of (Refuses is) e = refuses_exact is

@@ -54,17 +54,17 @@ same_back false false = refl
 
 -- ---- an entry
 
-texts_eq-decides : (xs ys : Texts) → Decides (texts_eq xs ys) (xs ≡ ys)
-texts_eq-decides xs ys = slice_eq-Decides bytes_eq-Decides xs ys (texts_eq xs ys) refl
+texts_eq_decides : (xs ys : Texts) → Decides (texts_eq xs ys) (xs ≡ ys)
+texts_eq_decides xs ys = slice_eq-Decides bytes_eq-Decides xs ys (texts_eq xs ys) refl
 
-has_fields-decides : (same : Bool) (master : Texts) (pairs : List Pair) → Decides (has_fields same master pairs) (HasFields same master pairs)
-has_fields-decides true master pairs = texts_eq-decides (fields_of pairs) master
-has_fields-decides false master pairs =
+has_fields_decides : (same : Bool) (master : Texts) (pairs : List Pair) → Decides (has_fields same master pairs) (HasFields same master pairs)
+has_fields_decides true master pairs = texts_eq_decides (fields_of pairs) master
+has_fields_decides false master pairs =
     Decides-and (nat_lt 0 (length pairs)) (nat_lt (length pairs) (2 ^ 63)) (Decides-ltb 0 (length pairs)) (Decides-ltb (length pairs) (2 ^ 63))
 
-is_after-decides : (before : Option Id) (id : Id) → Decides (is_after before id) (IsAfter before id)
-is_after-decides None id = (λ e. tt, λ h. refl)
-is_after-decides (Some before) id =
+is_after_decides : (before : Option Id) (id : Id) → Decides (is_after before id) (IsAfter before id)
+is_after_decides None id = (λ e. tt, λ h. refl)
+is_after_decides (Some before) id =
     Decides-or (nat_lt before.ms id.ms) ((before.ms == id.ms) && nat_lt before.seq id.seq) (Decides-ltb before.ms id.ms)
     (Decides-and (before.ms == id.ms) (nat_lt before.seq id.seq) (Decides-eqb before.ms id.ms) (Decides-ltb before.seq id.seq))
 
@@ -83,8 +83,8 @@ module _ (key : Id) (master list : Texts) where
 
   parts : Decides (is_entry key master list) ((list ≡ anew) × HasFields (is_same list) master here.pairs)
   parts =
-      Decides-and (texts_eq list anew) (has_fields (is_same list) master here.pairs) (texts_eq-decides list anew)
-      (has_fields-decides (is_same list) master here.pairs)
+      Decides-and (texts_eq list anew) (has_fields (is_same list) master here.pairs) (texts_eq_decides list anew)
+      (has_fields_decides (is_same list) master here.pairs)
 
   -- what is found to be an entry is the one that is read
   entry_found : is_entry key master list ≡ true → IsEntry key master list here (behind_entry master list)
@@ -133,7 +133,7 @@ module _ (key : Id) (master : Texts) where
       let here : Stored = entry_at key master list in
       let behind : Texts = behind_entry master list in
       let both = (Decides-and (is_entry key master list) (is_after before here.id && are_entries key master (Some here.id) n behind) (λ t. t, λ t. t) (λ t. t, λ t. t)).0 e in
-      let more = (Decides-and (is_after before here.id) (are_entries key master (Some here.id) n behind) (is_after-decides before here.id) (λ t. t, λ t. t)).0 both.1 in
+      let more = (Decides-and (is_after before here.id) (are_entries key master (Some here.id) n behind) (is_after_decides before here.id) (λ t. t, λ t. t)).0 both.1 in
       (behind, entry_found key master list both.0, more.0, entries_found n (Some here.id) behind more.1)
 
   entries_back : (es : List Stored) (before : Option Id) (list : Texts) → Begins key master before list es [] → are_entries key master before (length es) list ≡ true
@@ -143,7 +143,7 @@ module _ (key : Id) (master : Texts) where
       let r = reads_entry key master list e b.0 b.1 in
       let n : ℕ = length es in
       let more = entries_back es (Some e.id) b.0 b.3 in
-      let there = (Decides-and (is_after before e.id) (are_entries key master (Some e.id) n b.0) (is_after-decides before e.id) (λ t. t, λ t. t)).1 (b.2, more) in
+      let there = (Decides-and (is_after before e.id) (are_entries key master (Some e.id) n b.0) (is_after_decides before e.id) (λ t. t, λ t. t)).1 (b.2, more) in
       let all = (Decides-and (is_entry key master list) (is_after before e.id && are_entries key master (Some e.id) n b.0) (λ t. t, λ t. t) (λ t. t, λ t. t)).1
       (entry_back key master list e b.0 b.1, there) in
       (λ i. goes before n list (r.0 i) (r.1 i)) ∙ all
@@ -175,7 +175,7 @@ module _ (key : Id) (list : Texts) where
   whole =
       let entries : Bool = are_entries key master None (entry_count list) (behind_head list) in
       let marks : Bool = marked (entries_of key list) == deleted in
-      Decides-and (texts_eq list headed) (nat_lt 0 (length master) && (entries && marks)) (texts_eq-decides list headed)
+      Decides-and (texts_eq list headed) (nat_lt 0 (length master) && (entries && marks)) (texts_eq_decides list headed)
       (Decides-and (nat_lt 0 (length master)) (entries && marks) (Decides-ltb 0 (length master))
       (Decides-and entries marks (λ t. t, λ t. t) (Decides-eqb (marked (entries_of key list)) deleted)))
 
@@ -244,8 +244,8 @@ not_true : (test : Bool) → (test ≡ true → ⊥) → test ≡ false
 not_true true none = absurd (none refl)
 not_true false none = refl
 
-pub node_in-decided : (key : Id) → Decided (node_in key)
-node_in-decided key = record {
+pub node_in_decided : (key : Id) → Decided (node_in key)
+node_in_decided key = record {
   means = λ list es e. means_by key list es (is_node key list) refl e;
   again = λ list es n. ap (λ (b : Bool). cond b (as_entries (entries_of key list)) shape) (node_back key list es n) ∙ ap as_entries (reads_node key list es n);
   breaks = λ list kind e. breaks_by key list kind (is_node key list) refl e;

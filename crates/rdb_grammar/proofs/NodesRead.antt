@@ -14,23 +14,23 @@ use Rattle.rdb_grammar.specs.declared.fault.LoadKind.{LoadKind}
 use Rattle.rdb_grammar.specs.declared.fault.LoadKind.TheVariants as kinds
 use Rattle.rdb_grammar.specs.StreamParts.{Nodes, stored_in, is_above, more_entries, with_entries, node_on}
 use Rattle.rdb_grammar.proofs.PayloadsExact.{next_is, next_fault}
-use Rattle.rdb_grammar.proofs.StreamsExact.{stored_in-decided}
+use Rattle.rdb_grammar.proofs.StreamsExact.{stored_in_decided}
 
 -- where the bytes are a listpack of a node, what is found are its entries
 pub is_read : (key : Id) (bytes : List ℕ) (es : List Stored) → IsPack bytes → IsNode key (texts bytes) → es ≡ entries_of key (texts bytes) → (stored_in key).found bytes ≡ Ok es
 is_read key bytes es pack node e =
     let law = exactly_one bytes in
-    (stored_in-decided key).again bytes es (texts bytes, law.whole pack, subst (λ (x : List Stored). Node key (texts bytes) x) (sym e) node)
+    (stored_in_decided key).again bytes es (texts bytes, law.whole pack, subst (λ (x : List Stored). Node key (texts bytes) x) (sym e) node)
 
 -- where they are no listpack, or one of no node, why
 pub no_pack : (key : Id) (bytes : List ℕ) (fault : PackFault) → IsFault bytes fault → (stored_in key).found bytes ≡ Err kinds.Listpack
-no_pack key bytes fault f = (stored_in-decided key).first bytes kinds.Listpack (inl ((fault, f), refl))
+no_pack key bytes fault f = (stored_in_decided key).first bytes kinds.Listpack (inl ((fault, f), refl))
 
 pub no_node : (key : Id) (bytes : List ℕ) (fault : NodeFault) → IsPack bytes → IsNodeFault key (texts bytes) fault → (stored_in key).found bytes ≡ Err kinds.StreamShape
 no_node key bytes fault pack f =
     let law = exactly_one bytes in
     let none : ¬ (IsNode key (texts bytes)) = λ n. not_both key (texts bytes) (entries_of key (texts bytes)) fault n f in
-    (stored_in-decided key).first bytes kinds.StreamShape (inr (texts bytes, law.whole pack, (none, refl)))
+    (stored_in_decided key).first bytes kinds.StreamShape (inr (texts bytes, law.whole pack, (none, refl)))
 
 module _ (key : Id) (payload : List ℕ) (made : Nodes) where
   abbrev kept : List Stored → Result Nodes LoadKind

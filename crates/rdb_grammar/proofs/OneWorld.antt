@@ -8,8 +8,8 @@ use Rattle.rdb_grammar.specs.Format.{Fault, Format, ◌>>=◌}
 use Rattle.rdb_grammar.specs.Items.{Item, Passed, Deadline, Database, End, Key, item}
 use Rattle.rdb_grammar.specs.Places.{Stands}
 use Rattle.rdb_grammar.specs.Files.{header, State, new_state, is_end, after, file_world, next_in, Items, Reached, sum_field, IsFile, IsFault, InHeader, InItem, InSum, ExactlyOne}
-use Rattle.rdb_grammar.proofs.HeaderExact.{header-exact, sum_field-exact, next_in-exact}
-use Rattle.rdb_grammar.proofs.PartsExact.{item-exact}
+use Rattle.rdb_grammar.proofs.HeaderExact.{header_exact, sum_field_exact, next_in_exact}
+use Rattle.rdb_grammar.proofs.PartsExact.{item_exact}
 use Rattle.rdb_grammar.proofs.Exactly.{Exact, ok_parts}
 use Rattle.rdb_grammar.proofs.Standing.{reads, reads_fault, found, broken}
 use Rattle.rdb_grammar.proofs.Loading.{longer, taken, inside, begins, goes_on, is_file}
@@ -50,7 +50,7 @@ unfolding run Items
 run_items bytes moment [] at old to new n h =
     ap (λ (q : State). run bytes moment n q (drop at bytes)) (sym h.1) ∙ ap (λ (a : ℕ). run bytes moment n new (drop a bytes)) (sym h.0)
 run_items bytes moment (x ∷ xs) at old to new n h =
-    let r : (next_in old).read (drop at bytes) ≡ Ok (x, drop h.0 bytes) = reads (next_in old) (next_in-exact old) x bytes at (h.0) h.1 in
+    let r : (next_in old).read (drop at bytes) ≡ Ok (x, drop h.0 bytes) = reads (next_in old) (next_in_exact old) x bytes at (h.0) h.1 in
     let e : is_end x ≡ false = h.2 in
     let step : run bytes moment (suc (more xs n)) old (drop at bytes) ≡ run bytes moment (more xs n) (after moment old x) (drop h.0 bytes) = rw (r, e) refl in
     step ∙ run_items bytes moment xs (h.0) (after moment old x) to new n h.3
@@ -58,7 +58,7 @@ run_items bytes moment (x ∷ xs) at old to new n h =
 -- reading a file goes on at a place that is reached, in the state there
 run_reached : (bytes : List ℕ) (moment at : ℕ) (state : State) (n : ℕ) (r : Reached bytes moment at state) → verdict bytes moment (more r.items n) ≡ run bytes moment n state (drop at bytes)
 run_reached bytes moment at state n r =
-    let h : header.read bytes ≡ Ok (r.version, drop r.first bytes) = reads header header-exact r.version bytes 0 r.first r.begun in
+    let h : header.read bytes ≡ Ok (r.version, drop r.first bytes) = reads header header_exact r.version bytes 0 r.first r.begun in
     let step : verdict bytes moment (more r.items n) ≡ run bytes moment (more r.items n) new_state (drop r.first bytes) = rw h refl in
     step ∙ run_items bytes moment r.items r.first new_state at state n r.itemised
 
@@ -67,7 +67,7 @@ run_end : (bytes : List ℕ) (moment at : ℕ) (state : State) (ended n : ℕ) �
     → run bytes moment (suc n) state (drop at bytes) ≡ ((sum_field (take ended bytes)).read (drop ended bytes) >>= λ x. Ok (file_world state))
 unfolding run
 run_end bytes moment at state ended n s =
-    let r : (next_in state).read (drop at bytes) ≡ Ok (End, drop ended bytes) = reads (next_in state) (next_in-exact state) End bytes at ended (taken state End bytes at ended s refl) in
+    let r : (next_in state).read (drop at bytes) ≡ Ok (End, drop ended bytes) = reads (next_in state) (next_in_exact state) End bytes at ended (taken state End bytes at ended s refl) in
     let le : ended ≤ length bytes = s.inside in
     let before : length bytes - length (drop ended bytes) ≡ ended = omega (arith, length-drop ended bytes) in
     let step : run bytes moment (suc n) state (drop at bytes) ≡ closing bytes state (drop ended bytes) = rw r refl in
@@ -83,7 +83,7 @@ file_settles bytes moment world f = (
   f.reached.items,
   λ k.
       let s : (sum_field (take f.ended bytes)).read (drop f.ended bytes) ≡ Ok (f.sum, drop f.next bytes) =
-      reads (sum_field (take f.ended bytes)) (sum_field-exact _) f.sum bytes f.ended f.next f.summed in
+      reads (sum_field (take f.ended bytes)) (sum_field_exact _) f.sum bytes f.ended f.next f.summed in
       let last : ((sum_field (take f.ended bytes)).read (drop f.ended bytes) >>= λ x. Ok (file_world f.state)) ≡ Ok (file_world f.state) =
       ap (λ (q : Result (ℕ × List ℕ) Fault). q >>= λ x. Ok (file_world f.state)) s in
       run_reached bytes moment f.at f.state (suc k) f.reached ∙ run_end bytes moment f.at f.state f.ended k f.ends ∙ last ∙ ap (λ (w : World). Ok w) (sym f.means),
@@ -95,20 +95,20 @@ unfolding run
 fault_settles bytes moment which place (InHeader f) = (
   [],
   λ k.
-      let h : header.read bytes ≡ Err (which, length bytes - place) = reads_fault header header-exact bytes 0 which place f in
+      let h : header.read bytes ≡ Err (which, length bytes - place) = reads_fault header header_exact bytes 0 which place f in
       rw h refl,
 )
 fault_settles bytes moment which place (InItem at state r f) = (
   r.items,
   λ k.
-      let h : (next_in state).read (drop at bytes) ≡ Err (which, length bytes - place) = reads_fault (next_in state) (next_in-exact state) bytes at which place f in
+      let h : (next_in state).read (drop at bytes) ≡ Err (which, length bytes - place) = reads_fault (next_in state) (next_in_exact state) bytes at which place f in
       let last : run bytes moment (suc k) state (drop at bytes) ≡ Err (which, length bytes - place) = rw h refl in
       run_reached bytes moment at state (suc k) r ∙ last,
 )
 fault_settles bytes moment which place (InSum at ended state r e f) = (
   r.items,
   λ k.
-      let s : (sum_field (take ended bytes)).read (drop ended bytes) ≡ Err (which, length bytes - place) = reads_fault (sum_field (take ended bytes)) (sum_field-exact _) bytes ended which place f in
+      let s : (sum_field (take ended bytes)).read (drop ended bytes) ≡ Err (which, length bytes - place) = reads_fault (sum_field (take ended bytes)) (sum_field_exact _) bytes ended which place f in
       let last : ((sum_field (take ended bytes)).read (drop ended bytes) >>= λ x. Ok (file_world state)) ≡ Err (which, length bytes - place) =
       ap (λ (q : Result (ℕ × List ℕ) Fault). q >>= λ x. Ok (file_world state)) s in
       run_reached bytes moment at state (suc k) r ∙ run_end bytes moment at state ended k e ∙ last,
@@ -139,10 +139,10 @@ end_is (Key name value) e = absurd cc
 by_sum : (bytes : List ℕ) (moment at : ℕ) (state : State) (ended : ℕ) (r : Result (ℕ × List ℕ) Fault) → Reached bytes moment at state → Stands item End bytes at ended
     → (sum_field (take ended bytes)).read (drop ended bytes) ≡ r → Outcome bytes moment
 by_sum bytes moment at state ended (Ok x) reached s e =
-    let f = found (sum_field (take ended bytes)) (sum_field-exact _) bytes ended (x.0) (x.1) s.inside e in
+    let f = found (sum_field (take ended bytes)) (sum_field_exact _) bytes ended (x.0) (x.1) s.inside e in
     inl (file_world state, is_file bytes moment at state ended (x.0) (length bytes - length x.1) reached s f.stands)
 by_sum bytes moment at state ended (Err d) reached s e =
-    let f = broken (sum_field (take ended bytes)) (sum_field-exact _) bytes ended (d.0) (d.1) s.inside e in
+    let f = broken (sum_field (take ended bytes)) (sum_field_exact _) bytes ended (d.0) (d.1) s.inside e in
     inr (d.0, length bytes - d.1, InSum at ended state reached s f.fails)
 
 -- an item that may stand behind those before it stands as an item
@@ -161,11 +161,11 @@ by_end bytes moment at state x next false e reached s go =
 by_item : (bytes : List ℕ) (moment at : ℕ) (state : State) (r : Result (Item × List ℕ) Fault) → Reached bytes moment at state → (next_in state).read (drop at bytes) ≡ r
     → ((next : ℕ) (state : State) → at < next → Reached bytes moment next state → Outcome bytes moment) → Outcome bytes moment
 by_item bytes moment at state (Ok x) reached e go =
-    let f = found (next_in state) (next_in-exact state) bytes at (x.0) (x.1) (inside bytes moment at state reached) e in
+    let f = found (next_in state) (next_in_exact state) bytes at (x.0) (x.1) (inside bytes moment at state reached) e in
     by_end bytes moment at state (x.0) (length bytes - length x.1) _ refl reached f.stands
     (λ new r. go (length bytes - length x.1) new (longer (x.0) bytes at _ (plain state (x.0) bytes at _ f.stands)) r)
 by_item bytes moment at state (Err d) reached e go =
-    let f = broken (next_in state) (next_in-exact state) bytes at (d.0) (d.1) (inside bytes moment at state reached) e in
+    let f = broken (next_in state) (next_in_exact state) bytes at (d.0) (d.1) (inside bytes moment at state reached) e in
     inr (d.0, length bytes - d.1, InItem at state reached f.fails)
 
 -- from each place that is reached the bytes are a file or have a first fault
@@ -179,10 +179,10 @@ onward bytes moment (suc n) at state lt reached =
 -- whatever the header is read as, the bytes are a file or have a first fault
 by_header : (bytes : List ℕ) (moment : ℕ) (r : Result (List ℕ × List ℕ) Fault) → header.read bytes ≡ r → Outcome bytes moment
 by_header bytes moment (Ok x) e =
-    let f = found header header-exact bytes 0 (x.0) (x.1) (omega arith) e in
+    let f = found header header_exact bytes 0 (x.0) (x.1) (omega arith) e in
     onward bytes moment (suc (length bytes)) _ new_state (omega arith) (begins bytes (x.0) moment _ f.stands)
 by_header bytes moment (Err d) e =
-    let f = broken header header-exact bytes 0 (d.0) (d.1) (omega arith) e in
+    let f = broken header header_exact bytes 0 (d.0) (d.1) (omega arith) e in
     inr (d.0, length bytes - d.1, InHeader f.fails)
 
 -- ---- and only one
@@ -225,7 +225,7 @@ one_part one e x y bytes at next last s t =
 -- no item stands where the end does
 past_end : (x : Item) (bytes : List ℕ) (state : State) (at next ended : ℕ) → Stands item End bytes at ended → Stands (next_in state) x bytes at next → is_end x ≡ false → ⊥
 past_end x bytes state at next ended e s more =
-    let same : End ≡ x = (one_part item item-exact End x bytes at ended next e (plain state x bytes at next s)).0 in
+    let same : End ≡ x = (one_part item item_exact End x bytes at ended next e (plain state x bytes at next s)).0 in
     let both : true ≡ false = ap is_end same ∙ more in
     cc
 
@@ -237,7 +237,7 @@ one_items bytes moment [] [] at to last ended past old new other h e k f = refl
 one_items bytes moment [] (y ∷ ys) at to last ended past old new other h e k f = absurd (past_end y bytes old at k.0 ended (subst (λ a. Stands item End bytes a ended) h.0 e) k.1 k.2)
 one_items bytes moment (x ∷ xs) [] at to last ended past old new other h e k f = absurd (past_end x bytes old at h.0 past (subst (λ a. Stands item End bytes a past) k.0 f) h.1 h.2)
 one_items bytes moment (x ∷ xs) (y ∷ ys) at to last ended past old new other h e k f =
-    let same = one_part item item-exact x y bytes at h.0 k.0 (plain old x bytes at h.0 h.1) (plain old y bytes at k.0 k.1) in
+    let same = one_part item item_exact x y bytes at h.0 k.0 (plain old x bytes at h.0 h.1) (plain old y bytes at k.0 k.1) in
     let P : ℕ → Item → Type 0 = λ n z. Items bytes moment ys n (after moment old z) last other in
     let rest = subst (λ n. P n x) (sym same.1) (subst (P k.0) (sym same.0) k.3) in
     ap (λ z. x ∷ z) (one_items bytes moment xs ys h.0 to last ended past (after moment old x) new other h.3 e rest f) ∙ ap (λ z. z ∷ ys) same.0
@@ -245,7 +245,7 @@ one_items bytes moment (x ∷ xs) (y ∷ ys) at to last ended past old new other
 -- the list of items is the same, of whichever world the bytes are a file
 one_list : (bytes : List ℕ) (moment : ℕ) (a b : World) (f : IsFile bytes moment a) (g : IsFile bytes moment b) → f.reached.items ≡ g.reached.items
 one_list bytes moment a b f g =
-    let begun = one_part header header-exact f.reached.version g.reached.version bytes 0 f.reached.first g.reached.first f.reached.begun g.reached.begun in
+    let begun = one_part header header_exact f.reached.version g.reached.version bytes 0 f.reached.first g.reached.first f.reached.begun g.reached.begun in
     let same = subst (λ n. Items bytes moment g.reached.items n new_state g.at g.state) (sym begun.1) g.reached.itemised in
     one_items bytes moment f.reached.items g.reached.items f.reached.first f.at g.at f.ended g.ended new_state f.state g.state f.reached.itemised f.ends same g.ends
 

@@ -7,7 +7,7 @@ use Rattle.std.proofs.lemmas.Int.{ints}
 use Rattle.int_text.specs.Decimal.{canonical}
 use Rattle.intset.specs.Intset.{IsIntset, HasLength, IsWidth, width_of, count_of, numbers_of}
 use Rattle.intset.specs.Places.{RisesBelow}
-use Rattle.intset.proofs.Halves.{rises-rising}
+use Rattle.intset.proofs.Halves.{rises_rising}
 use Rattle.listpack.specs.declared.fault.PackFault.{PackFault}
 use Rattle.listpack.specs.Pack.{Packs, IsFault}
 use Rattle.listpack.proofs.Laws.{exactly_one}
@@ -15,7 +15,7 @@ use Rattle.plain_world.specs.Worlds.{Value}
 use Rattle.rdb_grammar.specs.declared.fault.LoadKind.{LoadKind}
 use Rattle.rdb_grammar.specs.declared.fault.LoadKind.TheVariants as kinds
 use Rattle.rdb_grammar.specs.Payloads.{texts_or, texts_in, rises, is_intset, numbers_in, paired, scored, pairs_in, scores_in, numbers_on, texts_on, pairs_on, scores_on}
-use Rattle.rdb_grammar.proofs.PayloadsExact.{Decided, told-decided, refined-decided}
+use Rattle.rdb_grammar.proofs.PayloadsExact.{Decided, told_decided, refined_decided}
 
 -- ---- listpacks
 
@@ -58,8 +58,8 @@ module _ (bytes : List ℕ) where
   texts_first (inl p) kind h = absurd ((exactly_one bytes).not_both p.0 h.0.0 p.1 h.0.1)
   texts_first (inr f) kind h = ap of_fault (sym h.1)
 
-pub texts_in-decided : Decided texts_in
-texts_in-decided = record {
+pub texts_in_decided : Decided texts_in
+texts_in_decided = record {
   means = λ bytes list h. texts_means bytes (exactly_one bytes).either list h;
   again = λ bytes list h. texts_again bytes (exactly_one bytes).either list h;
   breaks = λ bytes kind h. texts_breaks bytes (exactly_one bytes).either kind h;
@@ -68,18 +68,18 @@ texts_in-decided = record {
 
 -- ---- intsets
 
-int_lt-decides : (a b : ℤ) → Decides (int_lt a b) (a <ℤ b)
-int_lt-decides a b = (λ e. omega (arith, ints), by (int_lt a b) refl)
+int_lt_decides : (a b : ℤ) → Decides (int_lt a b) (a <ℤ b)
+int_lt_decides a b = (λ e. omega (arith, ints), by (int_lt a b) refl)
   where
     by : (t : Bool) → int_lt a b ≡ t → a <ℤ b → t ≡ true
     by true e h = refl
     by false e h = absurd (omega (arith, ints))
 
-rises-decides : (xs : List ℤ) → Decides (rises xs) (RisesBelow xs (length xs))
-rises-decides [] = (λ e k d lt. absurd (omega arith), λ h. refl)
-rises-decides (x ∷ []) = (λ e k d lt. absurd (omega arith), λ h. refl)
-rises-decides (x ∷ y ∷ xs) =
-    let both = Decides-and (int_lt x y) (rises (y ∷ xs)) (int_lt-decides x y) (rises-decides (y ∷ xs)) in
+rises_decides : (xs : List ℤ) → Decides (rises xs) (RisesBelow xs (length xs))
+rises_decides [] = (λ e k d lt. absurd (omega arith), λ h. refl)
+rises_decides (x ∷ []) = (λ e k d lt. absurd (omega arith), λ h. refl)
+rises_decides (x ∷ y ∷ xs) =
+    let both = Decides-and (int_lt x y) (rises (y ∷ xs)) (int_lt_decides x y) (rises_decides (y ∷ xs)) in
     (λ e. there (both.0 e).0 (both.0 e).1, λ h. both.1 (h 0 x (omega arith), λ k d lt. h (suc k) d (omega arith)))
   where
     there : x <ℤ y → RisesBelow (y ∷ xs) (length (y ∷ xs)) → RisesBelow (x ∷ y ∷ xs) (length (x ∷ y ∷ xs))
@@ -107,14 +107,14 @@ module _ (bytes : List ℕ) where
       Decides-and (nat_le 4 (length bytes)) (is_wide && (is_long && does_rise)) (leb-true 4 (length bytes), le-leb 4 (length bytes))
       (Decides-and is_wide (is_long && does_rise)
       (Decides-or (width == 2) (width == 4 || width == 8) (Decides-eqb width 2) (Decides-or (width == 4) (width == 8) (Decides-eqb width 4) (Decides-eqb width 8)))
-      (Decides-and is_long does_rise (Decides-eqb (length bytes) (8 + width * count_of bytes)) (rises-decides (numbers_of bytes))))
+      (Decides-and is_long does_rise (Decides-eqb (length bytes) (8 + width * count_of bytes)) (rises_decides (numbers_of bytes))))
 
   whole : Parts → IsIntset bytes (numbers_of bytes)
   whole p = record {
     width = record { told = p.0; width = p.1.0 };
     length = p.1.1.0;
     listed = refl;
-    rising = rises-rising (numbers_of bytes) (length (numbers_of bytes)) (omega arith) p.1.1.1;
+    rising = rises_rising (numbers_of bytes) (length (numbers_of bytes)) (omega arith) p.1.1.1;
   }
 
   taken : IsIntset bytes (numbers_of bytes) → Parts
@@ -139,8 +139,8 @@ module _ (bytes : List ℕ) where
   numbers_first true is kind h = absurd (h.0 (whole (parts.0 is)))
   numbers_first false is kind h = ap of_fault (sym h.1)
 
-pub numbers_in-decided : Decided numbers_in
-numbers_in-decided = record {
+pub numbers_in_decided : Decided numbers_in
+numbers_in_decided = record {
   means = λ bytes list h. numbers_means bytes (is_intset bytes) refl list h;
   again = λ bytes list h. numbers_again bytes (is_intset bytes) refl list h;
   breaks = λ bytes kind h. numbers_breaks bytes (is_intset bytes) refl kind h;
@@ -149,20 +149,20 @@ numbers_in-decided = record {
 
 -- ---- values
 
-pub pairs_in-decided : Decided pairs_in
-pairs_in-decided = refined-decided _ _ texts_in-decided (told-decided paired)
+pub pairs_in_decided : Decided pairs_in
+pairs_in_decided = refined_decided _ _ texts_in_decided (told_decided paired)
 
-pub scores_in-decided : Decided scores_in
-scores_in-decided = refined-decided _ _ pairs_in-decided (told-decided scored)
+pub scores_in_decided : Decided scores_in
+scores_in_decided = refined_decided _ _ pairs_in_decided (told_decided scored)
 
-pub numbers_on-decided : (made : Value) → Decided (numbers_on made)
-numbers_on-decided made = refined-decided _ _ numbers_in-decided (told-decided _)
+pub numbers_on_decided : (made : Value) → Decided (numbers_on made)
+numbers_on_decided made = refined_decided _ _ numbers_in_decided (told_decided _)
 
-pub texts_on-decided : (made : Value) → Decided (texts_on made)
-texts_on-decided made = refined-decided _ _ texts_in-decided (told-decided _)
+pub texts_on_decided : (made : Value) → Decided (texts_on made)
+texts_on_decided made = refined_decided _ _ texts_in_decided (told_decided _)
 
-pub pairs_on-decided : (made : Value) → Decided (pairs_on made)
-pairs_on-decided made = refined-decided _ _ pairs_in-decided (told-decided _)
+pub pairs_on_decided : (made : Value) → Decided (pairs_on made)
+pairs_on_decided made = refined_decided _ _ pairs_in_decided (told_decided _)
 
-pub scores_on-decided : (made : Value) → Decided (scores_on made)
-scores_on-decided made = refined-decided _ _ scores_in-decided (told-decided _)
+pub scores_on_decided : (made : Value) → Decided (scores_on made)
+scores_on_decided made = refined_decided _ _ scores_in_decided (told_decided _)

@@ -19,123 +19,123 @@ use Rattle.rdb_grammar.specs.declared.values.Layout.{Layout}
 use Rattle.rdb_grammar.specs.declared.values.StreamType.{StreamType}
 use Rattle.rdb_grammar.specs.declared.values.StreamType.TheVariants as types
 use Rattle.rdb_grammar.specs.declared.values.Layout.TheVariants as layouts
-use Rattle.rdb_grammar.proofs.PayloadsExact.{inside-exact}
-use Rattle.rdb_grammar.proofs.PackedExact.{numbers_on-decided, texts_on-decided, pairs_on-decided, scores_on-decided}
+use Rattle.rdb_grammar.proofs.PayloadsExact.{inside_exact}
+use Rattle.rdb_grammar.proofs.PackedExact.{numbers_on_decided, texts_on_decided, pairs_on_decided, scores_on_decided}
 use Rattle.rdb_grammar.specs.Items.{Part, Whole, Opens, keyed, passed, two, deadline_in, database, whole_behind, opens, packs_in, opens_nodes, streams, part_behind, part, left_of, item}
-pub use Rattle.rdb_grammar.proofs.StringsExact.{number-exact, number_le-exact, length_behind-exact, a_length-exact, head-exact, body-exact, string-exact, in_turn-exact}
-use Rattle.rdb_grammar.proofs.StreamsExact.{stream-exact}
-use Rattle.rdb_grammar.proofs.Exactly.{Exact, BranchExact, goes-exact, refuses-exact, give-exact, some_bytes-exact, followed-exact, checked-exact, pick-exact, turned-exact, by_first-exact}
+pub use Rattle.rdb_grammar.proofs.StringsExact.{number_exact, number_le_exact, length_behind_exact, a_length_exact, head_exact, body_exact, string_exact, in_turn_exact}
+use Rattle.rdb_grammar.proofs.StreamsExact.{stream_exact}
+use Rattle.rdb_grammar.proofs.Exactly.{Exact, BranchExact, goes_exact, refuses_exact, give_exact, some_bytes_exact, followed_exact, checked_exact, pick_exact, turned_exact, by_first_exact}
 
-string_value-exact : Exact string_value
-string_value-exact = followed-exact _ _ string-exact λ text. give-exact _
+string_value_exact : Exact string_value
+string_value_exact = followed_exact _ _ string_exact λ text. give_exact _
 
-value_behind-exact : (b : ℕ) → BranchExact (value_behind b)
-value_behind-exact b =
-    pick-exact (b == code.string) _ _ (goes-exact _ string_value-exact)
-    (pick-exact (is_old b) _ _ (refuses-exact kinds.OldKind) (pick-exact (b == code.old_module || b == code.module_value) _ _ (refuses-exact kinds.Module) (refuses-exact kinds.Kind)))
+value_behind_exact : (b : ℕ) → BranchExact (value_behind b)
+value_behind_exact b =
+    pick_exact (b == code.string) _ _ (goes_exact _ string_value_exact)
+    (pick_exact (is_old b) _ _ (refuses_exact kinds.OldKind) (pick_exact (b == code.old_module || b == code.module_value) _ _ (refuses_exact kinds.Module) (refuses_exact kinds.Kind)))
 
-keyed-exact : (branch : Branch Value) → BranchExact branch → BranchExact (keyed branch)
-keyed-exact (Goes value) e = goes-exact _ (followed-exact _ _ string-exact λ name. followed-exact _ _ e.exact λ x. give-exact _)
-keyed-exact (Refuses is) e = refuses-exact _
+keyed_exact : (branch : Branch Value) → BranchExact branch → BranchExact (keyed branch)
+keyed_exact (Goes value) e = goes_exact _ (followed_exact _ _ string_exact λ name. followed_exact _ _ e.exact λ x. give_exact _)
+keyed_exact (Refuses is) e = refuses_exact _
 
-passed-exact : {A : Type 0} (one : Format A) → Exact one → BranchExact (passed one)
-passed-exact one e = goes-exact _ (followed-exact _ _ e λ x. give-exact _)
+passed_exact : {A : Type 0} (one : Format A) → Exact one → BranchExact (passed one)
+passed_exact one e = goes_exact _ (followed_exact _ _ e λ x. give_exact _)
 
-two-exact : {A : Type 0} (one : Format A) → Exact one → Exact (two one)
-two-exact one e = followed-exact _ _ e λ x. e
+two_exact : {A : Type 0} (one : Format A) → Exact one → Exact (two one)
+two_exact one e = followed_exact _ _ e λ x. e
 
-deadline_in-exact : (w : Width) (unit : ℕ) → Exact (deadline_in w unit)
-deadline_in-exact w unit = followed-exact _ _ (checked-exact _ _ _ _ (number_le-exact w)) λ n. give-exact _
+deadline_in_exact : (w : Width) (unit : ℕ) → Exact (deadline_in w unit)
+deadline_in_exact w unit = followed_exact _ _ (checked_exact _ _ _ _ (number_le_exact w)) λ n. give_exact _
 
-database-exact : Exact database
-database-exact = checked-exact _ _ _ _ a_length-exact
+database_exact : Exact database
+database_exact = checked_exact _ _ _ _ a_length_exact
 
-whole_behind-exact : (b : ℕ) → BranchExact (whole_behind b)
-whole_behind-exact b =
-    pick-exact (b == code.function || b == code.old_function) _ _ (refuses-exact kinds.Functions)
-    (pick-exact (b == code.module_data) _ _ (refuses-exact kinds.Module)
-    (pick-exact (b == code.idle) _ _ (passed-exact _ a_length-exact)
-    (pick-exact _ _ _ (passed-exact _ (some_bytes-exact 1))
-    (pick-exact _ _ _ (passed-exact _ (two-exact _ string-exact))
-    (pick-exact _ _ _ (passed-exact _ (two-exact _ a_length-exact))
-    (pick-exact _ _ _ (goes-exact _ (deadline_in-exact w64 1))
-    (pick-exact _ _ _ (goes-exact _ (deadline_in-exact w32 1000))
-    (pick-exact _ _ _ (goes-exact _ (followed-exact _ _ database-exact λ n. give-exact _))
-    (pick-exact _ _ _ (goes-exact _ (give-exact _)) (keyed-exact _ (value_behind-exact b)))))))))))
+whole_behind_exact : (b : ℕ) → BranchExact (whole_behind b)
+whole_behind_exact b =
+    pick_exact (b == code.function || b == code.old_function) _ _ (refuses_exact kinds.Functions)
+    (pick_exact (b == code.module_data) _ _ (refuses_exact kinds.Module)
+    (pick_exact (b == code.idle) _ _ (passed_exact _ a_length_exact)
+    (pick_exact _ _ _ (passed_exact _ (some_bytes_exact 1))
+    (pick_exact _ _ _ (passed_exact _ (two_exact _ string_exact))
+    (pick_exact _ _ _ (passed_exact _ (two_exact _ a_length_exact))
+    (pick_exact _ _ _ (goes_exact _ (deadline_in_exact w64 1))
+    (pick_exact _ _ _ (goes_exact _ (deadline_in_exact w32 1000))
+    (pick_exact _ _ _ (goes_exact _ (followed_exact _ _ database_exact λ n. give_exact _))
+    (pick_exact _ _ _ (goes_exact _ (give_exact _)) (keyed_exact _ (value_behind_exact b)))))))))))
 
-pub score-exact : Exact score
-score-exact = followed-exact _ _ (checked-exact kinds.ScoreRange 0 is_score _ (number_le-exact w64)) λ word. give-exact _
+pub score_exact : Exact score
+score_exact = followed_exact _ _ (checked_exact kinds.ScoreRange 0 is_score _ (number_le_exact w64)) λ word. give_exact _
 
-fresh-exact : {A : Type 0} (before : Map A) → Exact (fresh before)
-fresh-exact before = checked-exact kinds.DuplicateElement 0 _ string string-exact
+fresh_exact : {A : Type 0} (before : Map A) → Exact (fresh before)
+fresh_exact before = checked_exact kinds.DuplicateElement 0 _ string string_exact
 
-pub with_one-exact : (made : Value) → Exact (with_one made)
-with_one-exact (Str text) = give-exact _
-with_one-exact (ListOf elements) = followed-exact _ _ string-exact λ text. give-exact _
-with_one-exact (SetOf members) = followed-exact _ _ (fresh-exact members) λ text. give-exact _
-with_one-exact (HashOf fields) = followed-exact _ _ (fresh-exact fields) λ text. followed-exact _ _ string-exact λ value. give-exact _
-with_one-exact (SortedOf scores) = followed-exact _ _ (fresh-exact scores) λ text. followed-exact _ _ score-exact λ n. give-exact _
-with_one-exact (StreamOf stream) = give-exact _
+pub with_one_exact : (made : Value) → Exact (with_one made)
+with_one_exact (Str text) = give_exact _
+with_one_exact (ListOf elements) = followed_exact _ _ string_exact λ text. give_exact _
+with_one_exact (SetOf members) = followed_exact _ _ (fresh_exact members) λ text. give_exact _
+with_one_exact (HashOf fields) = followed_exact _ _ (fresh_exact fields) λ text. followed_exact _ _ string_exact λ value. give_exact _
+with_one_exact (SortedOf scores) = followed_exact _ _ (fresh_exact scores) λ text. followed_exact _ _ score_exact λ n. give_exact _
+with_one_exact (StreamOf stream) = give_exact _
 
 -- a payload inside a string is exact
-pub held-exact : (packed : Packed) (made : Value) → Exact (inside string (held packed made))
-held-exact packs.Numbers made = inside-exact string _ string-exact (numbers_on-decided made)
-held-exact packs.Texts made = inside-exact string _ string-exact (texts_on-decided made)
-held-exact packs.Pairs made = inside-exact string _ string-exact (pairs_on-decided made)
-held-exact packs.Scores made = inside-exact string _ string-exact (scores_on-decided made)
+pub held_exact : (packed : Packed) (made : Value) → Exact (inside string (held packed made))
+held_exact packs.Numbers made = inside_exact string _ string_exact (numbers_on_decided made)
+held_exact packs.Texts made = inside_exact string _ string_exact (texts_on_decided made)
+held_exact packs.Pairs made = inside_exact string _ string_exact (pairs_on_decided made)
+held_exact packs.Scores made = inside_exact string _ string_exact (scores_on_decided made)
 
-pub container-exact : Exact container
-container-exact = checked-exact kinds.ListNode 0 is_container a_length a_length-exact
+pub container_exact : Exact container
+container_exact = checked_exact kinds.ListNode 0 is_container a_length a_length_exact
 
-pub with_string-exact : (plain : Bool) (made : Value) → Exact (with_string plain made)
-with_string-exact true made = with_one-exact made
-with_string-exact false made = held-exact packs.Texts made
+pub with_string_exact : (plain : Bool) (made : Value) → Exact (with_string plain made)
+with_string_exact true made = with_one_exact made
+with_string_exact false made = held_exact packs.Texts made
 
-pub with_node-exact : (made : Value) → Exact (with_node made)
-with_node-exact made = followed-exact container (λ n. with_string (n == 1) made) container-exact λ n. with_string-exact (n == 1) made
+pub with_node_exact : (made : Value) → Exact (with_node made)
+with_node_exact made = followed_exact container (λ n. with_string (n == 1) made) container_exact λ n. with_string_exact (n == 1) made
 
-pub laid_on-exact : (layout : Layout) (made : Value) → Exact (laid_on layout made)
-laid_on-exact (layouts.Elements type n) made = in_turn-exact with_one with_one-exact n made
-laid_on-exact (layouts.Packed packed) made = held-exact packed made
-laid_on-exact (layouts.Nodes n) made = in_turn-exact with_node with_node-exact n made
-laid_on-exact (layouts.Stream type) made = stream-exact type
+pub laid_on_exact : (layout : Layout) (made : Value) → Exact (laid_on layout made)
+laid_on_exact (layouts.Elements type n) made = in_turn_exact with_one with_one_exact n made
+laid_on_exact (layouts.Packed packed) made = held_exact packed made
+laid_on_exact (layouts.Nodes n) made = in_turn_exact with_node with_node_exact n made
+laid_on_exact (layouts.Stream type) made = stream_exact type
 
-pub laid-exact : (layout : Layout) → Exact (laid layout)
-laid-exact layout = laid_on-exact layout (without_any (started layout))
+pub laid_exact : (layout : Layout) → Exact (laid layout)
+laid_exact layout = laid_on_exact layout (without_any (started layout))
 
-opens-exact : (type : Collection) → BranchExact (opens type)
-opens-exact type = goes-exact _ (followed-exact _ _ string-exact λ name. followed-exact _ _ a_length-exact λ n. give-exact _)
+opens_exact : (type : Collection) → BranchExact (opens type)
+opens_exact type = goes_exact _ (followed_exact _ _ string_exact λ name. followed_exact _ _ a_length_exact λ n. give_exact _)
 
-packs_in-exact : (packed : Packed) → BranchExact (packs_in packed)
-packs_in-exact packed = goes-exact _ (followed-exact _ _ string-exact λ name. give-exact _)
+packs_in_exact : (packed : Packed) → BranchExact (packs_in packed)
+packs_in_exact packed = goes_exact _ (followed_exact _ _ string_exact λ name. give_exact _)
 
-opens_nodes-exact : BranchExact opens_nodes
-opens_nodes-exact = goes-exact _ (followed-exact _ _ string-exact λ name. followed-exact _ _ a_length-exact λ n. give-exact _)
+opens_nodes_exact : BranchExact opens_nodes
+opens_nodes_exact = goes_exact _ (followed_exact _ _ string_exact λ name. followed_exact _ _ a_length_exact λ n. give_exact _)
 
-streams-exact : (type : StreamType) → BranchExact (streams type)
-streams-exact type = goes-exact _ (followed-exact _ _ string-exact λ name. give-exact _)
+streams_exact : (type : StreamType) → BranchExact (streams type)
+streams_exact type = goes_exact _ (followed_exact _ _ string_exact λ name. give_exact _)
 
-part_behind-exact : (b : ℕ) → BranchExact (part_behind b)
-part_behind-exact b =
-    pick-exact (b == code.list) _ _ (opens-exact of.List)
-    (pick-exact (b == code.set) _ _ (opens-exact of.Set)
-    (pick-exact (b == code.hash) _ _ (opens-exact of.Hash)
-    (pick-exact (b == code.sorted_set) _ _ (opens-exact of.SortedSet)
-    (pick-exact (b == code.intset) _ _ (packs_in-exact packs.Numbers)
-    (pick-exact (b == code.packed_set) _ _ (packs_in-exact packs.Texts)
-    (pick-exact (b == code.packed_hash) _ _ (packs_in-exact packs.Pairs)
-    (pick-exact (b == code.packed_sorted_set) _ _ (packs_in-exact packs.Scores)
-    (pick-exact (b == code.list_of_nodes) _ _ opens_nodes-exact
-    (pick-exact (b == code.stream) _ _ (streams-exact types.First)
-    (pick-exact (b == code.second_stream) _ _ (streams-exact types.Second)
-    (pick-exact (b == code.third_stream) _ _ (streams-exact types.Third) (turned-exact Whole _ (whole_behind-exact b)))))))))))))
+part_behind_exact : (b : ℕ) → BranchExact (part_behind b)
+part_behind_exact b =
+    pick_exact (b == code.list) _ _ (opens_exact of.List)
+    (pick_exact (b == code.set) _ _ (opens_exact of.Set)
+    (pick_exact (b == code.hash) _ _ (opens_exact of.Hash)
+    (pick_exact (b == code.sorted_set) _ _ (opens_exact of.SortedSet)
+    (pick_exact (b == code.intset) _ _ (packs_in_exact packs.Numbers)
+    (pick_exact (b == code.packed_set) _ _ (packs_in_exact packs.Texts)
+    (pick_exact (b == code.packed_hash) _ _ (packs_in_exact packs.Pairs)
+    (pick_exact (b == code.packed_sorted_set) _ _ (packs_in_exact packs.Scores)
+    (pick_exact (b == code.list_of_nodes) _ _ opens_nodes_exact
+    (pick_exact (b == code.stream) _ _ (streams_exact types.First)
+    (pick_exact (b == code.second_stream) _ _ (streams_exact types.Second)
+    (pick_exact (b == code.third_stream) _ _ (streams_exact types.Third) (turned_exact Whole _ (whole_behind_exact b)))))))))))))
 
-pub part-exact : Exact part
-part-exact = by_first-exact part_behind part_behind-exact
+pub part_exact : Exact part
+part_exact = by_first_exact part_behind part_behind_exact
 
-left_of-exact : (p : Part) → Exact (left_of p)
-left_of-exact (Whole x) = give-exact x
-left_of-exact (Opens name layout) = followed-exact _ _ (laid-exact layout) λ value. give-exact _
+left_of_exact : (p : Part) → Exact (left_of p)
+left_of_exact (Whole x) = give_exact x
+left_of_exact (Opens name layout) = followed_exact _ _ (laid_exact layout) λ value. give_exact _
 
-pub item-exact : Exact item
-item-exact = followed-exact part left_of part-exact left_of-exact
+pub item_exact : Exact item
+item_exact = followed_exact part left_of part_exact left_of_exact

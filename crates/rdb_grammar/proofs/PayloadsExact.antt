@@ -12,8 +12,8 @@ pub record Decided {T A : Type 0} (payload : Payload T A) : Type 0 where
   pub first : (t : T) (kind : LoadKind) → payload.Breaks t kind → payload.found t ≡ Err kind
 
 -- what a function tells is decided
-pub told-decided : {T A : Type 0} (by : T → Result A LoadKind) → Decided (told by)
-told-decided by = record { means = λ t x e. e; again = λ t x e. e; breaks = λ t kind e. e; first = λ t kind e. e }
+pub told_decided : {T A : Type 0} (by : T → Result A LoadKind) → Decided (told by)
+told_decided by = record { means = λ t x e. e; again = λ t x e. e; breaks = λ t kind e. e; first = λ t kind e. e }
 
 -- where two steps give an answer, the first gave one, and the second this one from it
 pub next_ok : {A B : Type 0} (r : Result A LoadKind) (f : A → Result B LoadKind) (y : B) → next_found r f ≡ Ok y → (x : A) × (r ≡ Ok x) × (f x ≡ Ok y)
@@ -32,8 +32,8 @@ pub next_fault : {A B : Type 0} (r : Result A LoadKind) (kind : LoadKind) (f : A
 next_fault {A = A} r kind f e = ap (λ (q : Result A LoadKind). next_found q f) e
 
 -- a decided payload whose meaning is decided as another is decided
-pub refined-decided : {T A B : Type 0} (one : Payload T A) (other : Payload A B) → Decided one → Decided other → Decided (refined one other)
-refined-decided one other d e = record {
+pub refined_decided : {T A B : Type 0} (one : Payload T A) (other : Payload A B) → Decided one → Decided other → Decided (refined one other)
+refined_decided one other d e = record {
   means = λ t y h. let a = next_ok (one.found t) other.found y h in (a.0, d.means t a.0 a.1, e.means a.0 y a.2);
   again = λ t y h. next_is (one.found t) h.0 other.found (d.again t h.0 h.1) ∙ e.again h.0 y h.2;
   breaks = λ t kind h.
@@ -66,8 +66,8 @@ placed_err (Ok x) left rest kind place e = absurd cc
 placed_err {A = A} (Err k) left rest kind place e = let p = fault_parts {A = A × List ℕ} k kind left place e in (ap (λ (q : LoadKind). lacked {A = A} q) p.0, p.1)
 
 -- a decided payload inside an exact part is exact
-pub inside-exact : {T A : Type 0} (one : Format T) (payload : Payload T A) → Exact one → Decided payload → Exact (inside one payload)
-inside-exact {T = T} {A = A} one payload e d = record {
+pub inside_exact : {T A : Type 0} (one : Format T) (payload : Payload T A) → Exact one → Decided payload → Exact (inside one payload)
+inside_exact {T = T} {A = A} one payload e d = record {
   takes = λ bytes y rest h.
       let a = bind_ok (one.read bytes) (λ (x : T × List ℕ). placed (payload.found x.0) (length bytes) x.1) (y, rest) h in
       let p = placed_ok (payload.found a.0.0) (length bytes) a.0.1 y rest a.2 in

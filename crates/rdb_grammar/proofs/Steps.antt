@@ -4,8 +4,8 @@ use Rattle.std.proofs.lemmas.List.{length-drop}
 use Rattle.rdb_grammar.specs.declared.fault.LoadKind.{LoadKind}
 use Rattle.rdb_grammar.specs.Format.{Format, Payload, give, followed, checked, inside}
 use Rattle.rdb_grammar.specs.Places.{Stands, Fails}
-use Rattle.rdb_grammar.proofs.Exactly.{Exact, give-exact, followed-exact, checked-exact}
-use Rattle.rdb_grammar.proofs.PayloadsExact.{Decided, inside-exact}
+use Rattle.rdb_grammar.proofs.Exactly.{Exact, give_exact, followed_exact, checked_exact}
+use Rattle.rdb_grammar.proofs.PayloadsExact.{Decided, inside_exact}
 use Rattle.rdb_grammar.proofs.Standing.{reads, reads_fault}
 use Rattle.rdb_grammar.proofs.Partly.{stands_read, fails_read}
 
@@ -14,7 +14,7 @@ abbrev lost : {A : Type 0} → LoadKind → ℕ → Result (A × List ℕ) (Load
 lost which n = Err (which, n)
 
 pub nothing_stands : {A : Type 0} (x : A) (bytes : List ℕ) (at : ℕ) → at ≤ length bytes → Stands (give x) x bytes at at
-nothing_stands x bytes at le = stands_read (give x) (give-exact x) bytes at at x le le refl
+nothing_stands x bytes at le = stands_read (give x) (give_exact x) bytes at at x le le refl
 
 module _ {A B : Type 0} (one : Format A) (next : A → Format B) (e : Exact one) (f : (x : A) → Exact (next x)) where
   -- both parts stand
@@ -25,14 +25,14 @@ module _ {A B : Type 0} (one : Format A) (next : A → Format B) (e : Exact one)
       let whole : (followed one next).read (drop at bytes) ≡ Ok (y, drop to bytes) = rw (r, q) refl in
       let first : at ≤ mid = s.onward in
       let second : mid ≤ length bytes = s.inside in
-      stands_read (followed one next) (followed-exact one next e f) bytes at to y (omega (arith, first, second)) t.inside whole
+      stands_read (followed one next) (followed_exact one next e f) bytes at to y (omega (arith, first, second)) t.inside whole
 
   -- the fault of the first
   pub first_fails : (bytes : List ℕ) (at : ℕ) (which : LoadKind) (place : ℕ) → at ≤ length bytes → Fails one bytes at which place → Fails (followed one next) bytes at which place
   first_fails bytes at which place le d =
       let r : one.read (drop at bytes) ≡ Err (which, length bytes - place) = reads_fault one e bytes at which place d in
       let whole : (followed one next).read (drop at bytes) ≡ Err (which, length bytes - place) = rw r refl in
-      fails_read (followed one next) (followed-exact one next e f) bytes at which place le d.inside whole
+      fails_read (followed one next) (followed_exact one next e f) bytes at which place le d.inside whole
 
   -- the fault of the second
   pub second_fails : (bytes : List ℕ) (at mid : ℕ) (x : A) (which : LoadKind) (place : ℕ) → Stands one x bytes at mid → Fails (next x) bytes mid which place
@@ -43,7 +43,7 @@ module _ {A B : Type 0} (one : Format A) (next : A → Format B) (e : Exact one)
       let whole : (followed one next).read (drop at bytes) ≡ Err (which, length bytes - place) = rw (r, q) refl in
       let first : at ≤ mid = s.onward in
       let second : mid ≤ length bytes = s.inside in
-      fails_read (followed one next) (followed-exact one next e f) bytes at which place (omega (arith, first, second)) d.inside whole
+      fails_read (followed one next) (followed_exact one next e f) bytes at which place (omega (arith, first, second)) d.inside whole
 
 module _ {A : Type 0} (is : LoadKind) (test : A → Bool) (one : Format A) (e : Exact one) where
   -- a part that passes its test
@@ -58,14 +58,14 @@ module _ {A : Type 0} (is : LoadKind) (test : A → Bool) (one : Format A) (e : 
       let whole : (checked is 0 test one).read (drop at bytes) ≡ Err (is, length bytes - at) = rw (r, t) (ap (λ (n : ℕ). lost {A = A} is n) many) in
       let first : at ≤ to = s.onward in
       let second : to ≤ length bytes = s.inside in
-      fails_read (checked is 0 test one) (checked-exact is 0 test one e) bytes at is at (omega (arith, first, second)) (omega (arith, first, second)) whole
+      fails_read (checked is 0 test one) (checked_exact is 0 test one e) bytes at is at (omega (arith, first, second)) (omega (arith, first, second)) whole
 
   -- the part's own fault
   pub part_fails : (bytes : List ℕ) (at : ℕ) (which : LoadKind) (place : ℕ) → at ≤ length bytes → Fails one bytes at which place → Fails (checked is 0 test one) bytes at which place
   part_fails bytes at which place le d =
       let r : one.read (drop at bytes) ≡ Err (which, length bytes - place) = reads_fault one e bytes at which place d in
       let whole : (checked is 0 test one).read (drop at bytes) ≡ Err (which, length bytes - place) = rw r refl in
-      fails_read (checked is 0 test one) (checked-exact is 0 test one e) bytes at which place le d.inside whole
+      fails_read (checked is 0 test one) (checked_exact is 0 test one e) bytes at which place le d.inside whole
 
 module _ {T A : Type 0} (one : Format T) (payload : Payload T A) (e : Exact one) (d : Decided payload) where
   -- a payload that means something
@@ -80,11 +80,11 @@ module _ {T A : Type 0} (one : Format T) (payload : Payload T A) (e : Exact one)
       let whole : (inside one payload).read (drop at bytes) ≡ Err (which, length bytes - at) = rw (r, h) (ap (λ (n : ℕ). lost {A = A} which n) many) in
       let first : at ≤ to = s.onward in
       let second : to ≤ length bytes = s.inside in
-      fails_read (inside one payload) (inside-exact one payload e d) bytes at which at (omega (arith, first, second)) (omega (arith, first, second)) whole
+      fails_read (inside one payload) (inside_exact one payload e d) bytes at which at (omega (arith, first, second)) (omega (arith, first, second)) whole
 
   -- the fault of the part that holds it
   pub holder_fails : (bytes : List ℕ) (at : ℕ) (which : LoadKind) (place : ℕ) → at ≤ length bytes → Fails one bytes at which place → Fails (inside one payload) bytes at which place
   holder_fails bytes at which place le f =
       let r : one.read (drop at bytes) ≡ Err (which, length bytes - place) = reads_fault one e bytes at which place f in
       let whole : (inside one payload).read (drop at bytes) ≡ Err (which, length bytes - place) = rw r refl in
-      fails_read (inside one payload) (inside-exact one payload e d) bytes at which place le f.inside whole
+      fails_read (inside one payload) (inside_exact one payload e d) bytes at which place le f.inside whole

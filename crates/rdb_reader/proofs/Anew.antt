@@ -6,7 +6,7 @@ use Rattle.std.specs.Cmp.Lexicographic.{slice_cmp}
 use Rattle.blocks.specs.declared.BlockRef.{BlockRef}
 use Rattle.blocks.specs.Blocks.{Blocks, Changes, Owned, no_blocks, ref_eq, times, bytes_at}
 use Rattle.blocks.proofs.Change.{one_if}
-use Rattle.blocks.proofs.Refs.{ref_eq-refl}
+use Rattle.blocks.proofs.Refs.{ref_eq_refl}
 use Rattle.std.proofs.lemmas.Bool.{cond-true}
 use Rattle.rehash_dict.proofs.Keys.{live_bytes}
 use Rattle.plain_world.specs.Worlds.{World, Entry, new_world, look, put}
@@ -25,7 +25,7 @@ use Rattle.keyspace.specs.Databases.{Bases, means, table_at}
 use Rattle.keyspace.specs.Sound.{IsArranged, IsIntact, IsIntactWith, Sound, SoundBeside}
 use Rattle.keyspace.specs.Scopes.{one_key, Within}
 use Rattle.keyspace.specs.Values.{value_of, value_refs, value_own, encoding_of, IsSound}
-use Rattle.keyspace.proofs.Uses.{sound_is_intact, Changed-sound, Changed-means}
+use Rattle.keyspace.proofs.Uses.{sound_is_intact, changed_sound_in_uses, changed_means}
 use Rattle.rdb_reader.specs.Loads.{any_key}
 use Rattle.rdb_reader.specs.Forms.{IsNewAs, IsNew, AreNew}
 
@@ -93,10 +93,10 @@ none_left xs r = omega arith
 -- the blocks of a value beside the databases are given back
 module _ (bases : Bases) (m after : Blocks) (out : List BlockRef) (sound : SoundBeside bases m out) (p : Changes m after out []) where
   pub given_sound : Sound bases after
-  given_sound = Changed-sound bases m after out [] out [] sound p (whole_part out) (none_left out)
+  given_sound = changed_sound_in_uses bases m after out [] out [] sound p (whole_part out) (none_left out)
 
   pub given_means : (db : ℕ) → means db bases after ≡ means db bases m
-  given_means = Changed-means bases m after out [] out [] sound p (whole_part out)
+  given_means = changed_means bases m after out [] out [] sound p (whole_part out)
 
   pub given_within : Within any_key bases bases m after
   given_within = store_within bases m after out out [] sound p (whole_part out)
@@ -122,7 +122,7 @@ all_parts xs r = omega arith
 -- what is owned without a block is nothing
 pub refs_none : (xs : List BlockRef) → Owned xs no_blocks → xs ≡ []
 refs_none [] own = refl
-refs_none (x ∷ xs) own = absurd (let itself : one_if (ref_eq x x) ≡ 1 = cond-true _ _ _ (ref_eq-refl x) in omega (arith, itself, own x))
+refs_none (x ∷ xs) own = absurd (let itself : one_if (ref_eq x x) ≡ 1 = cond-true _ _ _ (ref_eq_refl x) in omega (arith, itself, own x))
 
 pub none_owned : (m : Blocks) → Owned [] m
 none_owned m r = omega arith

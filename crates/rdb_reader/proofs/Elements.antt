@@ -14,8 +14,8 @@ use Rattle.rdb_grammar.specs.declared.values.Layout.{Layout}
 use Rattle.rdb_grammar.specs.Elements.{Map, fresh, with_one, without_any}
 use Rattle.rdb_grammar.specs.Layouts.{started, laid_on}
 use Rattle.rdb_grammar.specs.Places.{Stands, Fails}
-use Rattle.rdb_grammar.proofs.StringsExact.{string-exact}
-use Rattle.rdb_grammar.proofs.PartsExact.{score-exact, with_one-exact}
+use Rattle.rdb_grammar.proofs.StringsExact.{string_exact}
+use Rattle.rdb_grammar.proofs.PartsExact.{score_exact, with_one_exact}
 use Rattle.rdb_grammar.proofs.Standing.{reads, reads_fault}
 use Rattle.rdb_grammar.proofs.Partly.{stands_read, fails_read}
 use Rattle.rdb_grammar.proofs.Turns.{GoesOn, one_fails}
@@ -42,13 +42,13 @@ module _ (bytes : List ℕ) (at next : ℕ) (text : List ℕ) (s : Stands string
   within = let first : at ≤ next = s.onward in let second : next ≤ length bytes = s.inside in omega (arith, first, second)
 
   read : string.read (drop at bytes) ≡ Ok (text, drop next bytes)
-  read = reads string string-exact text bytes at next s
+  read = reads string string_exact text bytes at next s
 
   -- an element of a list
   pub pushed : (elements : List (List ℕ)) → Stands (with_one (ListOf elements)) (ListOf (elements ++ text ∷ [])) bytes at next
   pushed elements =
       let whole : (with_one (ListOf elements)).read (drop at bytes) ≡ Ok (ListOf (elements ++ text ∷ []), drop next bytes) = rw read refl in
-      stands_read (with_one (ListOf elements)) (with_one-exact (ListOf elements)) bytes at next (ListOf (elements ++ text ∷ [])) within s.inside whole
+      stands_read (with_one (ListOf elements)) (with_one_exact (ListOf elements)) bytes at next (ListOf (elements ++ text ∷ [])) within s.inside whole
 
   module _ {A : Type 0} (before : Map A) where
     fresh_read : is_none (get before text) ≡ true → (fresh before).read (drop at bytes) ≡ Ok (text, drop next bytes)
@@ -64,52 +64,52 @@ module _ (bytes : List ℕ) (at next : ℕ) (text : List ℕ) (s : Stands string
   pub joined : (members : Map (Unit {0})) → true ≡ not (is_some (get members text)) → Stands (with_one (SetOf members)) (SetOf (insert members text tt)) bytes at next
   joined members new =
       let whole : (with_one (SetOf members)).read (drop at bytes) ≡ Ok (SetOf (insert members text tt), drop next bytes) = rw (fresh_read members (none_not _ true new)) refl in
-      stands_read (with_one (SetOf members)) (with_one-exact (SetOf members)) bytes at next (SetOf (insert members text tt)) within s.inside whole
+      stands_read (with_one (SetOf members)) (with_one_exact (SetOf members)) bytes at next (SetOf (insert members text tt)) within s.inside whole
 
   pub joined_twice : (members : Map (Unit {0})) → false ≡ not (is_some (get members text)) → Fails (with_one (SetOf members)) bytes at kinds.DuplicateElement at
   joined_twice members old =
       let whole : (with_one (SetOf members)).read (drop at bytes) ≡ Err (kinds.DuplicateElement, length bytes - at) = rw (twice_read members (none_not _ false old)) refl in
-      fails_read (with_one (SetOf members)) (with_one-exact (SetOf members)) bytes at kinds.DuplicateElement at within within whole
+      fails_read (with_one (SetOf members)) (with_one_exact (SetOf members)) bytes at kinds.DuplicateElement at within within whole
 
   pub field_twice : (fields : Map (List ℕ)) → false ≡ not (is_some (get fields text)) → Fails (with_one (HashOf fields)) bytes at kinds.DuplicateElement at
   field_twice fields old =
       let whole : (with_one (HashOf fields)).read (drop at bytes) ≡ Err (kinds.DuplicateElement, length bytes - at) = rw (twice_read fields (none_not _ false old)) refl in
-      fails_read (with_one (HashOf fields)) (with_one-exact (HashOf fields)) bytes at kinds.DuplicateElement at within within whole
+      fails_read (with_one (HashOf fields)) (with_one_exact (HashOf fields)) bytes at kinds.DuplicateElement at within within whole
 
   pub score_twice : (scores : Map ℤ) → false ≡ not (is_some (get scores text)) → Fails (with_one (SortedOf scores)) bytes at kinds.DuplicateElement at
   score_twice scores old =
       let whole : (with_one (SortedOf scores)).read (drop at bytes) ≡ Err (kinds.DuplicateElement, length bytes - at) = rw (twice_read scores (none_not _ false old)) refl in
-      fails_read (with_one (SortedOf scores)) (with_one-exact (SortedOf scores)) bytes at kinds.DuplicateElement at within within whole
+      fails_read (with_one (SortedOf scores)) (with_one_exact (SortedOf scores)) bytes at kinds.DuplicateElement at within within whole
 
   -- a field and its value
   pub field_set : (fields : Map (List ℕ)) (value : List ℕ) (last : ℕ) → Stands string value bytes next last → true ≡ not (is_some (get fields text))
       → Stands (with_one (HashOf fields)) (HashOf (insert fields text value)) bytes at last
   field_set fields value last t new =
-      let other : string.read (drop next bytes) ≡ Ok (value, drop last bytes) = reads string string-exact value bytes next last t in
+      let other : string.read (drop next bytes) ≡ Ok (value, drop last bytes) = reads string string_exact value bytes next last t in
       let whole : (with_one (HashOf fields)).read (drop at bytes) ≡ Ok (HashOf (insert fields text value), drop last bytes) = rw (fresh_read fields (none_not _ true new), other) refl in
-      stands_read (with_one (HashOf fields)) (with_one-exact (HashOf fields)) bytes at last (HashOf (insert fields text value)) within t.inside whole
+      stands_read (with_one (HashOf fields)) (with_one_exact (HashOf fields)) bytes at last (HashOf (insert fields text value)) within t.inside whole
 
   pub value_fails : (fields : Map (List ℕ)) (which : LoadKind) (place : ℕ) → Fails string bytes next which place → true ≡ not (is_some (get fields text))
       → Fails (with_one (HashOf fields)) bytes at which place
   value_fails fields which place f new =
-      let other : string.read (drop next bytes) ≡ Err (which, length bytes - place) = reads_fault string string-exact bytes next which place f in
+      let other : string.read (drop next bytes) ≡ Err (which, length bytes - place) = reads_fault string string_exact bytes next which place f in
       let whole : (with_one (HashOf fields)).read (drop at bytes) ≡ Err (which, length bytes - place) = rw (fresh_read fields (none_not _ true new), other) refl in
-      fails_read (with_one (HashOf fields)) (with_one-exact (HashOf fields)) bytes at which place within f.inside whole
+      fails_read (with_one (HashOf fields)) (with_one_exact (HashOf fields)) bytes at which place within f.inside whole
 
   -- a member and its score
   pub score_set : (scores : Map ℤ) (n : ℤ) (last : ℕ) → Stands score n bytes next last → true ≡ not (is_some (get scores text))
       → Stands (with_one (SortedOf scores)) (SortedOf (insert scores text n)) bytes at last
   score_set scores n last t new =
-      let other : score.read (drop next bytes) ≡ Ok (n, drop last bytes) = reads score score-exact n bytes next last t in
+      let other : score.read (drop next bytes) ≡ Ok (n, drop last bytes) = reads score score_exact n bytes next last t in
       let whole : (with_one (SortedOf scores)).read (drop at bytes) ≡ Ok (SortedOf (insert scores text n), drop last bytes) = rw (fresh_read scores (none_not _ true new), other) refl in
-      stands_read (with_one (SortedOf scores)) (with_one-exact (SortedOf scores)) bytes at last (SortedOf (insert scores text n)) within t.inside whole
+      stands_read (with_one (SortedOf scores)) (with_one_exact (SortedOf scores)) bytes at last (SortedOf (insert scores text n)) within t.inside whole
 
   pub score_fails : (scores : Map ℤ) (which : LoadKind) (place : ℕ) → Fails score bytes next which place → true ≡ not (is_some (get scores text))
       → Fails (with_one (SortedOf scores)) bytes at which place
   score_fails scores which place f new =
-      let other : score.read (drop next bytes) ≡ Err (which, length bytes - place) = reads_fault score score-exact bytes next which place f in
+      let other : score.read (drop next bytes) ≡ Err (which, length bytes - place) = reads_fault score score_exact bytes next which place f in
       let whole : (with_one (SortedOf scores)).read (drop at bytes) ≡ Err (which, length bytes - place) = rw (fresh_read scores (none_not _ true new), other) refl in
-      fails_read (with_one (SortedOf scores)) (with_one-exact (SortedOf scores)) bytes at which place within f.inside whole
+      fails_read (with_one (SortedOf scores)) (with_one_exact (SortedOf scores)) bytes at which place within f.inside whole
 
 -- the fault of the string that an element begins with
 module _ (bytes : List ℕ) (at : ℕ) (which : LoadKind) (place : ℕ) (f : Fails string bytes at which place) where

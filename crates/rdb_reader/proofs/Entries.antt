@@ -14,7 +14,7 @@ use Rattle.keyspace.specs.Sound.{Sound}
 use Rattle.keyspace.specs.Scopes.{one_key, Within}
 use Rattle.keyspace.specs.Calls.{Found}
 use Rattle.plain_world.proofs.Lives.{shown, look_live}
-use Rattle.keyspace.proofs.Uses.{Made-means}
+use Rattle.keyspace.proofs.Uses.{made_means}
 use Rattle.rdb_grammar.specs.Files.{is_kept}
 use Rattle.rdb_reader.specs.declared.keys.Put.TheVariants as puts
 use Rattle.rdb_reader.specs.Loads.{Puts, any_key}
@@ -48,7 +48,7 @@ pub value_put : {E : Type 0} (db : ℕ) (bases : Bases) (m after : Blocks) (made
     → values.value_of after made ≡ value → (result : Result (Unit {0}) E)
     → OnOk result (means db new later ≡ put (means db bases after) key (record { value = values.value_of after made; deadline = deadline }))
     → OnOk result (means db new later ≡ put (means db bases m) key (record { value = value; deadline = deadline }))
-value_put db bases m after made sound p new later key value deadline is (Ok u) h = h ∙ (λ i. put (Made-means bases m after made sound p db i) key (record { value = is i; deadline = deadline }))
+value_put db bases m after made sound p new later key value deadline is (Ok u) h = h ∙ (λ i. put (made_means bases m after made sound p db i) key (record { value = is i; deadline = deadline }))
 value_put db bases m after made sound p new later key value deadline is (Err e) h = tt
 
 -- what looking said of a key whose deadline is past

@@ -14,7 +14,7 @@ use Rattle.object_codec.specs.declared.form.Form.{Form}
 use Rattle.object_codec.specs.declared.form.Form.TheVariants.{Intset, Listpack, Hashtable, Skiplist, Quicklist, Stream}
 use Rattle.object_codec.specs.Forms.{FitsList, FitsSet, FitsHash, FitsZset, IsLeast, IsLeastFrom}
 use Rattle.quicklist.specs.Nodes.{pack_len}
-use Rattle.quicklist.proofs.Written.{pack_len-append}
+use Rattle.quicklist.proofs.Written.{pack_len_append}
 use Rattle.set_object.specs.Strings.{Strings, are_numbers, longest, FitsMembers}
 use Rattle.pack_pairs.specs.Pairs.{Pair, longest as longest_pair}
 use Rattle.hash_object.specs.Maps.{FieldMap, FitsFields}
@@ -40,7 +40,7 @@ list_fewer few many le Stream h = h
 
 pub appended_least : (xs ys : List (List ℕ)) (a b : Form) → IsLeast (FitsList (pack_len xs)) a → IsLeastFrom a (FitsList (pack_len (xs ++ ys))) b → IsLeast (FitsList (pack_len (xs ++ ys))) b
 appended_least xs ys a b =
-    least_then (FitsList (pack_len xs)) (FitsList (pack_len (xs ++ ys))) a b (list_fewer (pack_len xs) (pack_len (xs ++ ys)) (omega (arith, pack_len-append xs ys)))
+    least_then (FitsList (pack_len xs)) (FitsList (pack_len (xs ++ ys))) a b (list_fewer (pack_len xs) (pack_len (xs ++ ys)) (omega (arith, pack_len_append xs ys)))
 
 -- ---- sets
 

@@ -26,8 +26,8 @@ use Rattle.rdb_grammar.specs.Payloads.{Pair, paired, Scored, scored, all_in, wit
 use Rattle.rdb_grammar.specs.Places.{Stands, Fails}
 use Rattle.rdb_grammar.specs.Strings.{string}
 use Rattle.rdb_grammar.proofs.Exactly.{Exact}
-use Rattle.rdb_grammar.proofs.PackedExact.{texts_in-decided, numbers_in-decided}
-use Rattle.rdb_grammar.proofs.StringsExact.{string-exact}
+use Rattle.rdb_grammar.proofs.PackedExact.{texts_in_decided, numbers_in_decided}
+use Rattle.rdb_grammar.proofs.StringsExact.{string_exact}
 use Rattle.rdb_grammar.proofs.Standing.{reads}
 use Rattle.rdb_grammar.proofs.Partly.{stands_read, fails_read}
 use Rattle.rdb_reader.specs.Building.{Makes, Reads}
@@ -123,37 +123,37 @@ no_intset bytes Order f i = f.2 i.rising
 
 pub numbers_made : (bytes : List ℕ) (made : Value) → IsIntset bytes (numbers_of bytes) → (numbers_on made).found bytes ≡ all_in with_text made (map canonical (numbers_of bytes))
 numbers_made bytes made i =
-    ap (λ (q : Result (List (List ℕ)) LoadKind). next_found q (all_in with_text made)) (numbers_in-decided.again bytes (map canonical (numbers_of bytes)) (i, refl))
+    ap (λ (q : Result (List (List ℕ)) LoadKind). next_found q (all_in with_text made)) (numbers_in_decided.again bytes (map canonical (numbers_of bytes)) (i, refl))
 
 pub no_numbers : (bytes : List ℕ) (made : Value) (fault : IntsetFault) → HasFault bytes fault → (numbers_on made).found bytes ≡ Err kinds.Intset
 no_numbers bytes made fault f =
-    ap (λ (q : Result (List (List ℕ)) LoadKind). next_found q (all_in with_text made)) (numbers_in-decided.first bytes kinds.Intset (no_intset bytes fault f, refl))
+    ap (λ (q : Result (List (List ℕ)) LoadKind). next_found q (all_in with_text made)) (numbers_in_decided.first bytes kinds.Intset (no_intset bytes fault f, refl))
 
 pub texts_made : (bytes : List ℕ) (made : Value) → IsPack bytes → (texts_on made).found bytes ≡ all_in with_text made (texts bytes)
 texts_made bytes made p =
-    ap (λ (q : Result (List (List ℕ)) LoadKind). next_found q (all_in with_text made)) (texts_in-decided.again bytes (texts bytes) ((exactly_one bytes).whole p))
+    ap (λ (q : Result (List (List ℕ)) LoadKind). next_found q (all_in with_text made)) (texts_in_decided.again bytes (texts bytes) ((exactly_one bytes).whole p))
 
 pub no_texts : (bytes : List ℕ) (made : Value) (fault : PackFault) → IsFault bytes fault → (texts_on made).found bytes ≡ Err kinds.Listpack
 no_texts bytes made fault f =
-    ap (λ (q : Result (List (List ℕ)) LoadKind). next_found q (all_in with_text made)) (texts_in-decided.first bytes kinds.Listpack ((fault, f), refl))
+    ap (λ (q : Result (List (List ℕ)) LoadKind). next_found q (all_in with_text made)) (texts_in_decided.first bytes kinds.Listpack ((fault, f), refl))
 
 -- a listpack's texts two by two
 pub pairs_made : (bytes : List ℕ) (made : Value) → IsPack bytes → (pairs_on made).found bytes ≡ next_found (paired (texts bytes)) (all_in with_pair made)
 pairs_made bytes made p =
-    ap (λ (q : Result (List (List ℕ)) LoadKind). next_found (next_found q paired) (all_in with_pair made)) (texts_in-decided.again bytes (texts bytes) ((exactly_one bytes).whole p))
+    ap (λ (q : Result (List (List ℕ)) LoadKind). next_found (next_found q paired) (all_in with_pair made)) (texts_in_decided.again bytes (texts bytes) ((exactly_one bytes).whole p))
 
 pub no_pairs : (bytes : List ℕ) (made : Value) (fault : PackFault) → IsFault bytes fault → (pairs_on made).found bytes ≡ Err kinds.Listpack
 no_pairs bytes made fault f =
-    ap (λ (q : Result (List (List ℕ)) LoadKind). next_found (next_found q paired) (all_in with_pair made)) (texts_in-decided.first bytes kinds.Listpack ((fault, f), refl))
+    ap (λ (q : Result (List (List ℕ)) LoadKind). next_found (next_found q paired) (all_in with_pair made)) (texts_in_decided.first bytes kinds.Listpack ((fault, f), refl))
 
 pub scores_made : (bytes : List ℕ) (made : Value) → IsPack bytes → (scores_on made).found bytes ≡ next_found (next_found (paired (texts bytes)) scored) (all_in with_scored made)
 scores_made bytes made p =
     ap (λ (q : Result (List (List ℕ)) LoadKind). next_found (next_found (next_found q paired) scored) (all_in with_scored made))
-    (texts_in-decided.again bytes (texts bytes) ((exactly_one bytes).whole p))
+    (texts_in_decided.again bytes (texts bytes) ((exactly_one bytes).whole p))
 
 pub no_scores : (bytes : List ℕ) (made : Value) (fault : PackFault) → IsFault bytes fault → (scores_on made).found bytes ≡ Err kinds.Listpack
 no_scores bytes made fault f =
-    ap (λ (q : Result (List (List ℕ)) LoadKind). next_found (next_found (next_found q paired) scored) (all_in with_scored made)) (texts_in-decided.first bytes kinds.Listpack ((fault, f), refl))
+    ap (λ (q : Result (List (List ℕ)) LoadKind). next_found (next_found (next_found q paired) scored) (all_in with_scored made)) (texts_in_decided.first bytes kinds.Listpack ((fault, f), refl))
 
 -- the fault of what holds members of a set
 pub no_intset_makes : (packed : Packed) (bytes : List ℕ) (made new : Value) (at : ℕ) (fault : IntsetFault) (load : LoadFault) → packed ≡ packs.Numbers
@@ -191,7 +191,7 @@ module _ (bytes : List ℕ) (at : ℕ) (payload : Payload (List ℕ) Value) (exa
     within = let first : at ≤ next = s.onward in let second : next ≤ length bytes = s.inside in omega (arith, first, second)
 
     read : string.read (drop at bytes) ≡ Ok (text, drop next bytes)
-    read = reads string string-exact text bytes at next s
+    read = reads string string_exact text bytes at next s
 
     pub payload_stands : (new : Value) → payload.found text ≡ Ok new → Stands (inside string payload) new bytes at next
     payload_stands new h =

@@ -14,10 +14,10 @@ use Rattle.rdb_grammar.specs.Strings.{string}
 use Rattle.rdb_grammar.specs.Places.{Stands, Fails}
 use Rattle.rdb_grammar.specs.StreamParts.{Begun, begun, claimed, claimed_id, consumer_name, counted, group_last, group_name, handed, is_claimed, named_group, pending_id, sixteen_bytes}
 use Rattle.rdb_grammar.specs.StreamParts.{times, with_claim, with_consumer, with_group, with_unclaimed}
-use Rattle.rdb_grammar.proofs.Exactly.{Exact, give-exact, followed-exact, checked-exact}
-use Rattle.rdb_grammar.proofs.StringsExact.{string-exact}
-use Rattle.rdb_grammar.proofs.StreamsExact.{claimed_id-exact, consumer_name-exact, counted-exact, group_last-exact, group_name-exact, handed-exact, named_group-exact, pending_id-exact}
-use Rattle.rdb_grammar.proofs.StreamsExact.{sixteen_bytes-exact, times-exact, with_claim-exact, with_consumer-exact, with_unclaimed-exact}
+use Rattle.rdb_grammar.proofs.Exactly.{Exact, give_exact, followed_exact, checked_exact}
+use Rattle.rdb_grammar.proofs.StringsExact.{string_exact}
+use Rattle.rdb_grammar.proofs.StreamsExact.{claimed_id_exact, consumer_name_exact, counted_exact, group_last_exact, group_name_exact, handed_exact, named_group_exact, pending_id_exact}
+use Rattle.rdb_grammar.proofs.StreamsExact.{sixteen_bytes_exact, times_exact, with_claim_exact, with_consumer_exact, with_unclaimed_exact}
 use Rattle.rdb_streams.specs.Grouped.{behind_name}
 use Rattle.rdb_streams.specs.Reading.{Reads}
 use Rattle.rdb_streams.proofs.Placed.{give_stands, first_fails, then_reads, tested_fails, passes, falls}
@@ -37,8 +37,8 @@ module _ (bytes : List ℕ) (at : ℕ) (made : Begun) where
   abbrev how_behind : Id → Format Begun
   how_behind id = followed handed (put_behind id)
 
-  how_behind-exact : (id : Id) → Exact (how_behind id)
-  how_behind-exact id = followed-exact handed (put_behind id) handed-exact λ how. give-exact _
+  how_behind_exact : (id : Id) → Exact (how_behind id)
+  how_behind_exact id = followed_exact handed (put_behind id) handed_exact λ how. give_exact _
 
   -- the fault of the id
   pub pending_fails : (which : LoadKind) (place : ℕ) → Fails sixteen_bytes bytes at which place → Fails (with_unclaimed made) bytes at which place
@@ -50,14 +50,14 @@ module _ (bytes : List ℕ) (at : ℕ) (made : Begun) where
     pub pending_twice : is_none (get made.unclaimed id) ≡ false → Fails (with_unclaimed made) bytes at kinds.Group at
     pending_twice h =
         first_fails (pending_id made) how_behind bytes at kinds.Group at
-        (falls kinds.Group (λ id. is_none (get made.unclaimed id)) sixteen_bytes bytes at next id s sixteen_bytes-exact h)
+        (falls kinds.Group (λ id. is_none (get made.unclaimed id)) sixteen_bytes bytes at next id s sixteen_bytes_exact h)
 
     module _ (h : is_none (get made.unclaimed id) ≡ true) where
       new_id : Stands (pending_id made) id bytes at next
       new_id = passes kinds.Group (λ id. is_none (get made.unclaimed id)) sixteen_bytes bytes at next id s h
 
       behind_id : (new : Begun) (result : Result ℕ ItemFault) → Reads (how_behind id) bytes next new result → Reads (with_unclaimed made) bytes at new result
-      behind_id = then_reads (pending_id made) how_behind bytes at (pending_id-exact made) how_behind-exact next id new_id
+      behind_id = then_reads (pending_id made) how_behind bytes at (pending_id_exact made) how_behind_exact next id new_id
 
       pub handed_fails : (which : LoadKind) (place : ℕ) → Fails handed bytes next which place → Fails (with_unclaimed made) bytes at which place
       handed_fails which place f = behind_id made (Err (faults.Refused which place)) (first_fails handed (put_behind id) bytes next which place f)
@@ -67,7 +67,7 @@ module _ (bytes : List ℕ) (at : ℕ) (made : Begun) where
           → Stands (with_unclaimed made) (record { group = made.group; unclaimed = insert made.unclaimed id how }) bytes at last
       pending_put how last t =
           let more : Begun = record { group = made.group; unclaimed = insert made.unclaimed id how } in
-          behind_id more (Ok last) (then_reads handed (put_behind id) bytes next handed-exact (λ x. give-exact _) last how t more (Ok last) (give_stands more bytes last t.inside))
+          behind_id more (Ok last) (then_reads handed (put_behind id) bytes next handed_exact (λ x. give_exact _) last how t more (Ok last) (give_stands more bytes last t.inside))
 
 -- ---- pending for a consumer
 
@@ -84,7 +84,7 @@ module _ (consumer : List ℕ) (bytes : List ℕ) (at : ℕ) (made : Begun) wher
     pub claim_missing : get made.unclaimed id ≡ None → Fails (with_claim consumer made) bytes at kinds.Group at
     claim_missing none =
         first_fails (claimed_id made) claim_behind bytes at kinds.Group at
-        (falls kinds.Group (λ id. not (is_none (get made.unclaimed id))) sixteen_bytes bytes at next id s sixteen_bytes-exact (ap (λ (o : Option (ℕ × ℕ)). not (is_none o)) none))
+        (falls kinds.Group (λ id. not (is_none (get made.unclaimed id))) sixteen_bytes bytes at next id s sixteen_bytes_exact (ap (λ (o : Option (ℕ × ℕ)). not (is_none o)) none))
 
     -- it is pending for the consumer now
     pub claim_made : (how : ℕ × ℕ) → get made.unclaimed id ≡ Some how → Stands (with_claim consumer made) (claimed consumer made id (Some how)) bytes at next
@@ -93,7 +93,7 @@ module _ (consumer : List ℕ) (bytes : List ℕ) (at : ℕ) (made : Begun) wher
         (ap (λ (o : Option (ℕ × ℕ)). not (is_none o)) some) in
         let new : Begun = claimed consumer made id (get made.unclaimed id) in
         let all : Stands (with_claim consumer made) new bytes at next =
-        then_reads (claimed_id made) claim_behind bytes at (claimed_id-exact made) (λ x. give-exact _) next id old new (Ok next) (give_stands new bytes next s.inside) in
+        then_reads (claimed_id made) claim_behind bytes at (claimed_id_exact made) (λ x. give_exact _) next id old new (Ok next) (give_stands new bytes next s.inside) in
         subst (λ (o : Option (ℕ × ℕ)). Stands (with_claim consumer made) (claimed consumer made id o) bytes at next) some all
 
 -- ---- consumers
@@ -108,11 +108,11 @@ module _ (type : StreamType) (bytes : List ℕ) (at : ℕ) (made : Begun) where
   abbrev times_behind : List ℕ → Format Begun
   times_behind name = followed (times type) (claims_behind name)
 
-  claims_behind-exact : (name : List ℕ) (seen : Unit {0}) → Exact (claims_behind name seen)
-  claims_behind-exact name seen = counted-exact (with_claim name) (with_claim-exact name) (named name)
+  claims_behind_exact : (name : List ℕ) (seen : Unit {0}) → Exact (claims_behind name seen)
+  claims_behind_exact name seen = counted_exact (with_claim name) (with_claim_exact name) (named name)
 
-  times_behind-exact : (name : List ℕ) → Exact (times_behind name)
-  times_behind-exact name = followed-exact (times type) (claims_behind name) (times-exact type) (claims_behind-exact name)
+  times_behind_exact : (name : List ℕ) → Exact (times_behind name)
+  times_behind_exact name = followed_exact (times type) (claims_behind name) (times_exact type) (claims_behind_exact name)
 
   pub consumer_fails : (which : LoadKind) (place : ℕ) → Fails string bytes at which place → Fails (with_consumer type made) bytes at which place
   consumer_fails which place f =
@@ -122,12 +122,12 @@ module _ (type : StreamType) (bytes : List ℕ) (at : ℕ) (made : Begun) where
     pub consumer_twice : not (has_consumer name made.group) ≡ false → Fails (with_consumer type made) bytes at kinds.Group at
     consumer_twice h =
         first_fails (consumer_name made.group) times_behind bytes at kinds.Group at
-        (falls kinds.Group (λ name. not (has_consumer name made.group)) string bytes at next name s string-exact h)
+        (falls kinds.Group (λ name. not (has_consumer name made.group)) string bytes at next name s string_exact h)
 
     module _ (h : not (has_consumer name made.group) ≡ true) where
       behind_consumer : (new : Begun) (result : Result ℕ ItemFault) → Reads (times_behind name) bytes next new result → Reads (with_consumer type made) bytes at new result
       behind_consumer =
-          then_reads (consumer_name made.group) times_behind bytes at (consumer_name-exact made.group) times_behind-exact next name
+          then_reads (consumer_name made.group) times_behind bytes at (consumer_name_exact made.group) times_behind_exact next name
           (passes kinds.Group (λ name. not (has_consumer name made.group)) string bytes at next name s h)
 
       pub times_fails : (which : LoadKind) (place : ℕ) → Fails (times type) bytes next which place → Fails (with_consumer type made) bytes at which place
@@ -136,7 +136,7 @@ module _ (type : StreamType) (bytes : List ℕ) (at : ℕ) (made : Begun) where
       pub claims_read : (last : ℕ) → Stands (times type) tt bytes next last → (new : Begun) (result : Result ℕ ItemFault)
           → Reads (counted (with_claim name) (named name)) bytes last new result → Reads (with_consumer type made) bytes at new result
       claims_read last t new result r =
-          behind_consumer new result (then_reads (times type) (claims_behind name) bytes next (times-exact type) (claims_behind-exact name) last tt t new result r)
+          behind_consumer new result (then_reads (times type) (claims_behind name) bytes next (times_exact type) (claims_behind_exact name) last tt t new result r)
 
 -- ---- what follows a group's name
 
@@ -150,20 +150,20 @@ module _ (type : StreamType) (name : List ℕ) where
   abbrev pendings_behind : Id → Format (List ℕ × Begun)
   pendings_behind last = followed (counted with_unclaimed (begun last)) consumers_behind
 
-  all_consumers-exact : (pending : Begun) → Exact (counted (with_consumer type) pending)
-  all_consumers-exact pending = counted-exact (with_consumer type) (with_consumer-exact type) pending
+  all_consumers_exact : (pending : Begun) → Exact (counted (with_consumer type) pending)
+  all_consumers_exact pending = counted_exact (with_consumer type) (with_consumer_exact type) pending
 
-  all_pendings-exact : (last : Id) → Exact (counted with_unclaimed (begun last))
-  all_pendings-exact last = counted-exact with_unclaimed with_unclaimed-exact (begun last)
+  all_pendings_exact : (last : Id) → Exact (counted with_unclaimed (begun last))
+  all_pendings_exact last = counted_exact with_unclaimed with_unclaimed_exact (begun last)
 
-  consumers_behind-exact : (pending : Begun) → Exact (consumers_behind pending)
-  consumers_behind-exact pending = followed-exact (counted (with_consumer type) pending) named_of (all_consumers-exact pending) (λ made. give-exact _)
+  consumers_behind_exact : (pending : Begun) → Exact (consumers_behind pending)
+  consumers_behind_exact pending = followed_exact (counted (with_consumer type) pending) named_of (all_consumers_exact pending) (λ made. give_exact _)
 
-  pendings_behind-exact : (last : Id) → Exact (pendings_behind last)
-  pendings_behind-exact last = followed-exact (counted with_unclaimed (begun last)) consumers_behind (all_pendings-exact last) consumers_behind-exact
+  pendings_behind_exact : (last : Id) → Exact (pendings_behind last)
+  pendings_behind_exact last = followed_exact (counted with_unclaimed (begun last)) consumers_behind (all_pendings_exact last) consumers_behind_exact
 
-  pub behind_name-exact : Exact (behind_name type name)
-  behind_name-exact = followed-exact (group_last type) pendings_behind (group_last-exact type) pendings_behind-exact
+  pub behind_name_exact : Exact (behind_name type name)
+  behind_name_exact = followed_exact (group_last type) pendings_behind (group_last_exact type) pendings_behind_exact
 
   module _ (bytes : List ℕ) (at : ℕ) where
     pub last_fails : (which : LoadKind) (place : ℕ) → Fails (group_last type) bytes at which place → Fails (behind_name type name) bytes at which place
@@ -171,7 +171,7 @@ module _ (type : StreamType) (name : List ℕ) where
 
     module _ (next : ℕ) (last : Id) (s : Stands (group_last type) last bytes at next) where
       behind_last : (new : List ℕ × Begun) (result : Result ℕ ItemFault) → Reads (pendings_behind last) bytes next new result → Reads (behind_name type name) bytes at new result
-      behind_last = then_reads (group_last type) pendings_behind bytes at (group_last-exact type) pendings_behind-exact next last s
+      behind_last = then_reads (group_last type) pendings_behind bytes at (group_last_exact type) pendings_behind_exact next last s
 
       pub pendings_fail : (some : Begun) (new : List ℕ × Begun) (fault : ItemFault) → Reads (counted with_unclaimed (begun last)) bytes next some (Err fault)
           → Reads (behind_name type name) bytes at new (Err fault)
@@ -182,13 +182,13 @@ module _ (type : StreamType) (name : List ℕ) where
       module _ (middle : ℕ) (pending : Begun) (t : Stands (counted with_unclaimed (begun last)) pending bytes next middle) where
         behind_pendings : (new : List ℕ × Begun) (result : Result ℕ ItemFault) → Reads (consumers_behind pending) bytes middle new result → Reads (behind_name type name) bytes at new result
         behind_pendings new result r =
-            behind_last new result (then_reads (counted with_unclaimed (begun last)) consumers_behind bytes next (all_pendings-exact last) consumers_behind-exact middle pending t new result r)
+            behind_last new result (then_reads (counted with_unclaimed (begun last)) consumers_behind bytes next (all_pendings_exact last) consumers_behind_exact middle pending t new result r)
 
         pub consumers_read : (new : Begun) (result : Result ℕ ItemFault) → Reads (counted (with_consumer type) pending) bytes middle new result
             → Reads (behind_name type name) bytes at (name, new) result
         consumers_read new (Ok end) r =
             behind_pendings (name, new) (Ok end)
-            (then_reads (counted (with_consumer type) pending) named_of bytes middle (all_consumers-exact pending) (λ made. give-exact _) end new r (name, new) (Ok end)
+            (then_reads (counted (with_consumer type) pending) named_of bytes middle (all_consumers_exact pending) (λ made. give_exact _) end new r (name, new) (Ok end)
             (give_stands (name, new) bytes end r.inside))
         consumers_read new (Err (faults.Refused which place)) f =
             behind_pendings (name, new) (Err (faults.Refused which place)) (first_fails (counted (with_consumer type) pending) named_of bytes middle which place f)
@@ -216,12 +216,12 @@ module _ (type : StreamType) (groups : Groups) (bytes : List ℕ) (at : ℕ) whe
     pub name_twice : is_none (get groups name) ≡ false → Fails (with_group type groups) bytes at kinds.Group at
     name_twice h =
         named_fails kinds.Group at (first_fails (group_name groups) (behind_name type) bytes at kinds.Group at
-        (falls kinds.Group (λ name. is_none (get groups name)) string bytes at next name s string-exact h))
+        (falls kinds.Group (λ name. is_none (get groups name)) string bytes at next name s string_exact h))
 
     module _ (h : is_none (get groups name) ≡ true) where
       behind_group : (new : List ℕ × Begun) (result : Result ℕ ItemFault) → Reads (behind_name type name) bytes next new result → Reads (named_group type groups) bytes at new result
       behind_group =
-          then_reads (group_name groups) (behind_name type) bytes at (group_name-exact groups) (behind_name-exact type) next name
+          then_reads (group_name groups) (behind_name type) bytes at (group_name_exact groups) (behind_name_exact type) next name
           (passes kinds.Group (λ name. is_none (get groups name)) string bytes at next name s h)
 
       pub group_fails : (some : List ℕ × Begun) (new : Groups) (fault : ItemFault) → Reads (behind_name type name) bytes next some (Err fault) → Reads (with_group type groups) bytes at new (Err fault)
@@ -233,7 +233,7 @@ module _ (type : StreamType) (groups : Groups) (bytes : List ℕ) (at : ℕ) whe
         pub group_put : (map.len made.unclaimed == 0) ≡ true → Stands (with_group type groups) (insert groups name made.group) bytes at last
         group_put none =
             let new : Groups = insert groups name made.group in
-            then_reads whole put_of bytes at (checked-exact kinds.Group 0 is_claimed (named_group type groups) (named_group-exact type groups)) (λ g. give-exact _) last (name, made)
+            then_reads whole put_of bytes at (checked_exact kinds.Group 0 is_claimed (named_group type groups) (named_group_exact type groups)) (λ g. give_exact _) last (name, made)
             (passes kinds.Group is_claimed (named_group type groups) bytes at last (name, made) (behind_group (name, made) (Ok last) t) none)
             new (Ok last) (give_stands new bytes last t.inside)
 
@@ -241,4 +241,4 @@ module _ (type : StreamType) (groups : Groups) (bytes : List ℕ) (at : ℕ) whe
         pub group_unclaimed : (map.len made.unclaimed == 0) ≡ false → Fails (with_group type groups) bytes at kinds.Group at
         group_unclaimed some =
             first_fails whole put_of bytes at kinds.Group at
-            (falls kinds.Group is_claimed (named_group type groups) bytes at last (name, made) (behind_group (name, made) (Ok last) t) (named_group-exact type groups) some)
+            (falls kinds.Group is_claimed (named_group type groups) bytes at last (name, made) (behind_group (name, made) (Ok last) t) (named_group_exact type groups) some)

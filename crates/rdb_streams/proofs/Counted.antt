@@ -8,8 +8,8 @@ use Rattle.rdb_grammar.specs.Lengths.{a_length}
 use Rattle.rdb_grammar.specs.Places.{Stands, Fails}
 use Rattle.rdb_grammar.specs.StreamParts.{counted}
 use Rattle.rdb_grammar.proofs.Exactly.{Exact}
-use Rattle.rdb_grammar.proofs.StringsExact.{a_length-exact}
-use Rattle.rdb_grammar.proofs.StreamsExact.{counted-exact}
+use Rattle.rdb_grammar.proofs.StringsExact.{a_length_exact}
+use Rattle.rdb_grammar.proofs.StreamsExact.{counted_exact}
 use Rattle.rdb_grammar.proofs.Standing.{reads, reads_fault}
 use Rattle.rdb_grammar.proofs.Partly.{stands_read, fails_read}
 use Rattle.rdb_streams.specs.Reading.{Reads}
@@ -27,7 +27,7 @@ module _ {S : Type 0} (one : S → Format S) (exact : (made : S) → Exact (one 
   -- behind the number all parts are left
   pub count_starts : (n next : ℕ) → Stands a_length n bytes at next → CountsOn one bytes at first next n first
   count_starts n next s =
-      let r : a_length.read (drop at bytes) ≡ Ok (n, drop next bytes) = reads a_length a_length-exact n bytes at next s in
+      let r : a_length.read (drop at bytes) ≡ Ok (n, drop next bytes) = reads a_length a_length_exact n bytes at next s in
       rw r refl
 
   -- behind one part the others are left
@@ -44,7 +44,7 @@ module _ {S : Type 0} (one : S → Format S) (exact : (made : S) → Exact (one 
     pub count_stands : (next : ℕ) (made : S) → next ≤ length bytes → CountsOn one bytes at first next 0 made → Stands (counted one first) made bytes at next
     unfolding in_turn
     count_stands next made inside h =
-        stands_read (counted one first) (counted-exact one exact first) bytes at next made le inside h
+        stands_read (counted one first) (counted_exact one exact first) bytes at next made le inside h
 
     -- the fault of a part is that of all
     pub part_fails : (next rest : ℕ) (made new : S) → CountsOn one bytes at first next (suc rest) made → (fault : ItemFault) → Reads (one made) bytes next new (Err fault)
@@ -53,5 +53,5 @@ module _ {S : Type 0} (one : S → Format S) (exact : (made : S) → Exact (one 
     part_fails next rest made new h (faults.Refused which place) f =
         let r : (one made).read (drop next bytes) ≡ Err (which, length bytes - place) = reads_fault (one made) (exact made) bytes next which place f in
         let last : (in_turn one (suc rest) made).read (drop next bytes) ≡ Err (which, length bytes - place) = rw r refl in
-        fails_read (counted one first) (counted-exact one exact first) bytes at which place le f.inside (h ∙ last)
+        fails_read (counted one first) (counted_exact one exact first) bytes at which place le f.inside (h ∙ last)
     part_fails next rest made new h faults.Memory f = tt

@@ -22,8 +22,8 @@ use Rattle.rdb_grammar.specs.Format.{Format, give, followed}
 use Rattle.rdb_grammar.specs.Places.{Stands, Fails}
 use Rattle.rdb_grammar.specs.StreamParts.{Nodes, Marks, counted, with_node, no_nodes, with_group, has_marks, is_from, marks, marks_with, marks_behind, stream}
 use Rattle.rdb_grammar.specs.Views.{pair_of}
-use Rattle.rdb_grammar.proofs.Exactly.{Exact, give-exact, followed-exact}
-use Rattle.rdb_grammar.proofs.StreamsExact.{counted-exact, with_node-exact, marks-exact, with_group-exact}
+use Rattle.rdb_grammar.proofs.Exactly.{Exact, give_exact, followed_exact}
+use Rattle.rdb_grammar.proofs.StreamsExact.{counted_exact, with_node_exact, marks_exact, with_group_exact}
 use Rattle.rdb_streams.specs.Reading.{Reads, ReadsNodes, Covers, so_far}
 use Rattle.rdb_streams.proofs.Ordered.{lt_below}
 use Rattle.rdb_streams.proofs.Placed.{first_fails, then_reads, seen_as}
@@ -63,11 +63,11 @@ groups_behind type made m =
 abbrev all_behind : StreamType → Nodes → Format Value
 all_behind type made = followed (marks type made.entries) λ m. groups_behind type made m
 
-groups_behind-exact : (type : StreamType) (made : Nodes) (m : Marks) → Exact (groups_behind type made m)
-groups_behind-exact type made m = followed-exact _ _ (counted-exact (with_group type) (with_group-exact type) empty) λ groups. give-exact _
+groups_behind_exact : (type : StreamType) (made : Nodes) (m : Marks) → Exact (groups_behind type made m)
+groups_behind_exact type made m = followed_exact _ _ (counted_exact (with_group type) (with_group_exact type) empty) λ groups. give_exact _
 
-all_behind-exact : (type : StreamType) (made : Nodes) → Exact (all_behind type made)
-all_behind-exact type made = followed-exact _ _ (marks-exact type made.entries) (groups_behind-exact type made)
+all_behind_exact : (type : StreamType) (made : Nodes) → Exact (all_behind type made)
+all_behind_exact type made = followed_exact _ _ (marks_exact type made.entries) (groups_behind_exact type made)
 
 -- the faults of nodes are those of the stream
 pub nodes_fail : (type : StreamType) (bytes : List ℕ) (at : ℕ) (m : Blocks) (s : Log) (value : Value) (fault : ItemFault) → ReadsNodes bytes at m s (Err fault)
@@ -89,7 +89,7 @@ module _ (type : StreamType) (bytes : List ℕ) (at mid : ℕ) (m : Blocks) (s :
       let here : Fails (marks type (entries m s)) bytes mid which place =
       subst (λ (one : Format Marks). Fails one bytes mid which place) (ap (λ n. marks_with type n (is_from greatest)) are ∙ same) f in
       subst (λ x. Reads (stream type) bytes at value (Err x)) (sym is) (
-      then_reads (counted with_node no_nodes) (all_behind type) bytes at (counted-exact with_node with_node-exact no_nodes) (all_behind-exact type) mid made r.1 value
+      then_reads (counted with_node no_nodes) (all_behind type) bytes at (counted_exact with_node with_node_exact no_nodes) (all_behind_exact type) mid made r.1 value
       (Err (faults.Refused which place))
       (first_fails (marks type made.entries) (groups_behind type made) bytes mid which place here))
 
@@ -99,11 +99,11 @@ module _ (type : StreamType) (bytes : List ℕ) (at mid : ℕ) (m : Blocks) (s :
       → (result : Result ℕ ItemFault) → Reads (counted (with_group type) empty) bytes next groups result → Reads (stream type) bytes at value result
   groups_read len are x next t groups value is result g =
       let here : Stands (marks type (entries m s)) x bytes mid next = subst (λ (one : Format Marks). Stands one x bytes mid next) (ap (λ n. marks_with type n (is_from greatest)) are ∙ same) t in
-      let last = seen_as (counted (with_group type) empty) (counted-exact (with_group type) (with_group-exact type) empty)
+      let last = seen_as (counted (with_group type) empty) (counted_exact (with_group type) (with_group_exact type) empty)
       (λ gs. StreamOf (record { entries = made.entries; last = x.last; deleted = x.deleted; added = x.added; groups = gs })) groups bytes next result g in
-      let behind = then_reads (marks type made.entries) (groups_behind type made) bytes mid (marks-exact type made.entries) (groups_behind-exact type made) next x here _ result last in
+      let behind = then_reads (marks type made.entries) (groups_behind type made) bytes mid (marks_exact type made.entries) (groups_behind_exact type made) next x here _ result last in
       subst (λ v. Reads (stream type) bytes at v result) (sym is)
-      (then_reads (counted with_node no_nodes) (all_behind type) bytes at (counted-exact with_node with_node-exact no_nodes) (all_behind-exact type) mid made r.1 _ result behind)
+      (then_reads (counted with_node no_nodes) (all_behind type) bytes at (counted_exact with_node with_node_exact no_nodes) (all_behind_exact type) mid made r.1 _ result behind)
 
 -- ---- the stream with its marks and groups
 

@@ -6,7 +6,7 @@ use Rattle.rdb_grammar.specs.declared.fault.ItemFault.{ItemFault}
 use Rattle.rdb_grammar.specs.declared.fault.ItemFault.TheVariants as faults
 use Rattle.rdb_grammar.specs.Format.{Format, give, followed, checked}
 use Rattle.rdb_grammar.specs.Places.{Stands, Fails}
-use Rattle.rdb_grammar.proofs.Exactly.{Exact, give-exact, followed-exact, checked-exact}
+use Rattle.rdb_grammar.proofs.Exactly.{Exact, give_exact, followed_exact, checked_exact}
 use Rattle.rdb_grammar.proofs.Standing.{reads, reads_fault}
 use Rattle.rdb_grammar.proofs.Partly.{stands_read, fails_read}
 use Rattle.rdb_streams.specs.Reading.{Reads}
@@ -17,7 +17,7 @@ begins one x bytes at next s = let first : at ≤ next = s.onward in let second 
 
 -- nothing at all stands everywhere
 pub give_stands : {A : Type 0} (x : A) (bytes : List ℕ) (at : ℕ) → at ≤ length bytes → Stands (give x) x bytes at at
-give_stands x bytes at le = stands_read (give x) (give-exact x) bytes at at x le le refl
+give_stands x bytes at le = stands_read (give x) (give_exact x) bytes at at x le le refl
 
 module _ {A B : Type 0} (one : Format A) (next : A → Format B) (bytes : List ℕ) (at : ℕ) where
   -- the fault of the first part
@@ -32,18 +32,18 @@ module _ {A B : Type 0} (one : Format A) (next : A → Format B) (bytes : List �
         let r : one.read (drop at bytes) ≡ Ok (x, drop middle bytes) = reads one e x bytes at middle s in
         let q : (next x).read (drop middle bytes) ≡ Ok (new, drop last bytes) = reads (next x) (f x) new bytes middle last t in
         let whole : (followed one next).read (drop at bytes) ≡ Ok (new, drop last bytes) = rw (r, q) refl in
-        stands_read (followed one next) (followed-exact one next e f) bytes at last new (begins one x bytes at middle s) t.inside whole
+        stands_read (followed one next) (followed_exact one next e f) bytes at last new (begins one x bytes at middle s) t.inside whole
     then_reads middle x s new (Err (faults.Refused which place)) t =
         let r : one.read (drop at bytes) ≡ Ok (x, drop middle bytes) = reads one e x bytes at middle s in
         let q : (next x).read (drop middle bytes) ≡ Err (which, length bytes - place) = reads_fault (next x) (f x) bytes middle which place t in
         let whole : (followed one next).read (drop at bytes) ≡ Err (which, length bytes - place) = rw (r, q) refl in
-        fails_read (followed one next) (followed-exact one next e f) bytes at which place (begins one x bytes at middle s) t.inside whole
+        fails_read (followed one next) (followed_exact one next e f) bytes at which place (begins one x bytes at middle s) t.inside whole
     then_reads middle x s new (Err faults.Memory) t = tt
 
 -- a part, seen as something else
 pub seen_as : {A B : Type 0} (one : Format A) → Exact one → (of : A → B) (x : A) (bytes : List ℕ) (at : ℕ) (result : Result ℕ ItemFault) → Reads one bytes at x result
     → Reads (followed one (λ x. give (of x))) bytes at (of x) result
-seen_as one e of x bytes at (Ok last) s = then_reads one (λ x. give (of x)) bytes at e (λ x. give-exact (of x)) last x s (of x) (Ok last) (give_stands (of x) bytes last s.inside)
+seen_as one e of x bytes at (Ok last) s = then_reads one (λ x. give (of x)) bytes at e (λ x. give_exact (of x)) last x s (of x) (Ok last) (give_stands (of x) bytes last s.inside)
 seen_as one e of x bytes at (Err (faults.Refused which place)) f = first_fails one (λ x. give (of x)) bytes at which place f
 seen_as one e of x bytes at (Err faults.Memory) t = t
 
@@ -64,4 +64,4 @@ module _ {A : Type 0} (kind : LoadKind) (test : A → Bool) (one : Format A) (by
         let here : (checked kind 0 test one).read (drop at bytes) ≡ Err (kind, length (drop at bytes) - 0) = rw (r, h) refl in
         let left : length (drop at bytes) - 0 ≡ length bytes - at = omega (arith, length-drop at bytes) in
         let within : at ≤ length bytes = begins one x bytes at next s in
-        fails_read (checked kind 0 test one) (checked-exact kind 0 test one e) bytes at kind at within within (here ∙ ap (λ (n : ℕ). Err (kind, n)) left)
+        fails_read (checked kind 0 test one) (checked_exact kind 0 test one e) bytes at kind at within within (here ∙ ap (λ (n : ℕ). Err (kind, n)) left)

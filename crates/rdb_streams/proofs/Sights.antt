@@ -4,7 +4,7 @@ use Rattle.std.specs.Prelude.{Option, Some, None}
 use Rattle.std.specs.List.{AllByRecursion}
 use Rattle.std.proofs.lemmas.Bool.{cond-true, cond-false}
 use Rattle.blocks.specs.Blocks.{Blocks, Changes}
-use Rattle.blocks.proofs.Change.{Changes-same}
+use Rattle.blocks.proofs.Change.{changes_same}
 use Rattle.stream_node.specs.declared.id.Id.{Id}
 use Rattle.stream_node.specs.Entry.{Stored}
 use Rattle.stream_node.specs.Entries.{IsNode, entries_of}
@@ -158,7 +158,7 @@ module _ (m after : Blocks) (s new : Log) (key : Id) (list : List (List ℕ)) (s
 
 -- nothing was put
 pub still_owned : (m : Blocks) (s : Log) → IsStream m s → Changes m m (refs m s) (refs m s)
-still_owned m s is = subst (λ rs. Changes m m rs rs) (sym (refs_are m s.tree (nodes m s) is.parts)) (Changes-same m _ is.parts.owned)
+still_owned m s is = subst (λ rs. Changes m m rs rs) (sym (refs_are m s.tree (nodes m s) is.parts)) (changes_same m _ is.parts.owned)
 
 -- a stream without a node
 pub none_far : (m : Blocks) (s : Log) → nodes m s ≡ [] → so_far m s None ≡ no_nodes

@@ -2,11 +2,11 @@
 use Rattle.std.proofs.Common.{◌≡◌, inl, inr, ℕ, ◌+◌, ◌<◌, ◌≤◌, zero, suc, get_or, List, [], ◌∷◌, Some, Result, Ok, Err, OnOk, length, refl, sym, ap, ◌∙◌, subst, arith}
 use Rattle.std.proofs.lemmas.Bool.{cases_eq, cases_lt, cond-true}
 use Rattle.blocks.specs.Blocks.{Blocks, ref_eq}
-use Rattle.blocks.proofs.Refs.{ref_eq-refl}
+use Rattle.blocks.proofs.Refs.{ref_eq_refl}
 use Rattle.blocks.proofs.Change.{one_if}
 use Rattle.rehash_dict.specs.Tables.{IsSettled}
 use Rattle.rehash_dict.specs.Table.{tables}
-use Rattle.rehash_dict.proofs.MapOf.{map_of-stands}
+use Rattle.rehash_dict.proofs.MapOf.{map_of_stands}
 use Rattle.held.specs.declared.databases.Base.{Base}
 use Rattle.held.specs.Table.{Element, item}
 use Rattle.held.specs.Databases.{no_base, base_at, table_at, deadlines_at}
@@ -52,7 +52,7 @@ module _ (old new : Bases) (m after : Blocks) (before : IsArranged old m) (later
   -- where databases mean what they meant no table of deadlines lost a key
   no_deadline_gone : (db : ℕ) → Lost m after (deadlines_at old db).table (deadlines_at new db).table → ⊥
   no_deadline_gone db lost =
-      let stood = map_of-stands m (λ v. v) (deadlines_at old db).table lost.at lost.stood.element lost.key (before.timed db).keyed lost.stood.found lost.stood.bytes in
+      let stood = map_of_stands m (λ v. v) (deadlines_at old db).table lost.at lost.stood.element lost.key (before.timed db).keyed lost.stood.found lost.stood.bytes in
       let gone = moments_lack after (deadlines_at new db) lost.key (later.timed db).keyed lost.gone in
       let one = deadline_seen value_refs value_of value_own old db m before lost.key in
       let two = deadline_seen value_refs value_of value_own new db after later lost.key in
@@ -79,7 +79,7 @@ module _ (scope : Scope) (touched : Touched) (fits : Fits scope touched) (old ne
     -- each key of a database that isn't touched has the bytes that it had
     key_kept : (at : ℕ) (e : Element Value) → item (table_at old db) at ≡ Some e → after e.key ≡ m e.key
     key_kept at e found =
-        let itself : one_if (ref_eq e.key e.key) ≡ 1 = cond-true _ _ _ (ref_eq-refl e.key) in
+        let itself : one_if (ref_eq e.key e.key) ≡ 1 = cond-true _ _ _ (ref_eq_refl e.key) in
         (within.stayed db at e (ap (λ (b : Base Value). item b.keys at) (within.same db untouched) ∙ found) (λ written. untouched (fits.tight db _ written))).bytes e.key (omega (arith, itself))
 
     -- the key table of a database that isn't touched lost no key

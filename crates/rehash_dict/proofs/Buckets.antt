@@ -5,7 +5,7 @@ use Rattle.rehash_dict.specs.Tables.{bucket, put, put_all}
 use Rattle.rehash_dict.specs.Table.{Chaining, Agrees}
 use Rattle.rehash_dict.specs.Placed.{Stand}
 use Rattle.rehash_dict.specs.Sides.{MovesOne, MovesRow}
-use Rattle.rehash_dict.proofs.Counts.{bucket-set_same}
+use Rattle.rehash_dict.proofs.Counts.{bucket_set_same}
 
 set-set : {X : Type 0} (xs : List X) (k : ℕ) (x y : X) → set (set xs k x) k y ≡ set xs k y
 set-set [] k x y = refl
@@ -24,7 +24,7 @@ module _ {V : Type 0} where
 
   pub part_way_more : (old now next : Chaining V) (k : ℕ) → IsPartWay old now k → MovesOne now next k → IsPartWay old next k
   part_way_more old now next k w m =
-      let row : bucket next.older k ≡ m.rest = ap (λ t. bucket t k) m.older ∙ bucket-set_same now.older k m.rest w.inside in
+      let row : bucket next.older k ≡ m.rest = ap (λ t. bucket t k) m.older ∙ bucket_set_same now.older k m.rest w.inside in
       record {
         older = ap (λ t. set t k []) m.older ∙ set-set now.older k m.rest [] ∙ w.older;
         newer = λ hash agrees.

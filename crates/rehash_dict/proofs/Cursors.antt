@@ -5,8 +5,8 @@ use Rattle.std.proofs.lemmas.Nat.{pow_pos, pow-add, mod_below, mod_low, shr_high
 use Rattle.std.proofs.Math.Nat.{pow-suc, add-mul, mod-eq_of_lt}
 use Rattle.std.proofs.Math.Pow.{shl_lt}
 use Rattle.rev_cursor.specs.Place.{reversed, place, all_above, next_of, block_end}
-use Rattle.rev_cursor.proofs.Reversal.{reversed-last, reversed-low, reversed-below, reversed-split, reversed-twice}
-use Rattle.rev_cursor.proofs.Places.{reversed-zero, next_is}
+use Rattle.rev_cursor.proofs.Reversal.{reversed_last, reversed_low, reversed_below, reversed_split, reversed_twice}
+use Rattle.rev_cursor.proofs.Places.{reversed_zero, next_is}
 use Rattle.rehash_dict.proofs.Powers.{pow_le}
 use Rattle.rehash_dict.proofs.BlockPlaces.{place_high}
 
@@ -14,9 +14,9 @@ use Rattle.rehash_dict.proofs.BlockPlaces.{place_high}
 with_top : (k n top : ℕ) → n < 2 ^ k → top < 2 → reversed (suc k) (top * 2 ^ k + n) ≡ reversed k n * 2 + top
 with_top k n top low bit =
     let s : suc k ≡ k + 1 = omega arith in
-    let rest : reversed k (top * 2 ^ k + n) ≡ reversed k n = sym (reversed-low k (top * 2 ^ k + n)) ∙ ap (reversed k) (mod_low top k n low) in
+    let rest : reversed k (top * 2 ^ k + n) ≡ reversed k n = sym (reversed_low k (top * 2 ^ k + n)) ∙ ap (reversed k) (mod_low top k n low) in
     let high : (top * 2 ^ k + n) / 2 ^ k ≡ top = shr_high top k n low in
-    ap (λ (x : ℕ). reversed x (top * 2 ^ k + n)) s ∙ reversed-last k (top * 2 ^ k + n) ∙ omega (arith, rest, high)
+    ap (λ (x : ℕ). reversed x (top * 2 ^ k + n)) s ∙ reversed_last k (top * 2 ^ k + n) ∙ omega (arith, rest, high)
 
 -- the bits that are 0 are m, and 2 ^ t the highest of them
 pub one_more : (bits m t : ℕ) → m < 2 ^ bits → 2 ^ t ≤ m → m < 2 ^ suc t → reversed bits (2 * 2 ^ t - 1 - (m - 2 ^ t)) ≡ reversed bits (2 ^ bits - 1 - m) + 1
@@ -53,9 +53,9 @@ next_from bits v r few low is =
     let width : bits + (64 - bits) ≡ 64 = omega arith in
     let top : 2 ^ bits ≤ 2 ^ 64 = pow_le bits 64 (omega arith) in
     let none : r / 2 ^ bits ≡ 0 = shr_zero r bits low in
-    let split : reversed (bits + (64 - bits)) r ≡ reversed bits r * 2 ^ (64 - bits) + reversed (64 - bits) (r / 2 ^ bits) = reversed-split bits (64 - bits) r in
-    let at : place r ≡ reversed bits r * 2 ^ (64 - bits) = ap (λ (w : ℕ). reversed w r) (sym width) ∙ split ∙ omega (arith, ap (reversed (64 - bits)) none, reversed-zero (64 - bits)) in
-    sym (mod-eq_of_lt (omega arith)) ∙ sym (reversed-twice 64 r) ∙ ap (reversed 64) (at ∙ is) ∙ sym (next_is bits v few)
+    let split : reversed (bits + (64 - bits)) r ≡ reversed bits r * 2 ^ (64 - bits) + reversed (64 - bits) (r / 2 ^ bits) = reversed_split bits (64 - bits) r in
+    let at : place r ≡ reversed bits r * 2 ^ (64 - bits) = ap (λ (w : ℕ). reversed w r) (sym width) ∙ split ∙ omega (arith, ap (reversed (64 - bits)) none, reversed_zero (64 - bits)) in
+    sym (mod-eq_of_lt (omega arith)) ∙ sym (reversed_twice 64 r) ∙ ap (reversed 64) (at ∙ is) ∙ sym (next_is bits v few)
   where
     shr_zero : (x k : ℕ) → x < 2 ^ k → x / 2 ^ k ≡ 0
     shr_zero x k h = ap (λ (y : ℕ). y / 2 ^ k) (omega arith) ∙ shr_high 0 k x h
@@ -78,8 +78,8 @@ next_cursor bits v n m t few is zeros low high =
     let fits : 2 ^ suc t ≤ 2 ^ bits = elim (cases_lt t bits) [ inl h ↦ pow_le (suc t) bits h | inr h ↦ absurd (omega (arith, pow_le bits t h)) ] in
     let back : 2 ^ bits - 1 - m ≡ v % 2 ^ bits = omega arith in
     let up : reversed bits (2 * 2 ^ t - 1 - (m - 2 ^ t)) ≡ place v / 2 ^ (64 - bits) + 1
-    = one_more bits m t (omega arith) low (omega (arith, pow-suc 2 t)) ∙ ap (λ (x : ℕ). reversed bits x + 1) back ∙ ap (λ (x : ℕ). x + 1) (reversed-low bits v ∙ sym (place_high bits v few)) in
+    = one_more bits m t (omega arith) low (omega (arith, pow-suc 2 t)) ∙ ap (λ (x : ℕ). reversed bits x + 1) back ∙ ap (λ (x : ℕ). x + 1) (reversed_low bits v ∙ sym (place_high bits v few)) in
     let end : reversed bits (2 * 2 ^ t - 1 - (m - 2 ^ t)) * 2 ^ (64 - bits) ≡ block_end (64 - bits) (place v) = ap (λ (x : ℕ). x * 2 ^ (64 - bits)) up in
     let room : reversed bits (2 * 2 ^ t - 1 - (m - 2 ^ t)) * 2 ^ (64 - bits) < 2 ^ 64 =
-    subst (λ (w : ℕ). reversed bits (2 * 2 ^ t - 1 - (m - 2 ^ t)) * 2 ^ (64 - bits) < 2 ^ w) width (shl_lt bits (64 - bits) (reversed-below bits (2 * 2 ^ t - 1 - (m - 2 ^ t)))) in
+    subst (λ (w : ℕ). reversed bits (2 * 2 ^ t - 1 - (m - 2 ^ t)) * 2 ^ (64 - bits) < 2 ^ w) width (shl_lt bits (64 - bits) (reversed_below bits (2 * 2 ^ t - 1 - (m - 2 ^ t)))) in
     next_from bits v (2 * 2 ^ t - 1 - (m - 2 ^ t)) few (omega (arith, pow-suc 2 t, pow_pos t)) (sym (mod-eq_of_lt room) ∙ ap (λ (x : ℕ). x % 2 ^ 64) end)

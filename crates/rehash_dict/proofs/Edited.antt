@@ -16,20 +16,20 @@ use Rattle.rehash_dict.specs.Placed.{IsSize, Stand, IsKept, IsPlaced}
 use Rattle.rehash_dict.specs.Sides.{last_of, SwapsIn, AddsTo, LeavesFrom, Rebuilds, side_rows, held_tables}
 use Rattle.rehash_dict.specs.Keyed.{hash_of, same_key, Stands, Lacks, Keyed, key_tables}
 use Rattle.rehash_dict.specs.Steps.{table_rows, IsSpot, Adds, Renames, Takes, IsOther}
-use Rattle.rehash_dict.proofs.Counts.{without-none}
+use Rattle.rehash_dict.proofs.Counts.{without_none}
 use Rattle.rehash_dict.proofs.Stands.{one_bucket, one_table, flip}
-use Rattle.rehash_dict.proofs.Keys.{keyed_from, key_tables-same, key-same, keyed_added, key_tables_added, key_tables_removed}
+use Rattle.rehash_dict.proofs.Keys.{keyed_from, key_tables_same, key_same_in_keys, keyed_added, key_tables_added, key_tables_removed}
 
 -- taking out an item number that stands in no bucket leaves all buckets
 rows_kept : (at : ℕ) (rows : List (List ℕ)) → ((j : ℕ) → times at (bucket rows j) ≡ 0) → map (without eqb at) rows ≡ rows
 rows_kept at [] out = refl
-rows_kept at (r ∷ rest) out = λ i. without-none at r (out 0) i ∷ rows_kept at rest (λ j. out (suc j)) i
+rows_kept at (r ∷ rest) out = λ i. without_none at r (out 0) i ∷ rows_kept at rest (λ j. out (suc j)) i
 
 -- taking out an item number that stands in no other bucket than this one changes this one only
 rows_without : (at : ℕ) (rows : List (List ℕ)) (k : ℕ) → ((j : ℕ) → j ≢ k → times at (bucket rows j) ≡ 0) → map (without eqb at) rows ≡ set rows k (without eqb at (bucket rows k))
 rows_without at [] k out = refl
 rows_without at (r ∷ rest) zero out = ap (λ t. without eqb at r ∷ t) (rows_kept at rest (λ j. out (suc j) (λ e. omega arith)))
-rows_without at (r ∷ rest) (suc k) out = λ i. without-none at r (out 0 (λ e. omega arith)) i ∷ rows_without at rest k (λ j ne. out (suc j) (λ e. ne (omega arith))) i
+rows_without at (r ∷ rest) (suc k) out = λ i. without_none at r (out 0 (λ e. omega arith)) i ∷ rows_without at rest k (λ j ne. out (suc j) (λ e. ne (omega arith))) i
 
 module _ {V : Type 0} where
   -- the dictionary of these elements and buckets
@@ -88,13 +88,13 @@ module _ {V : Type 0} where
                   (s.element, ap (at_item h.items) here ∙ s.found, ap (λ x. x.hash) one, ap (λ (x : Element V). after x.key) one ∙ same))
               | inr other ↦ (f, sym (s.others i other) ∙ there, refl, keeps i f other (sym (s.others i other) ∙ there))
             ]),
-        key_tables-same before after (table_of h position seed top) (table_of later position seed top) p (λ i. record { older = s.older i; newer = s.newer i; position = position })
+        key_tables_same before after (table_of h position seed top) (table_of later position seed top) p (λ i. record { older = s.older i; newer = s.newer i; position = position })
             (λ i e there. elim (cases_eq i at) [
               | inl here ↦
                   (let one : e ≡ s.element = (let q : Some e ≡ Some s.element = sym there ∙ ap (at_item h.items) here ∙ s.found in cc) in
-                  key-same before after (table_of h position seed top) (table_of later position seed top) i e (record s.element { key = ref }) there
+                  key_same_in_keys before after (table_of h position seed top) (table_of later position seed top) i e (record s.element { key = ref }) there
                   (ap (at_item later.items) here ∙ s.swapped) (same ∙ ap (λ (x : Element V). before x.key) (sym one)))
-              | inr other ↦ key-same before after (table_of h position seed top) (table_of later position seed top) i e e there (s.others i other ∙ there) (keeps i e other there)
+              | inr other ↦ key_same_in_keys before after (table_of h position seed top) (table_of later position seed top) i e e there (s.others i other ∙ there) (keeps i e other there)
             ]),
       );
     }

@@ -8,7 +8,7 @@ use Rattle.rehash_dict.specs.declared.chains.Entry.{Entry}
 use Rattle.rehash_dict.specs.Tables.{bucket}
 use Rattle.rehash_dict.specs.Sides.{last_of}
 use Rattle.rehash_dict.specs.Chains.{key_of_entry, entry_at, IsChain, Links, Unlinks, bridged, head_after, relinked}
-use Rattle.rehash_dict.proofs.Counts.{times-here, times-append}
+use Rattle.rehash_dict.proofs.Counts.{times_here, times-append}
 use Rattle.rehash_dict.proofs.Rows.{Leads, SameLink, chain_kept, leads_kept, leads_set, unchanged_link, within}
 
 abbrev one_if : Bool → ℕ
@@ -17,7 +17,7 @@ one_if b = cond b 1 0
 -- the last of a list is in it
 pub last_in : (front : List ℕ) (p : ℕ) → last_of front ≡ Some p → 0 < times p front
 last_in [] p h = cc
-last_in (x ∷ []) p h = (let e : x ≡ p = cc in subst (λ n. 0 < times p (n ∷ [])) (sym e) (omega (arith, times-here p [])))
+last_in (x ∷ []) p h = (let e : x ≡ p = cc in subst (λ n. 0 < times p (n ∷ [])) (sym e) (omega (arith, times_here p [])))
 last_in (x ∷ y ∷ ys) p h = omega (arith, last_in (y ∷ ys) p h)
 
 pub apart : (at i : ℕ) (row : List ℕ) → times at row ≡ 0 → 0 < times i row → i ≢ at
@@ -77,8 +77,8 @@ module _ {V : Type 0} where
   bridge old new (x ∷ []) link at p rest e f c found last now next same once_p once_at =
       let is_p : x ≡ p = cc in
       let one : c.3.1 ≡ e = (let q : Some c.3.1 ≡ Some e = sym c.3.2 ∙ found in cc) in
-      let no_p : times p rest ≡ 0 = omega (arith, ap (λ n. times p (n ∷ at ∷ rest)) is_p ∙ times-here p (at ∷ rest)) in
-      let no_at : times at rest ≡ 0 = omega (arith, times-here at rest) in (
+      let no_p : times p rest ≡ 0 = omega (arith, ap (λ n. times p (n ∷ at ∷ rest)) is_p ∙ times_here p (at ∷ rest)) in
+      let no_at : times at rest ≡ 0 = omega (arith, times_here at rest) in (
         c.0,
         f,
         ap (entry_at new) is_p ∙ now,
@@ -89,8 +89,8 @@ module _ {V : Type 0} where
       let more : 0 < times p (y ∷ ys) = last_in (y ∷ ys) p last in
       let rest_p : times p (y ∷ ys ++ at ∷ rest) ≡ times p (y ∷ ys) + times p (at ∷ rest) = times-append p (y ∷ ys) (at ∷ rest) in
       let rest_at : times at (y ∷ ys ++ at ∷ rest) ≡ times at (y ∷ ys) + times at (at ∷ rest) = times-append at (y ∷ ys) (at ∷ rest) in
-      let not_p : x ≢ p = λ h. absurd (omega (arith, ap (λ n. times p (n ∷ (y ∷ ys ++ at ∷ rest))) h ∙ times-here p (y ∷ ys ++ at ∷ rest))) in
-      let not_at : x ≢ at = λ h. absurd (omega (arith, ap (λ n. times at (n ∷ (y ∷ ys ++ at ∷ rest))) h ∙ times-here at (y ∷ ys ++ at ∷ rest), times-here at rest)) in
+      let not_p : x ≢ p = λ h. absurd (omega (arith, ap (λ n. times p (n ∷ (y ∷ ys ++ at ∷ rest))) h ∙ times_here p (y ∷ ys ++ at ∷ rest))) in
+      let not_at : x ≢ at = λ h. absurd (omega (arith, ap (λ n. times at (n ∷ (y ∷ ys ++ at ∷ rest))) h ∙ times_here at (y ∷ ys ++ at ∷ rest), times_here at rest)) in
       (c.0, c.1, same x not_p not_at ∙ c.2, bridge old new (y ∷ ys) c.1.next at p rest e f c.3 found last now next same (omega arith) (omega arith))
 
   pub bridges_side : (old new : List (Option (Entry V))) (heads : List ℕ) (table : List (List ℕ)) (at p k : ℕ) (front rest : List ℕ) (e f : Entry V) → Leads old heads table

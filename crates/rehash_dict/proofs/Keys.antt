@@ -9,25 +9,25 @@ use Rattle.rehash_dict.specs.Tables.{bucket, named, inserted, rehashed, shrunk, 
 use Rattle.rehash_dict.specs.Table.{Element, Table, at_item, item, tables, Agrees, Updates}
 use Rattle.rehash_dict.specs.Placed.{IsPlaced}
 use Rattle.rehash_dict.specs.Keyed.{hash_of, same_key, key_of, Lacks, Keyed, key_tables}
-use Rattle.rehash_dict.proofs.Named.{named-same, inserted-named, rehashed-named, shrunk-named, removed-named}
+use Rattle.rehash_dict.proofs.Named.{named_same, inserted_named, rehashed_named, shrunk_named, removed_named}
 
-pub same_key-refl : (key : List ℕ) → same_key key key ≡ true
-same_key-refl [] = refl
-same_key-refl (x ∷ xs) = and_from _ _ (eq-eqb x x refl) (same_key-refl xs)
+pub same_key_refl : (key : List ℕ) → same_key key key ≡ true
+same_key_refl [] = refl
+same_key_refl (x ∷ xs) = and_from _ _ (eq-eqb x x refl) (same_key_refl xs)
 
-pub same_key-true : (a b : List ℕ) → same_key a b ≡ true → a ≡ b
-same_key-true [] [] h = refl
-same_key-true [] (y ∷ ys) h = cc
-same_key-true (x ∷ xs) [] h = cc
-same_key-true (x ∷ xs) (y ∷ ys) h = by_tests (eqb x y) (same_key xs ys) h (eqb-true x y) (same_key-true xs ys)
+pub same_key_true : (a b : List ℕ) → same_key a b ≡ true → a ≡ b
+same_key_true [] [] h = refl
+same_key_true [] (y ∷ ys) h = cc
+same_key_true (x ∷ xs) [] h = cc
+same_key_true (x ∷ xs) (y ∷ ys) h = by_tests (eqb x y) (same_key xs ys) h (eqb-true x y) (same_key_true xs ys)
   where
     by_tests : (p q : Bool) → (p && q) ≡ true → (p ≡ true → x ≡ y) → (q ≡ true → xs ≡ ys) → x ∷ xs ≡ y ∷ ys
     by_tests true true h a b = (let first : x ≡ y = a refl in let rest : xs ≡ ys = b refl in cc)
     by_tests true false h a b = cc
     by_tests false q h a b = cc
 
-pub same_key-false : (a b : List ℕ) → (a ≡ b → ⊥) → same_key a b ≡ false
-same_key-false a b h = elim (cases_Bool (same_key a b)) [ inl e ↦ absurd (h (same_key-true a b e)) | inr e ↦ e ]
+pub same_key_false : (a b : List ℕ) → (a ≡ b → ⊥) → same_key a b ≡ false
+same_key_false a b h = elim (cases_Bool (same_key a b)) [ inl e ↦ absurd (h (same_key_true a b e)) | inr e ↦ e ]
 
 -- the bytes of a live block
 pub live_bytes : (blocks : Blocks) (r : BlockRef) → IsSome (blocks r) → blocks r ≡ Some (bytes_at blocks r)
@@ -59,23 +59,23 @@ module _ {V : Type 0} where
   stands_newer t p k i h = (let q = p.kept.stand.of_newer k i h in (q.0, q.1))
 
   -- the tables by key bytes, where the key bytes of all that stands are the same
-  pub key_tables-same : (before after : Blocks) (old new : Table V) → IsPlaced old → tables new ≡ tables old
+  pub key_tables_same : (before after : Blocks) (old new : Table V) → IsPlaced old → tables new ≡ tables old
       → ((at : ℕ) (e : Element V) → item old at ≡ Some e → key_of after (item new at) ≡ key_of before (item old at)) → key_tables after new ≡ key_tables before old
-  key_tables-same before after old new p same keys =
+  key_tables_same before after old new p same keys =
       ap (named (λ at. key_of after (item new at))) same
-      ∙ named-same (λ at. key_of after (item new at)) (λ at. key_of before (item old at)) (tables old)
+      ∙ named_same (λ at. key_of after (item new at)) (λ at. key_of before (item old at)) (tables old)
       (λ k i h. (let q = stands_older old p k i h in keys i q.0 q.1)) (λ k i h. (let q = stands_newer old p k i h in keys i q.0 q.1))
 
-  pub key-same : (before after : Blocks) (t u : Table V) (at : ℕ) (e f : Element V) → item t at ≡ Some e → item u at ≡ Some f → after f.key ≡ before e.key
+  pub key_same_in_keys : (before after : Blocks) (t u : Table V) (at : ℕ) (e f : Element V) → item t at ≡ Some e → item u at ≡ Some f → after f.key ≡ before e.key
       → key_of after (item u at) ≡ key_of before (item t at)
-  key-same before after t u at e f h k same = ap (key_of after) k ∙ ap (λ o. unwrap_or o []) same ∙ sym (ap (key_of before) h)
+  key_same_in_keys before after t u at e f h k same = ap (key_of after) k ∙ ap (λ o. unwrap_or o []) same ∙ sym (ap (key_of before) h)
 
   -- A store in which the key blocks keep their bytes: the dictionary means what it meant.
-  pub Keyed-frame : (before after : Blocks) (t : Table V) → Keyed before t → ((at : ℕ) (e : Element V) → item t at ≡ Some e → after e.key ≡ before e.key) → Keyed after t
+  pub keyed_frame : (before after : Blocks) (t : Table V) → Keyed before t → ((at : ℕ) (e : Element V) → item t at ≡ Some e → after e.key ≡ before e.key) → Keyed after t
       × (key_tables after t ≡ key_tables before t)
-  Keyed-frame before after t k keeps = (
+  keyed_frame before after t k keeps = (
     keyed_from before after t t k k.placed refl (λ at f h. (f, h, refl, keeps at f h)),
-    key_tables-same before after t t k.placed refl (λ at e h. key-same before after t t at e e h h (keeps at e h)),
+    key_tables_same before after t t k.placed refl (λ at e h. key_same_in_keys before after t t at e e h h (keeps at e h)),
   )
 
   -- ---- an element joins
@@ -124,9 +124,9 @@ module _ {V : Type 0} where
         let agrees : Agrees (λ i. hash_of old.seed (key_of blocks (item new i))) new.items = λ i e h. ap (λ o. hash_of old.seed (key_of blocks o)) h
         ∙ ap (λ s. hash_of s (bytes_at blocks e.key)) (sym seed) ∙ sym (keyed_added.hashed i e h) in
         ap (named (λ (i : ℕ). key_of blocks (item new i))) (steps (λ i. hash_of old.seed (key_of blocks (item new i))) agrees)
-        ∙ inserted-named (λ (i : ℕ). key_of blocks (item new i)) (λ i. hash_of old.seed (key_of blocks (item new i))) (hash_of old.seed) (λ x. refl) (tables old) at
+        ∙ inserted_named (λ (i : ℕ). key_of blocks (item new i)) (λ i. hash_of old.seed (key_of blocks (item new i))) (hash_of old.seed) (λ x. refl) (tables old) at
         ∙ ap (λ t. inserted (hash_of old.seed) t (key_of blocks (item new at)))
-        (named-same (λ i. key_of blocks (item new i)) (λ i. key_of blocks (item old i)) (tables old)
+        (named_same (λ i. key_of blocks (item new i)) (λ i. key_of blocks (item old i)) (tables old)
         (λ b i h. (let q = stands_older old k.placed b i h in ap (key_of blocks) (u.others i (not_at i q.0 q.1))))
         (λ b i h. (let q = stands_newer old k.placed b i h in ap (key_of blocks) (u.others i (not_at i q.0 q.1)))))
         ∙ ap (inserted (hash_of old.seed) (key_tables blocks old)) (ap (key_of blocks) u.changed)
@@ -138,13 +138,13 @@ module _ {V : Type 0} where
   key_tables_rehashed blocks old new k same steps =
       ap (λ items. named (λ i. key_of blocks (at_item items i)) (tables new)) same
       ∙ ap (named (λ i. key_of blocks (item old i))) (steps (λ i. hash_of old.seed (key_of blocks (item old i))) (λ i e h. ap (λ o. hash_of old.seed (key_of blocks o)) h ∙ sym (k.hashed i e h)))
-      ∙ rehashed-named (λ i. key_of blocks (item old i)) (λ i. hash_of old.seed (key_of blocks (item old i))) (hash_of old.seed) (λ x. refl) (tables old)
+      ∙ rehashed_named (λ i. key_of blocks (item old i)) (λ i. hash_of old.seed (key_of blocks (item old i))) (hash_of old.seed) (λ x. refl) (tables old)
 
   pub key_tables_shrunk : (blocks : Blocks) (old new : Table V) → new.items ≡ old.items → tables new ≡ shrunk (tables old) → key_tables blocks new ≡ shrunk (key_tables blocks old)
   key_tables_shrunk blocks old new same is =
       ap (λ items. named (λ i. key_of blocks (at_item items i)) (tables new)) same
       ∙ ap (named (λ i. key_of blocks (item old i))) is
-      ∙ shrunk-named (λ i. key_of blocks (item old i)) (tables old)
+      ∙ shrunk_named (λ i. key_of blocks (item old i)) (tables old)
 
   -- ---- an element leaves
 
@@ -161,9 +161,9 @@ module _ {V : Type 0} where
 
     tells : (i : ℕ) (f : Element V) → item old i ≡ Some f → same_key (key_of blocks (item old i)) (key_of blocks (item old at)) ≡ eqb i at
     tells i f h = elim (cases_eq i at) [
-      | inl here ↦ ap (λ n. same_key (key_of blocks (item old n)) (key_of blocks (item old at))) here ∙ same_key-refl (key_of blocks (item old at)) ∙ sym (eq-eqb i at here)
+      | inl here ↦ ap (λ n. same_key (key_of blocks (item old n)) (key_of blocks (item old at))) here ∙ same_key_refl (key_of blocks (item old at)) ∙ sym (eq-eqb i at here)
       | inr other ↦
-          same_key-false (key_of blocks (item old i)) (key_of blocks (item old at))
+          same_key_false (key_of blocks (item old i)) (key_of blocks (item old at))
           (λ same. other (k.apart i at f e h found
           (live_bytes blocks f.key (k.live i f h) ∙ ap Some (ap (key_of blocks) (sym h) ∙ same ∙ ap (key_of blocks) found) ∙ sym (live_bytes blocks e.key (k.live at e found)))))
           ∙ sym (ne_eqb i at other)
@@ -171,11 +171,11 @@ module _ {V : Type 0} where
 
     pub key_tables_removed : tables new ≡ removed eqb (tables old) at → key_tables blocks new ≡ removed same_key (key_tables blocks old) key
     key_tables_removed is =
-        named-same (λ i. key_of blocks (item new i)) (λ i. key_of blocks (item old i)) (tables new)
+        named_same (λ i. key_of blocks (item new i)) (λ i. key_of blocks (item old i)) (tables new)
         (λ b i h. (let q = stands_older new placed b i h in ap (key_of blocks) (u.others i (still i q.0 q.1).0)))
         (λ b i h. (let q = stands_newer new placed b i h in ap (key_of blocks) (u.others i (still i q.0 q.1).0)))
         ∙ ap (named (λ i. key_of blocks (item old i))) is
-        ∙ removed-named (λ i. key_of blocks (item old i)) same_key (tables old) at
+        ∙ removed_named (λ i. key_of blocks (item old i)) same_key (tables old) at
         (λ b i h. (let q = stands_older old k.placed b i h in tells i q.0 q.1))
         (λ b i h. (let q = stands_newer old k.placed b i h in tells i q.0 q.1))
         ∙ ap (removed same_key (key_tables blocks old)) (ap (key_of blocks) found ∙ ap (λ o. unwrap_or o []) bytes)

@@ -12,9 +12,9 @@ use Rattle.rehash_dict.specs.Placed.{Stand}
 use Rattle.rehash_dict.specs.Sides.{last_of, LeavesFrom, IsBehind}
 use Rattle.rehash_dict.specs.declared.chains.Side.TheVariants.{Older, Newer}
 use Rattle.rehash_dict.specs.Chains.{room, element_of, entry_at, rows, IsLinked, Unlinks, bridged, relinked, head_after}
-use Rattle.rehash_dict.proofs.Counts.{times-here, times-append, count-set, without-split}
+use Rattle.rehash_dict.proofs.Counts.{times_here, times-append, count-set, without_split}
 use Rattle.rehash_dict.proofs.Stands.{flip, at_most_once, one_bucket, one_table, leaves}
-use Rattle.rehash_dict.proofs.Rows.{Leads, Made, made, SameLink, leads_kept, leads_older, leads_newer, item_at, count-map_element, unchanged_link, within}
+use Rattle.rehash_dict.proofs.Rows.{Leads, Made, made, SameLink, leads_kept, leads_older, leads_newer, item_at, count_map_element, unchanged_link, within}
 use Rattle.rehash_dict.proofs.Edits.{pops_side, bridges_side, last_in, apart}
 use Rattle.rehash_dict.proofs.Ops.{view_of}
 
@@ -24,7 +24,7 @@ none_last (x ∷ []) h = cc
 none_last (x ∷ y ∷ ys) h = (let q : y ∷ ys ≡ [] = none_last (y ∷ ys) h in cc)
 
 pub in_split : (front rest row : List ℕ) (at : ℕ) → row ≡ front ++ at ∷ rest → 0 < times at row
-in_split front rest row at h = omega (arith, ap (times at) h, times-append at front (at ∷ rest), times-here at rest)
+in_split front rest row at h = omega (arith, ap (times at) h, times-append at front (at ∷ rest), times_here at rest)
 
 module _ {V : Type 0} where
   entry_of : (slots : List (Option (Entry V))) (i : ℕ) (x : Element V) → at_item (map element_of slots) i ≡ Some x → (e : Entry V) × (entry_at slots i ≡ Some e)
@@ -46,7 +46,7 @@ module _ {V : Type 0} where
       let split : times at (front ++ at ∷ rest) ≡ times at front + times at (at ∷ rest) = times-append at front (at ∷ rest) in
       let few : times at (bucket a k) ≤ 1 = at_most_once (map element_of slots) a b k at s in (
         omega (arith, ap (times p) row, times-append p front (at ∷ rest)),
-        λ h. absurd (omega (arith, ap (times at) row, times-here at rest, ap (λ n. times n front) h)),
+        λ h. absurd (omega (arith, ap (times at) row, times_here at rest, ap (λ n. times n front) h)),
       )
 
   module _ (s0 s2 : Slab (Entry V)) (mine other after : List ℕ) (a b : List (List ℕ)) (k at : ℕ) (before : Option ℕ) (front rest : List ℕ) (key : BlockRef) (value : V)
@@ -65,7 +65,7 @@ module _ {V : Type 0} where
     few_at = at_most_once (map element_of s0.slots) a b k at s
 
     counts : times at (front ++ at ∷ rest) ≡ times at front + suc (times at rest)
-    counts = times-append at front (at ∷ rest) ∙ ap (λ n. times at front + n) (times-here at rest)
+    counts = times-append at front (at ∷ rest) ∙ ap (λ n. times at front + n) (times_here at rest)
 
     out_front : times at front ≡ 0
     out_front = omega (arith, ap (times at) row, counts, few_at)
@@ -74,7 +74,7 @@ module _ {V : Type 0} where
     out_rest = omega (arith, ap (times at) row, counts, few_at)
 
     is_rest : without eqb at (bucket a k) ≡ front ++ rest
-    is_rest = ap (without eqb at) row ∙ without-split at front rest out_front out_rest
+    is_rest = ap (without eqb at) row ∙ without_split at front rest out_front out_rest
 
     at_within : at < length s0.slots
     at_within = within s0.slots at entry u.found
@@ -145,7 +145,7 @@ module _ {V : Type 0} where
 
     pub stand_left : Stand (map element_of s2.slots) (set a k (without eqb at (bucket a k))) b
     stand_left = leaves (map element_of s0.slots) (map element_of s2.slots) a b at k s here updates_gone inside
-        (ap (λ n. n + 1) (count-map_element s2.slots) ∙ u.len ∙ sym (count-map_element s0.slots))
+        (ap (λ n. n + 1) (count_map_element s2.slots) ∙ u.len ∙ sym (count_map_element s0.slots))
 
     pub found_item : at_item (map element_of s0.slots) at ≡ Some (record { key = key; hash = u.hash; value = value })
     found_item = item_at s0.slots at ∙ ap element_of u.found

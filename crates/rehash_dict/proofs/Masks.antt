@@ -5,18 +5,18 @@ use Rattle.std.proofs.lemmas.Nat.Bits.{and_high}
 use Rattle.std.specs.Int.Bits.{xor_self, xor_zero_l}
 use Rattle.std.proofs.Math.Nat.{mul_comm, suc-mul}
 use Rattle.rev_cursor.specs.Place.{reversed}
-use Rattle.rev_cursor.proofs.Reversal.{reversed-below, reversed-split, reversed-low, reversed-twice}
-use Rattle.rev_cursor.proofs.Places.{reversed-zero}
+use Rattle.rev_cursor.proofs.Reversal.{reversed_below, reversed_split, reversed_low, reversed_twice}
+use Rattle.rev_cursor.proofs.Places.{reversed_zero}
 
 -- the low bits of a reversal are the reversal of the high bits
-reversed-rest : (small d v : ℕ) → reversed (small + d) v % 2 ^ d ≡ reversed d (v / 2 ^ small)
-reversed-rest small d v = ap (λ (x : ℕ). x % 2 ^ d) (reversed-split small d v) ∙ mod_low (reversed small v) d (reversed d (v / 2 ^ small)) (reversed-below d (v / 2 ^ small))
+reversed_rest : (small d v : ℕ) → reversed (small + d) v % 2 ^ d ≡ reversed d (v / 2 ^ small)
+reversed_rest small d v = ap (λ (x : ℕ). x % 2 ^ d) (reversed_split small d v) ∙ mod_low (reversed small v) d (reversed d (v / 2 ^ small)) (reversed_below d (v / 2 ^ small))
 
 zero_from_reversed : (d x : ℕ) → reversed d x ≡ 0 → x % 2 ^ d ≡ 0
-zero_from_reversed d x e = sym (reversed-twice d x) ∙ ap (reversed d) e ∙ reversed-zero d
+zero_from_reversed d x e = sym (reversed_twice d x) ∙ ap (reversed d) e ∙ reversed_zero d
 
 reversed_from_zero : (d x : ℕ) → x % 2 ^ d ≡ 0 → reversed d x ≡ 0
-reversed_from_zero d x e = sym (reversed-low d x) ∙ ap (reversed d) e ∙ reversed-zero d
+reversed_from_zero d x e = sym (reversed_low d x) ∙ ap (reversed d) e ∙ reversed_zero d
 
 -- the difference of two masks
 masks : (small d : ℕ) → bit_xor (2 ^ small - 1) (2 ^ (small + d) - 1) ≡ 2 ^ (d + small) - 2 ^ small
@@ -42,7 +42,7 @@ pub test_end : (small d v : ℕ) → bit_and v (bit_xor (2 ^ small - 1) (2 ^ (sm
 test_end small d v e =
     let high : v / 2 ^ small % 2 ^ d * 2 ^ small ≡ 0 = sym (and_high v d small) ∙ ap (bit_and v) (sym (masks small d)) ∙ e in
     let none : v / 2 ^ small % 2 ^ d ≡ 0 = factor (v / 2 ^ small % 2 ^ d) (2 ^ small) (pow_pos small) high in
-    reversed-rest small d v ∙ reversed_from_zero d (v / 2 ^ small) none
+    reversed_rest small d v ∙ reversed_from_zero d (v / 2 ^ small) none
   where
     factor : (a b : ℕ) → 0 < b → a * b ≡ 0 → a ≡ 0
     factor zero b pos e = refl
@@ -50,5 +50,5 @@ test_end small d v e =
 
 pub end_test : (small d v : ℕ) → reversed (small + d) v % 2 ^ d ≡ 0 → bit_and v (bit_xor (2 ^ small - 1) (2 ^ (small + d) - 1)) ≡ 0
 end_test small d v e =
-    let none : v / 2 ^ small % 2 ^ d ≡ 0 = zero_from_reversed d (v / 2 ^ small) (sym (reversed-rest small d v) ∙ e) in
+    let none : v / 2 ^ small % 2 ^ d ≡ 0 = zero_from_reversed d (v / 2 ^ small) (sym (reversed_rest small d v) ∙ e) in
     ap (bit_and v) (masks small d) ∙ and_high v d small ∙ rw none (omega arith)

@@ -5,11 +5,11 @@ use Rattle.std.proofs.lemmas.Nat.{pow_pos, le-div, div_below}
 use Rattle.std.proofs.Math.Nat.{mod-eq_of_lt}
 use Rattle.rev_cursor.specs.Place.{reversed, place, block_end, block_start}
 use Rattle.rev_cursor.specs.Span.{times}
-use Rattle.rev_cursor.proofs.Reversal.{reversed-twice}
-use Rattle.rev_cursor.proofs.Places.{low_from_reversed, reversed_from_low, block_start-le}
+use Rattle.rev_cursor.proofs.Reversal.{reversed_twice}
+use Rattle.rev_cursor.proofs.Places.{low_from_reversed, reversed_from_low, block_start_le}
 use Rattle.rehash_dict.specs.Scan.{turn, blocks_from, first_block, last_block}
 use Rattle.rehash_dict.proofs.Counts.{times-append}
-use Rattle.rehash_dict.proofs.BlockPlaces.{place_high, in_bucket_64, from_first, to_last, whole_end, whole_start, first_below_last, block-below, last-le}
+use Rattle.rehash_dict.proofs.BlockPlaces.{place_high, in_bucket_64, from_first, to_last, whole_end, whole_start, first_below_last, block_below_in_block_places, last_le}
 
 -- an item with this hash stands so often in the bucket of its hash, and in no other
 pub record Weighs (rows : List (List ℕ)) (bits i hash often : ℕ) : Type 0 where
@@ -24,10 +24,10 @@ module _ (rows : List (List ℕ)) (bits i hash often : ℕ) (w : Weighs rows bit
   ]
 
   in_own : (n : ℕ) → n < 2 ^ bits → reversed bits hash ≡ n → times i (turn rows bits (reversed bits n)) ≡ often
-  in_own n below h = w.here (reversed bits n) (low_from_reversed bits hash (reversed bits n) (h ∙ sym (reversed-twice bits n ∙ mod-eq_of_lt below)))
+  in_own n below h = w.here (reversed bits n) (low_from_reversed bits hash (reversed bits n) (h ∙ sym (reversed_twice bits n ∙ mod-eq_of_lt below)))
 
   in_no_other : (n : ℕ) → n < 2 ^ bits → (reversed bits hash ≡ n → ⊥) → times i (turn rows bits (reversed bits n)) ≡ 0
-  in_no_other n below h = w.away (reversed bits n) (λ same. h (reversed_from_low bits hash (reversed bits n) same ∙ reversed-twice bits n ∙ mod-eq_of_lt below))
+  in_no_other n below h = w.away (reversed bits n) (λ same. h (reversed_from_low bits hash (reversed bits n) same ∙ reversed_twice bits n ∙ mod-eq_of_lt below))
 
   pub blocks_past : (count n : ℕ) → n + count ≤ 2 ^ bits → reversed bits hash < n → times i (blocks_from rows bits count n) ≡ 0
   unfolding blocks_from
@@ -76,7 +76,7 @@ module _ (rows : List (List ℕ)) (bits i hash often : ℕ) (w : Weighs rows bit
   ]
 
 within_table : (small large v : ℕ) → small ≤ large → large < 64 → first_block large v + (last_block small large v - first_block large v) ≤ 2 ^ large
-within_table small large v order width = omega (arith, block-below large v width, last-le small large v order width)
+within_table small large v order width = omega (arith, block_below_in_block_places large v width, last_le small large v order width)
 
 -- a move by turns
 abbrev pub by_turns : List (List ℕ) → List (List ℕ) → ℕ → ℕ → ℕ → List ℕ
@@ -152,7 +152,7 @@ module _ (small v hash : ℕ) (narrow : small < 64) where
             ) in
             let first : place v / 2 ^ (64 - small) * 2 ^ (large - small) ≤ first_block large v =
             le-div (place v / 2 ^ (64 - small) * 2 ^ (large - small)) (place v) (2 ^ (64 - large)) (pow_pos (64 - large))
-            (omega (arith, whole_start small large v order width, block_start-le (64 - small) (place v))) in
+            (omega (arith, whole_start small large v order width, block_start_le (64 - small) (place v))) in
             omega (
               arith,
               t.under under,

@@ -12,7 +12,7 @@ use Rattle.rehash_dict.specs.Table.{Element, at_item, Updates}
 use Rattle.rehash_dict.specs.Placed.{Stand}
 use Rattle.rehash_dict.specs.Sides.{MovesOne}
 use Rattle.rehash_dict.specs.Chains.{room, element_of, entry_at, rows, IsChain, IsLinked, Links}
-use Rattle.rehash_dict.proofs.Counts.{times-here, count-set, without-here, without-none}
+use Rattle.rehash_dict.proofs.Counts.{times_here, count-set, without_here, without_none}
 use Rattle.rehash_dict.proofs.Stands.{flip, at_most_once, one_bucket, one_table, joins, leaves}
 use Rattle.rehash_dict.proofs.Rows.{Leads, Made, made, leads_older, leads_newer, length-rows, item_at, unchanged_link}
 use Rattle.rehash_dict.proofs.Edits.{joins_side, pops_side}
@@ -73,13 +73,13 @@ module _ {V : Type 0} where
     inside = omega (arith, length-rows s0.slots older)
 
     here : 0 < times at (bucket older_rows number)
-    here = omega (arith, ap (times at) top.is, times-here at top.rest)
+    here = omega (arith, ap (times at) top.is, times_here at top.rest)
 
     alone : times at top.rest ≡ 0
-    alone = omega (arith, ap (times at) top.is, times-here at top.rest, at_most_once (map element_of s0.slots) older_rows newer_rows number at l.stand)
+    alone = omega (arith, ap (times at) top.is, times_here at top.rest, at_most_once (map element_of s0.slots) older_rows newer_rows number at l.stand)
 
     is_rest : without eqb at (bucket older_rows number) ≡ top.rest
-    is_rest = ap (without eqb at) top.is ∙ without-here at top.rest ∙ without-none at top.rest alone
+    is_rest = ap (without eqb at) top.is ∙ without_here at top.rest ∙ without_none at top.rest alone
 
     spot : ℕ
     spot = e.hash % length newer

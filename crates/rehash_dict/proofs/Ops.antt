@@ -15,7 +15,7 @@ use Rattle.rehash_dict.specs.Sides.{AddsTo, side_rows}
 use Rattle.rehash_dict.specs.Chains.{room, element_of, key_of_entry, entry_at, rows, IsLinked, Links}
 use Rattle.rehash_dict.proofs.Counts.{count-set}
 use Rattle.rehash_dict.proofs.Stands.{flip, vacant_out, joins}
-use Rattle.rehash_dict.proofs.Rows.{Made, made, SameLink, leads_older, leads_newer, length-rows, item_at, count-map_element, unchanged_link, within}
+use Rattle.rehash_dict.proofs.Rows.{Made, made, SameLink, leads_older, leads_newer, length-rows, item_at, count_map_element, unchanged_link, within}
 use Rattle.rehash_dict.proofs.Edits.{OneEntry, joins_side, stays_side}
 
 abbrev one_if : Bool → ℕ
@@ -42,7 +42,7 @@ module _ {V : Type 0} where
     none_at = item_at old at ∙ ap element_of vacant
 
     grows : count_by is_some (map element_of new) ≡ count_by is_some (map element_of old) + 1
-    grows = count-map_element new ∙ more ∙ ap (λ n. n + 1) (sym (count-map_element old))
+    grows = count_map_element new ∙ more ∙ ap (λ n. n + 1) (sym (count_map_element old))
 
     same_links : (i : ℕ) → i ≢ at → SameLink old new i
     same_links i ne = unchanged_link old new i (one.others i ne)

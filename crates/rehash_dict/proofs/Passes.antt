@@ -8,7 +8,7 @@ use Rattle.rehash_dict.specs.Table.{Element, Chaining, at_item, Agrees}
 use Rattle.rehash_dict.specs.Placed.{IsSize, IsKept}
 use Rattle.rehash_dict.specs.Placed.IsSize.{no_table, power}
 use Rattle.rehash_dict.specs.Sides.{held_tables, MovesRow}
-use Rattle.rehash_dict.proofs.Counts.{bucket-past, count-none, bucket-set_same, bucket-set_other}
+use Rattle.rehash_dict.proofs.Counts.{bucket_past, count_none_in_counts, bucket_set_same, bucket_set_other}
 use Rattle.rehash_dict.proofs.Fulls.{IsNextFull, next_full, none_full}
 
 pub size_small : (n : ℕ) → IsSize n → n ≤ 2 ^ 63
@@ -19,9 +19,9 @@ size_small n (power bits e low high) = elim (cases_eq bits 63) [
 ]
 
 module _ {X : Type 0} (hash : X → ℕ) where
-  pub length-put_all : (rows : List (List X)) (xs : List X) → length (put_all hash rows xs) ≡ length rows
-  length-put_all rows [] = refl
-  length-put_all rows (x ∷ xs) = length-put_all (put hash rows x) xs ∙ length-set rows (hash x % length rows) (x ∷ bucket rows (hash x % length rows))
+  pub length_put_all : (rows : List (List X)) (xs : List X) → length (put_all hash rows xs) ≡ length rows
+  length_put_all rows [] = refl
+  length_put_all rows (x ∷ xs) = length_put_all (put hash rows x) xs ∙ length-set rows (hash x % length rows) (x ∷ bucket rows (hash x % length rows))
 
 module _ {V : Type 0} where
   -- the hashes that the elements have
@@ -40,7 +40,7 @@ module _ {V : Type 0} where
     pub position_below : position < length older
     position_below = elim (cases_lt position (length older)) [
       | inl lt ↦ lt
-      | inr over ↦ absurd (omega (arith, kept.waits going, count-none older (λ k lt. kept.passed k (omega arith))))
+      | inr over ↦ absurd (omega (arith, kept.waits going, count_none_in_counts older (λ k lt. kept.passed k (omega arith))))
     ]
 
     pub position_fits : position + 10 < 2 ^ 64
@@ -64,7 +64,7 @@ module _ {V : Type 0} where
       pub at_below : at < length older
       at_below = elim (cases_lt at (length older)) [
         | inl lt ↦ lt
-        | inr over ↦ absurd (next.full (bucket-past older at over))
+        | inr over ↦ absurd (next.full (bucket_past older at over))
       ]
 
       pub at_fits : at + 1 < 2 ^ 64
@@ -72,8 +72,8 @@ module _ {V : Type 0} where
 
       pub passed_at : (later : List (List ℕ)) → later ≡ set older at [] → (k : ℕ) → k < at + 1 → bucket later k ≡ []
       passed_at later is k lt = ap (λ t. bucket t k) is ∙ elim (cases_eq k at) [
-        | inl here ↦ ap (bucket (set older at [])) here ∙ bucket-set_same older at [] at_below
-        | inr other ↦ bucket-set_other older at k [] other ∙ elim (cases_lt k position) [
+        | inl here ↦ ap (bucket (set older at [])) here ∙ bucket_set_same older at [] at_below
+        | inr other ↦ bucket_set_other older at k [] other ∙ elim (cases_lt k position) [
           | inl before ↦ kept.passed k before
           | inr from ↦ next.before k from (omega arith)
         ]
@@ -95,4 +95,4 @@ module _ {V : Type 0} where
       is ∙ ap ended same ∙ ap (stepped_to names (held_tables h position)) (sym found)
 
   pub moved_some : (h mid : Chaining V) (at : ℕ) → MovesRow h mid at → length mid.newer ≡ length h.newer
-  moved_some h mid at m = ap length (m.newer (own_names h.items) (own_agrees h.items)) ∙ length-put_all (own_names h.items) h.newer (bucket h.older at)
+  moved_some h mid at m = ap length (m.newer (own_names h.items) (own_agrees h.items)) ∙ length_put_all (own_names h.items) h.newer (bucket h.older at)

@@ -11,7 +11,7 @@ use Rattle.rehash_dict.specs.Tables.{bucket, count}
 use Rattle.rehash_dict.specs.Table.{Element, at_item}
 use Rattle.rehash_dict.specs.Placed.{Stand}
 use Rattle.rehash_dict.specs.Chains.{element_of, entry_at, chain, chain_on, rows, IsChain, IsLinked}
-use Rattle.rehash_dict.proofs.Counts.{times-here, length-bucket-le, bucket-set_same, bucket-set_other}
+use Rattle.rehash_dict.proofs.Counts.{times_here, length_bucket_le, bucket_set_same, bucket_set_other}
 
 abbrev one_if : Bool → ℕ
 one_if b = cond b 1 0
@@ -50,15 +50,15 @@ module _ {V : Type 0} where
       same_lists (rows slots heads) table (length-map heads (λ link. chain slots (count_by is_some slots) link) ∙ sym l.many)
       (λ k lt.
       let h : k < length heads = omega (arith, length-map heads (λ link. chain slots (count_by is_some slots) link)) in
-      row_at slots heads k h ∙ chain_is slots (count_by is_some slots) (get_or heads k 0) (bucket table k) (l.each k h) (omega (arith, length-bucket-le table k)))
+      row_at slots heads k h ∙ chain_is slots (count_by is_some slots) (get_or heads k 0) (bucket table k) (l.each k h) (omega (arith, length_bucket_le table k)))
 
-  pub count-map_element : (slots : List (Option (Entry V))) → count_by is_some (map element_of slots) ≡ count_by is_some slots
-  count-map_element [] = refl
-  count-map_element (o ∷ rest) = omega (
+  pub count_map_element : (slots : List (Option (Entry V))) → count_by is_some (map element_of slots) ≡ count_by is_some slots
+  count_map_element [] = refl
+  count_map_element (o ∷ rest) = omega (
     arith,
     sum_by-cons (λ (x : Option (Element V)). one_if (is_some x)) (element_of o) (map element_of rest),
     sum_by-cons (λ (x : Option (Entry V)). one_if (is_some x)) o rest,
-    count-map_element rest,
+    count_map_element rest,
     same_some o,
   )
     where
@@ -75,7 +75,7 @@ module _ {V : Type 0} where
   pub made : (slots : List (Option (Entry V))) (older newer : List ℕ) (waiting : ℕ) (a b : List (List ℕ)) → Leads slots older a → Leads slots newer b → Stand (map element_of slots) a b
       → waiting ≡ count a → Made slots older newer waiting a b
   made slots older newer waiting a b la lb s w =
-      let total : count a + count b ≡ count_by is_some slots = s.counted ∙ count-map_element slots in
+      let total : count a + count b ≡ count_by is_some slots = s.counted ∙ count_map_element slots in
       let ra : rows slots older ≡ a = rows_are slots older a la (omega arith) in
       let rb : rows slots newer ≡ b = rows_are slots newer b lb (omega arith) in
       record {
@@ -110,7 +110,7 @@ module _ {V : Type 0} where
   pub chain_kept : (old new : List (Option (Entry V))) (link : ℕ) (row : List ℕ) → ((i : ℕ) → 0 < times i row → SameLink old new i) → IsChain old link row → IsChain new link row
   chain_kept old new link [] same c = c
   chain_kept old new link (i ∷ rest) same c =
-      let p = same i (omega (arith, times-here i rest)) c.1 c.2 in
+      let p = same i (omega (arith, times_here i rest)) c.1 c.2 in
       (c.0, p.0, p.1, subst (λ n. IsChain new n rest) (sym p.2) (chain_kept old new c.1.next rest (λ j h. same j (more j rest h)) c.3))
     where
       more : (j : ℕ) (xs : List ℕ) → 0 < times j xs → 0 < times j (i ∷ xs)
@@ -131,10 +131,10 @@ module _ {V : Type 0} where
     each = λ j h. elim (cases_eq j k) [
       | inl here ↦
           subst (λ n. IsChain new (get_or (set heads k link) n 0) (bucket (set table k row) n)) (sym here)
-          (subst (λ r. IsChain new (get_or (set heads k link) k 0) r) (sym (bucket-set_same table k row (omega (arith, l.many))))
+          (subst (λ r. IsChain new (get_or (set heads k link) k 0) r) (sym (bucket_set_same table k row (omega (arith, l.many))))
           (subst (λ n. IsChain new n row) (sym (get_or-set_same heads k link 0 lt)) c))
       | inr other ↦
-          subst (λ r. IsChain new (get_or (set heads k link) j 0) r) (sym (bucket-set_other table k j row other))
+          subst (λ r. IsChain new (get_or (set heads k link) j 0) r) (sym (bucket_set_other table k j row other))
           (subst (λ n. IsChain new n (bucket table j)) (sym (get_or-set_other heads k j link 0 other))
           (chain_kept old new (get_or heads j 0) (bucket table j) (λ i t. same j i other t) (l.each j (omega (arith, length-set heads k link)))))
     ];

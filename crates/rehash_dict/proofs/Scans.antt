@@ -8,8 +8,8 @@ use Rattle.std.proofs.lemmas.Nat.{pow_below, pow_pos}
 use Rattle.std.proofs.Math.Nat.{pow-suc}
 use Rattle.rev_cursor.specs.Place.{reversed, place, end_of, next_of, block_end, block_start}
 use Rattle.rev_cursor.specs.Span.{times, Span, StartsAt}
-use Rattle.rev_cursor.proofs.Reversal.{reversed-below}
-use Rattle.rev_cursor.proofs.Places.{end_of-next_of, lt-block_end}
+use Rattle.rev_cursor.proofs.Reversal.{reversed_below}
+use Rattle.rev_cursor.proofs.Places.{end_of_next_of, lt_block_end}
 use Rattle.rehash_dict.specs.Tables.{bucket, count}
 use Rattle.rehash_dict.specs.Table.{Element, Table, at_item, item}
 use Rattle.rehash_dict.specs.Placed.{IsSize, Stand, IsPlaced}
@@ -19,8 +19,8 @@ use Rattle.rehash_dict.specs.ScanPlaces.{place_in, CanStand}
 use Rattle.rehash_dict.proofs.Powers.{pow_le}
 use Rattle.rehash_dict.proofs.Stands.{flip, vacant_out}
 use Rattle.rehash_dict.proofs.Rooms.{no_rows}
-use Rattle.rev_cursor.proofs.Walks.{end_of-zero}
-use Rattle.rehash_dict.proofs.BlockPlaces.{aligned, first_below_last, last-le}
+use Rattle.rev_cursor.proofs.Walks.{end_of_zero}
+use Rattle.rehash_dict.proofs.BlockPlaces.{aligned, first_below_last, last_le}
 use Rattle.rehash_dict.proofs.WalkLaw.{walked}
 use Rattle.rehash_dict.proofs.Moved.{Weighs, Given, by_turns, given_turn, given_turns}
 
@@ -46,9 +46,9 @@ bits_are (suc more) k b from to = elim (cases_eq k b) [
     is_not x y h = grind (arith, nat_tests)
 
 -- 2 ^ b buckets are told apart by b bits, for b below 64
-pub bits_of-power : (b n : ℕ) → n ≡ 2 ^ b → b < 64 → bits_of n ≡ b
+pub bits_of_power : (b n : ℕ) → n ≡ 2 ^ b → b < 64 → bits_of n ≡ b
 unfolding bits_of
-bits_of-power b n e lt = ap (bits_from 64 0) e ∙ bits_are 64 0 b (omega arith) (omega arith)
+bits_of_power b n e lt = ap (bits_from 64 0) e ∙ bits_are 64 0 b (omega arith) (omega arith)
 
 -- a table's size, by its bits
 pub record IsWidth (n bits : ℕ) : Type 0 where
@@ -61,14 +61,14 @@ pub record IsWidth (n bits : ℕ) : Type 0 where
 pub width_of : (n : ℕ) → IsSize n → 0 < n → IsWidth n (bits_of n)
 width_of n (no_table e) some = absurd (omega arith)
 width_of n (power bits e low high) some =
-    let is : bits_of n ≡ bits = bits_of-power bits n e high in
+    let is : bits_of n ≡ bits = bits_of_power bits n e high in
     record { power = e ∙ ap (λ b. 2 ^ b) (sym is); many = omega arith; few = omega arith; is = refl }
 
 -- the binary logarithm of a table's size, rounded down, is the number of its bits
 pub log_is : (n r : ℕ) → IsSize n → 2 ^ r ≤ n → n < 2 * 2 ^ r → r ≡ bits_of n
 log_is n r (no_table e) low high = absurd (omega (arith, pow_pos r))
 log_is n r (power bits e a b) low high =
-    let is : bits_of n ≡ bits = bits_of-power bits n e b in
+    let is : bits_of n ≡ bits = bits_of_power bits n e b in
     elim (cases_lt r bits) [
       | inl under ↦ absurd (omega (arith, e, pow_le (suc r) bits under, pow-suc 2 r))
       | inr over ↦ elim (cases_eq r bits) [
@@ -231,7 +231,7 @@ move_two items older newer v s a b =
     le_bits (bits_of (length (smaller_of older newer))) (bits_of (length (larger_of older newer))) (omega (arith, ws.power, wl.power, o.order)) in
     let more : first_block (bits_of (length (larger_of older newer))) v < last_block (bits_of (length (smaller_of older newer))) (bits_of (length (larger_of older newer))) v =
     first_below_last _ _ v below wl.few in
-    let within : last_block (bits_of (length (smaller_of older newer))) (bits_of (length (larger_of older newer))) v ≤ 2 ^ bits_of (length (larger_of older newer)) = last-le _ _ v below wl.few in
+    let within : last_block (bits_of (length (smaller_of older newer))) (bits_of (length (larger_of older newer))) v ≤ 2 ^ bits_of (length (larger_of older newer)) = last_le _ _ v below wl.few in
     let count : ℕ = last_block (bits_of (length (smaller_of older newer))) (bits_of (length (larger_of older newer))) v - first_block (bits_of (length (larger_of older newer))) v - 1 in
     let all : last_block (bits_of (length (smaller_of older newer))) (bits_of (length (larger_of older newer))) v - first_block (bits_of (length (larger_of older newer))) v ≡ suc count =
     omega arith in
@@ -367,9 +367,9 @@ module _ {V : Type 0} where
     | inl some ↦
         (let m = is_move t.items t.older t.newer v c.placed.kept.stand some in
         let ends : end_of (scanned t.older t.newer v).1 ≡ block_end (64 - bits_of (length (smaller_of t.older t.newer))) (place v) = ap end_of m.next
-        ∙ end_of-next_of (bits_of (length (smaller_of t.older t.newer))) v m.narrow in
+        ∙ end_of_next_of (bits_of (length (smaller_of t.older t.newer))) v m.narrow in
         record {
-          on = omega (arith, ends, lt-block_end (64 - bits_of (length (smaller_of t.older t.newer))) (place v));
+          on = omega (arith, ends, lt_block_end (64 - bits_of (length (smaller_of t.older t.newer))) (place v));
           once = λ i. most i (item t i) refl m;
           whole = λ i at h from to.
               let p = placed_element t i at (item t i) refl (sym (c.places i) ∙ h) in
@@ -388,7 +388,7 @@ module _ {V : Type 0} where
         let found : (scanned t.older t.newer v).0 ≡ [] = ap (λ p. p.0) empty in
         let next : (scanned t.older t.newer v).1 ≡ 0 = ap (λ p. p.1) empty in
         record {
-          on = omega (arith, ap end_of next ∙ end_of-zero, reversed-below 64 v);
+          on = omega (arith, ap end_of next ∙ end_of_zero, reversed_below 64 v);
           once = λ i. omega (arith, ap (times i) found);
           whole = λ i at h from to. (let p = placed_element t i at (item t i) refl (sym (c.places i) ∙ h) in absurd (nothing t i p.0 c.placed none p.1));
           low = λ i at h over. ap (times i) found;

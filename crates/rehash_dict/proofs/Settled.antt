@@ -14,8 +14,8 @@ four_le : (m : ℕ) → 4 ≤ max 4 m
 four_le m = omega arith
 
 module _ {X : Type 0} where
-  begun-settled : (t : Tables X) (size : ℕ) → 0 < size → (count t.older ≡ 0 → size ≤ 4) → IsSettled (begun t size)
-  begun-settled t size some few =
+  begun_settled : (t : Tables X) (size : ℕ) → 0 < size → (count t.older ≡ 0 → size ≤ 4) → IsSettled (begun t size)
+  begun_settled t size some few =
       let r : Tables X = record { older = t.older; newer = no_elements size; position = 0 } in
       let rows : length (no_elements {X = X} size) ≡ size = length-replicate size [] in
       let going : 0 < length r.newer = omega (arith, rows) in
@@ -26,12 +26,12 @@ module _ {X : Type 0} where
       ]
 
   -- `shrink` leaves the tables settled.
-  pub shrunk-settled : (t : Tables X) → IsSettled (shrunk t)
+  pub shrunk_settled : (t : Tables X) → IsSettled (shrunk t)
   unfolding shrunk
-  shrunk-settled t =
+  shrunk_settled t =
       let size : ℕ = max 4 (least_power (count t.older)) in
       elim (cases_Bool (wants_shrink t)) [
         | inl wanted ↦ ap wants_shrink (cond-true (wants_shrink t) (begun t size) t wanted)
-            ∙ begun-settled t size (omega (arith, four_le (least_power (count t.older)))) (λ none. omega (arith, ap (λ n. max 4 (least_power n)) none, least_none))
+            ∙ begun_settled t size (omega (arith, four_le (least_power (count t.older)))) (λ none. omega (arith, ap (λ n. max 4 (least_power n)) none, least_none))
         | inr no' ↦ ap wants_shrink (cond-false (wants_shrink t) (begun t size) t no') ∙ no'
       ]

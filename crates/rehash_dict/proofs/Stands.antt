@@ -7,8 +7,8 @@ use Rattle.rehash_dict.specs.Tables.{bucket, count, without, no_elements}
 use Rattle.rehash_dict.specs.Table.{Element, at_item, Updates}
 use Rattle.rehash_dict.specs.Placed.{IsSize, Names, Stand}
 use Rattle.rehash_dict.specs.Placed.IsSize.{no_table}
-use Rattle.rehash_dict.proofs.Counts.{times-here, times-past, times-without_same, times-without_other, length-without, bucket-set_same, bucket-set_other, count-set, bucket-none}
-use Rattle.rehash_dict.proofs.Counts.{bucket-no_elements, count-no_elements}
+use Rattle.rehash_dict.proofs.Counts.{times_here, times_past, times_without_same, times_without_other, length-without, bucket_set_same, bucket_set_other, count-set, bucket_none}
+use Rattle.rehash_dict.proofs.Counts.{bucket_no_elements, count_no_elements}
 
 module _ {V : Type 0} where
   -- elements that stand in an older and a newer table stand in these the other way round too
@@ -87,16 +87,16 @@ module _ {V : Type 0} where
     older_names : Names later grown
     older_names j i h = elim (cases_eq j k) [
       | inl same ↦
-          (let row : bucket grown j ≡ at ∷ bucket a k = ap (bucket grown) same ∙ bucket-set_same a k (at ∷ bucket a k) lt in
+          (let row : bucket grown j ≡ at ∷ bucket a k = ap (bucket grown) same ∙ bucket_set_same a k (at ∷ bucket a k) lt in
           elim (cases_eq i at) [
             | inl mine ↦ (e, ap (at_item later) mine ∙ u.changed, ap (λ n. e.hash % n) (length-set a k (at ∷ bucket a k)) ∙ here ∙ sym same)
             | inr other ↦
-                (let n : 0 < times i (bucket a k) = omega (arith, ap (times i) row, times-past i at (bucket a k) (λ q. other (sym q))) in
+                (let n : 0 < times i (bucket a k) = omega (arith, ap (times i) row, times_past i at (bucket a k) (λ q. other (sym q))) in
                 let p = s.of_older k i n in
                 (p.0, u.others i other ∙ p.1, ap (λ m. p.0.hash % m) (length-set a k (at ∷ bucket a k)) ∙ p.2 ∙ sym same))
           ])
       | inr apart ↦
-          (let row : bucket grown j ≡ bucket a j = bucket-set_other a k j (at ∷ bucket a k) apart in
+          (let row : bucket grown j ≡ bucket a j = bucket_set_other a k j (at ∷ bucket a k) apart in
           let n : 0 < times i (bucket a j) = omega (arith, ap (times i) row) in
           let p = s.of_older j i n in
           (p.0, u.others i (there i a j s.of_older n) ∙ p.1, ap (λ m. p.0.hash % m) (length-set a k (at ∷ bucket a k)) ∙ p.2))
@@ -105,8 +105,8 @@ module _ {V : Type 0} where
     -- every other item number stands as often in each bucket of the table with the new one as before
     older_times : (i j : ℕ) → i ≢ at → times i (bucket grown j) ≡ times i (bucket a j)
     older_times i j other = elim (cases_eq j k) [
-      | inl same ↦ ap (times i) (ap (bucket grown) same ∙ bucket-set_same a k (at ∷ bucket a k) lt) ∙ times-past i at (bucket a k) (λ q. other (sym q)) ∙ ap (λ n. times i (bucket a n)) (sym same)
-      | inr apart ↦ ap (times i) (bucket-set_other a k j (at ∷ bucket a k) apart)
+      | inl same ↦ ap (times i) (ap (bucket grown) same ∙ bucket_set_same a k (at ∷ bucket a k) lt) ∙ times_past i at (bucket a k) (λ q. other (sym q)) ∙ ap (λ n. times i (bucket a n)) (sym same)
+      | inr apart ↦ ap (times i) (bucket_set_other a k j (at ∷ bucket a k) apart)
     ]
 
     -- with the new item number, each element stands once, in the bucket of its hash in one of the two tables
@@ -115,8 +115,8 @@ module _ {V : Type 0} where
       | inl mine ↦
           (let one : e ≡ f = same_element (at_item later at) e f u.changed (ap (at_item later) (sym mine) ∙ h) in
           let spot : f.hash % length grown ≡ k = ap (λ n. f.hash % n) (length-set a k (at ∷ bucket a k)) ∙ ap (λ x. x.hash % length a) (sym one) ∙ here in
-          let row : bucket grown (f.hash % length grown) ≡ at ∷ bucket a k = ap (bucket grown) spot ∙ bucket-set_same a k (at ∷ bucket a k) lt in
-          let first : times i (bucket grown (f.hash % length grown)) ≡ suc (times at (bucket a k)) = ap (times i) row ∙ ap (λ n. times n (at ∷ bucket a k)) mine ∙ times-here at (bucket a k) in
+          let row : bucket grown (f.hash % length grown) ≡ at ∷ bucket a k = ap (bucket grown) spot ∙ bucket_set_same a k (at ∷ bucket a k) lt in
+          let first : times i (bucket grown (f.hash % length grown)) ≡ suc (times at (bucket a k)) = ap (times i) row ∙ ap (λ n. times n (at ∷ bucket a k)) mine ∙ times_here at (bucket a k) in
           let second : times i (bucket b (f.hash % length b)) ≡ 0 = ap (λ n. times n (bucket b (f.hash % length b))) mine ∙ vacant_out items b at (f.hash % length b) s.of_newer vacant in
           omega (arith, vacant_out items a at k s.of_older vacant))
       | inr other ↦
@@ -147,15 +147,15 @@ module _ {V : Type 0} where
     -- the item number that was taken out stands in no bucket of the table
     gone : (j : ℕ) → times at (bucket left j) ≡ 0
     gone j = elim (cases_eq j k) [
-      | inl same ↦ ap (times at) (ap (bucket left) same ∙ bucket-set_same a k (without eqb at (bucket a k)) lt) ∙ times-without_same at (bucket a k)
-      | inr apart ↦ ap (times at) (bucket-set_other a k j (without eqb at (bucket a k)) apart) ∙ one_bucket items a b k j at s inside apart
+      | inl same ↦ ap (times at) (ap (bucket left) same ∙ bucket_set_same a k (without eqb at (bucket a k)) lt) ∙ times_without_same at (bucket a k)
+      | inr apart ↦ ap (times at) (bucket_set_other a k j (without eqb at (bucket a k)) apart) ∙ one_bucket items a b k j at s inside apart
     ]
 
     -- every other item number stands as often in each bucket of the table without the one taken out as before
     rest_times : (i j : ℕ) → i ≢ at → times i (bucket left j) ≡ times i (bucket a j)
     rest_times i j other = elim (cases_eq j k) [
-      | inl same ↦ ap (times i) (ap (bucket left) same ∙ bucket-set_same a k (without eqb at (bucket a k)) lt) ∙ times-without_other at i (bucket a k) other ∙ ap (λ n. times i (bucket a n)) (sym same)
-      | inr apart ↦ ap (times i) (bucket-set_other a k j (without eqb at (bucket a k)) apart)
+      | inl same ↦ ap (times i) (ap (bucket left) same ∙ bucket_set_same a k (without eqb at (bucket a k)) lt) ∙ times_without_other at i (bucket a k) other ∙ ap (λ n. times i (bucket a n)) (sym same)
+      | inr apart ↦ ap (times i) (bucket_set_other a k j (without eqb at (bucket a k)) apart)
     ]
 
     -- the table without the item number names only elements that are left, each in the bucket of its hash
@@ -210,9 +210,9 @@ module _ {V : Type 0} where
   pub opens : (items : List (Option (Element V))) (a : List (List ℕ)) (n : ℕ) → Stand items a [] → IsSize n → Stand items a (no_elements {X = ℕ} n)
   opens items a n s size = record {
     of_older = s.of_older;
-    of_newer = λ k i h. absurd (omega (arith, ap (times i) (bucket-no_elements n k)));
-    once = λ i e h. omega (arith, s.once i e h, ap (times i) (bucket-no_elements n (e.hash % length (no_elements {X = ℕ} n))));
-    counted = omega (arith, s.counted, count-no_elements ℕ n);
+    of_newer = λ k i h. absurd (omega (arith, ap (times i) (bucket_no_elements n k)));
+    once = λ i e h. omega (arith, s.once i e h, ap (times i) (bucket_no_elements n (e.hash % length (no_elements {X = ℕ} n))));
+    counted = omega (arith, s.counted, count_no_elements ℕ n);
     older_size = s.older_size;
     newer_size = subst IsSize (sym (length-replicate {A = List ℕ} n [])) size;
   }
@@ -222,7 +222,7 @@ module _ {V : Type 0} where
   ends items a b s none = record {
     of_older = s.of_newer;
     of_newer = λ k i h. absurd (omega arith);
-    once = λ i e h. omega (arith, s.once i e h, ap (times i) (bucket-none a (e.hash % length a) none));
+    once = λ i e h. omega (arith, s.once i e h, ap (times i) (bucket_none a (e.hash % length a) none));
     counted = omega (arith, s.counted);
     older_size = s.newer_size;
     newer_size = no_table refl;

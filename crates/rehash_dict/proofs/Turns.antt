@@ -7,15 +7,15 @@ use Rattle.std.proofs.lemmas.Nat.{pow_below}
 use Rattle.std.proofs.Math.Nat.{mod-eq_of_lt}
 use Rattle.rev_cursor.specs.Place.{reversed, place}
 use Rattle.rev_cursor.specs.Span.{times}
-use Rattle.rev_cursor.proofs.Reversal.{reversed-twice}
+use Rattle.rev_cursor.proofs.Reversal.{reversed_twice}
 use Rattle.rev_cursor.proofs.Places.{reversed_from_low}
 use Rattle.rehash_dict.specs.Tables.{bucket}
 use Rattle.rehash_dict.specs.Table.{Element, at_item}
 use Rattle.rehash_dict.specs.Placed.{IsSize, Names, Stand}
 use Rattle.rehash_dict.specs.Scan.{bits_of, turn, smaller_of, larger_of, turns_of, turn_at, turns_from, first_block, last_block, first_of, after_in, Extends}
-use Rattle.rehash_dict.proofs.Counts.{times-here, times-past, times-append}
+use Rattle.rehash_dict.proofs.Counts.{times_here, times_past, times-append}
 use Rattle.rehash_dict.proofs.Powers.{pow_le}
-use Rattle.rehash_dict.proofs.BlockPlaces.{block-fits, last-whole, last-le, first_below_last, place_high}
+use Rattle.rehash_dict.proofs.BlockPlaces.{block_fits_in_block_places, last_whole, last_le, first_below_last, place_high}
 use Rattle.rehash_dict.proofs.Scans.{ordered, width_of, smaller_one}
 
 -- the blocks of a move from this place are at least one, lie within the larger table, and are 64-bit numbers
@@ -29,10 +29,10 @@ pub record IsWide (start s l : ℕ) : Type 0 where
 -- at any cursor the blocks of a move are so, where the larger table has as many bits or more, below 64
 pub wide : (v start s l : ℕ) → start ≡ place v → s ≤ l → l < 64 → IsWide start s l
 wide v start s l is order few = subst (λ x. IsWide x s l) (sym is) (record {
-  block_fits = block-fits s v (omega arith);
-  whole = last-whole s l v order few;
+  block_fits = block_fits_in_block_places s v (omega arith);
+  whole = last_whole s l v order few;
   more = first_below_last s l v order few;
-  within = last-le s l v order few;
+  within = last_le s l v order few;
   below = pow_le l 63 (omega arith);
 })
 
@@ -151,9 +151,9 @@ unfolding turns_from
 turns_end older newer v last n over = (let none : last - n ≡ 0 = omega arith in ap (λ c. turns_from older newer v c n) none)
 
 -- the first of a list that has one stays the first when another list is appended
-pub first_of-append : (xs ys : List ℕ) (x : ℕ) (rest : List ℕ) → xs ≡ x ∷ rest → first_of (xs ++ ys) ≡ Some x
-first_of-append [] ys x rest h = cc
-first_of-append (z ∷ zs) ys x rest h = (let q : z ≡ x = cc in ap Some q)
+pub first_of_append : (xs ys : List ℕ) (x : ℕ) (rest : List ℕ) → xs ≡ x ∷ rest → first_of (xs ++ ys) ≡ Some x
+first_of_append [] ys x rest h = cc
+first_of_append (z ∷ zs) ys x rest h = (let q : z ≡ x = cc in ap Some q)
 
 -- in which turn a number stands
 pub record InTurn (older newer : List (List ℕ)) (v at first count : ℕ) : Type 0 where
@@ -178,19 +178,19 @@ after_past : (at x : ℕ) (xs : List ℕ) → (x ≡ at → ⊥) → after_in at
 after_past at x xs h = cond-false _ _ _ (ne_eqb x at h)
 
 -- where a number isn't in the first list, what stands behind it is that of the second list
-pub after_in-none : (at : ℕ) (xs ys : List ℕ) → times at xs ≡ 0 → after_in at (xs ++ ys) ≡ after_in at ys
-after_in-none at [] ys h = refl
-after_in-none at (x ∷ xs) ys h = elim (cases_eq x at) [
-  | inl here ↦ absurd (omega (arith, ap (λ n. times at (n ∷ xs)) here ∙ times-here at xs))
-  | inr other ↦ after_past at x (xs ++ ys) other ∙ after_in-none at xs ys (omega (arith, times-past at x xs other))
+pub after_in_none : (at : ℕ) (xs ys : List ℕ) → times at xs ≡ 0 → after_in at (xs ++ ys) ≡ after_in at ys
+after_in_none at [] ys h = refl
+after_in_none at (x ∷ xs) ys h = elim (cases_eq x at) [
+  | inl here ↦ absurd (omega (arith, ap (λ n. times at (n ∷ xs)) here ∙ times_here at xs))
+  | inr other ↦ after_past at x (xs ++ ys) other ∙ after_in_none at xs ys (omega (arith, times_past at x xs other))
 ]
 
 -- where a number is in the first list, what stands behind it goes on with the whole second list
-pub after_in-some : (at : ℕ) (xs ys : List ℕ) → 0 < times at xs → after_in at (xs ++ ys) ≡ after_in at xs ++ ys
-after_in-some at [] ys h = absurd (omega arith)
-after_in-some at (x ∷ xs) ys h = elim (cases_eq x at) [
+pub after_in_some : (at : ℕ) (xs ys : List ℕ) → 0 < times at xs → after_in at (xs ++ ys) ≡ after_in at xs ++ ys
+after_in_some at [] ys h = absurd (omega arith)
+after_in_some at (x ∷ xs) ys h = elim (cases_eq x at) [
   | inl here ↦ cond-true _ _ _ (eq-eqb x at here) ∙ ap (λ r. r ++ ys) (sym (cond-true _ xs (after_in at xs) (eq-eqb x at here)))
-  | inr other ↦ after_past at x (xs ++ ys) other ∙ after_in-some at xs ys (omega (arith, times-past at x xs other)) ∙ ap (λ r. r ++ ys) (sym (after_past at x xs other))
+  | inr other ↦ after_past at x (xs ++ ys) other ∙ after_in_some at xs ys (omega (arith, times_past at x xs other)) ∙ ap (λ r. r ++ ys) (sym (after_past at x xs other))
 ]
 
 -- behind a number there stands the rest if it is the first, and else what stands behind it in the rest
@@ -218,14 +218,14 @@ after_turns older newer v at n (suc count) first from to here few = elim (cases_
       (let one : first + suc count - (n + 1) ≡ count = omega arith in
       let next : suc first ≡ n + 1 = omega arith in
       ap (λ m. after_in at (turn_at older newer v m ++ turns_from older newer v count (suc first))) same
-      ∙ after_in-some at (turn_at older newer v n) (turns_from older newer v count (suc first)) here
+      ∙ after_in_some at (turn_at older newer v n) (turns_from older newer v count (suc first)) here
       ∙ (λ i. after_in at (turn_at older newer v n) ++ turns_from older newer v (sym one i) (next i)))
   | inr later' ↦
       (let split : times at (turn_at older newer v first ++ turns_from older newer v count (suc first)) ≡ times at (turn_at older newer v first) + times at
       (turns_from older newer v count (suc first)) = times-append at (turn_at older newer v first) (turns_from older newer v count (suc first)) in
       let later_some : 0 < times at (turns_from older newer v count (suc first)) = some_in older newer v at n count (suc first) (omega arith) (omega arith) here in
       let size : first + suc count - (n + 1) ≡ suc first + count - (n + 1) = omega arith in
-      after_in-none at (turn_at older newer v first) (turns_from older newer v count (suc first)) (omega arith)
+      after_in_none at (turn_at older newer v first) (turns_from older newer v count (suc first)) (omega arith)
       ∙ after_turns older newer v at n count (suc first) (omega arith) (omega arith) here (omega arith)
       ∙ ap (λ c. after_in at (turn_at older newer v n) ++ turns_from older newer v c (n + 1)) (sym size))
 ]
@@ -274,7 +274,7 @@ module _ {V : Type 0} (items : List (Option (Element V))) (older newer : List (L
       let mine : reversed (bits_of (length (larger_of older newer))) p.0.hash ≡ first_block (bits_of (length (larger_of older newer))) v + (t.number - 1)
       = reversed_from_low (bits_of (length (larger_of older newer))) p.0.hash
       (reversed (bits_of (length (larger_of older newer))) (first_block (bits_of (length (larger_of older newer))) v + (t.number - 1))) low
-      ∙ reversed-twice (bits_of (length (larger_of older newer))) (first_block (bits_of (length (larger_of older newer))) v + (t.number - 1)) ∙ mod-eq_of_lt block in
+      ∙ reversed_twice (bits_of (length (larger_of older newer))) (first_block (bits_of (length (larger_of older newer))) v + (t.number - 1)) ∙ mod-eq_of_lt block in
       let high : place p.0.hash / 2 ^ (64 - bits_of (length (larger_of older newer))) ≡ first_block (bits_of (length (larger_of older newer))) v + (t.number - 1) =
       place_high (bits_of (length (larger_of older newer))) p.0.hash few ∙ mine in
       record {

@@ -9,9 +9,9 @@ use Rattle.rehash_dict.specs.Table.{Element, Chaining, at_item}
 use Rattle.rehash_dict.specs.Placed.{IsSize, Stand}
 use Rattle.rehash_dict.specs.Sides.{SwapsIn}
 use Rattle.rehash_dict.specs.Chains.{element_of, entry_at, rows, IsChain, IsLinked}
-use Rattle.rehash_dict.proofs.Counts.{count-no_elements, bucket-no_elements}
+use Rattle.rehash_dict.proofs.Counts.{count_no_elements, bucket_no_elements}
 use Rattle.rehash_dict.proofs.Stands.{flip, restands, opens, ends}
-use Rattle.rehash_dict.proofs.Rows.{Leads, Made, made, SameLink, leads_kept, leads_older, leads_newer, item_at, count-map_element, within}
+use Rattle.rehash_dict.proofs.Rows.{Leads, Made, made, SameLink, leads_kept, leads_older, leads_newer, item_at, count_map_element, within}
 use Rattle.rehash_dict.proofs.Ops.{view_of, element}
 
 abbrev one_if : Bool → ℕ
@@ -71,7 +71,7 @@ module _ {V : Type 0} where
         made later older newer waiting (rows slots older) (rows slots newer)
         (leads_kept slots later older (rows slots older) (λ k i t. links i) (leads_older slots older newer waiting l))
         (leads_kept slots later newer (rows slots newer) (λ k i t. links i) (leads_newer slots older newer waiting l))
-        (restands (map element_of slots) (map element_of later) (rows slots older) (rows slots newer) l.stand forth back (count-map_element later ∙ same_count ∙ sym (count-map_element slots)))
+        (restands (map element_of slots) (map element_of later) (rows slots older) (rows slots newer) l.stand forth back (count_map_element later ∙ same_count ∙ sym (count_map_element slots)))
         l.waits
 
     pub swaps_in : (capacity : ℕ) (was : Chaining V) (swaps : Element V → Type 0) → view_of slots older newer capacity ≡ was → swaps (element e)
@@ -92,7 +92,7 @@ module _ {V : Type 0} where
   leads_empty : (slots : List (Option (Entry V))) (n : ℕ) (heads : List ℕ) → heads ≡ replicate n 0 → Leads slots heads (no_elements {X = ℕ} n)
   leads_empty slots n heads is = subst (λ h. Leads slots h (no_elements {X = ℕ} n)) (sym is) (record {
     many = length-replicate {A = List ℕ} n [] ∙ sym (length-replicate {A = ℕ} n 0);
-    each = λ k lt. subst (IsChain slots (get_or (replicate n 0) k 0)) (sym (bucket-no_elements n k)) (get_or-replicate n k 0 0 (omega (arith, length-replicate {A = ℕ} n 0)));
+    each = λ k lt. subst (IsChain slots (get_or (replicate n 0) k 0)) (sym (bucket_no_elements n k)) (get_or-replicate n k 0 0 (omega (arith, length-replicate {A = ℕ} n 0)));
   })
 
   pub opened_newer : (slots : List (Option (Entry V))) (older newer heads : List ℕ) (waiting n : ℕ) → IsLinked slots older newer waiting → rows slots newer ≡ [] → IsSize n
@@ -108,7 +108,7 @@ module _ {V : Type 0} where
       made slots heads newer waiting (no_elements {X = ℕ} n) (rows slots newer)
       (leads_empty slots n heads is) (leads_newer slots older newer waiting l)
       (flip _ _ _ (opens (map element_of slots) (rows slots newer) n (flip _ _ _ (subst (λ t. Stand (map element_of slots) t (rows slots newer)) none l.stand)) size))
-      (l.waits ∙ ap count none ∙ sym (count-no_elements ℕ n))
+      (l.waits ∙ ap count none ∙ sym (count_no_elements ℕ n))
 
   pub given_up : (slots : List (Option (Entry V))) (older newer heads : List ℕ) (waiting len : ℕ) → IsLinked slots older newer waiting → count (rows slots older) ≡ 0 → heads ≡ []
       → len ≡ count_by is_some slots → Made slots newer heads len (rows slots newer) []
@@ -117,4 +117,4 @@ module _ {V : Type 0} where
       (leads_newer slots older newer waiting l)
       (subst (λ h. Leads slots h []) (sym is) (record { many = refl; each = λ k lt. absurd (omega arith) }))
       (ends (map element_of slots) (rows slots older) (rows slots newer) l.stand none)
-      (omega (arith, l.stand.counted, count-map_element slots))
+      (omega (arith, l.stand.counted, count_map_element slots))

@@ -5,10 +5,10 @@ use Rattle.std.specs.Prelude.{◌==◌}
 use Rattle.std.proofs.lemmas.Bool.Decides.{nat_tests}
 use Rattle.std.proofs.lemmas.Nat.{pow_pos, shl-shr, shr_le, shr_split, mod_below, le-div, div_below}
 use Rattle.std.proofs.lemmas.Bool.{cases_lt}
-use Rattle.rev_cursor.proofs.Places.{block_start-le, lt-block_end, block_end-le_64, same_block, next_is}
+use Rattle.rev_cursor.proofs.Places.{block_start_le, lt_block_end, block_end_le_64, same_block, next_is}
 use Rattle.std.proofs.Math.Nat.{mod-eq_of_lt, mul-mod_left, mul-le-mul_right, suc-mul}
 use Rattle.rev_cursor.specs.Place.{reversed, place, next_of, block_end}
-use Rattle.rev_cursor.proofs.Reversal.{reversed-twice}
+use Rattle.rev_cursor.proofs.Reversal.{reversed_twice}
 use Rattle.rehash_dict.specs.Tables.{bucket}
 use Rattle.rehash_dict.specs.Scan.{turn, walk, blocks_from, first_block, last_block}
 use Rattle.rehash_dict.proofs.BlockPlaces.{place_high, whole_end, whole_start}
@@ -17,7 +17,7 @@ use Rattle.rehash_dict.proofs.Masks.{test_end, end_test}
 -- a bucket is the one of its place
 same_turn : {X : Type 0} (rows : List (List X)) (large v : ℕ) → large < 64 → turn rows large v ≡ turn rows large (reversed large (first_block large v))
 same_turn rows large v width =
-    let back : reversed large (first_block large v) ≡ v % 2 ^ large = ap (reversed large) (place_high large v width) ∙ reversed-twice large v in
+    let back : reversed large (first_block large v) ≡ v % 2 ^ large = ap (reversed large) (place_high large v width) ∙ reversed_twice large v in
     let low : v % 2 ^ large ≡ reversed large (first_block large v) % 2 ^ large = sym (mod-eq_of_lt (mod_below v (2 ^ large) (pow_pos large))) ∙ ap (λ (x : ℕ). x % 2 ^ large) (sym back) in
     ap (bucket rows) low
 
@@ -33,15 +33,15 @@ at_test small large v order width e =
 
 -- where a turn leads: to the next block, or past the last one to 0
 stepped : (large v : ℕ) → large < 64 → (first_block large v + 1) * 2 ^ (64 - large) < 2 ^ 64 → place (next_of v large) ≡ (first_block large v + 1) * 2 ^ (64 - large)
-stepped large v width h = ap place (next_is large v width) ∙ reversed-twice 64 (block_end (64 - large) (place v) % 2 ^ 64) ∙ rw (mod-eq_of_lt h) (mod-eq_of_lt h)
+stepped large v width h = ap place (next_is large v width) ∙ reversed_twice 64 (block_end (64 - large) (place v) % 2 ^ 64) ∙ rw (mod-eq_of_lt h) (mod-eq_of_lt h)
 
 stepped_block : (large v : ℕ) → large < 64 → (first_block large v + 1) * 2 ^ (64 - large) < 2 ^ 64 → reversed large (next_of v large) ≡ first_block large v + 1
 stepped_block large v width h = sym (place_high large (next_of v large) width) ∙ ap (λ (x : ℕ). x / 2 ^ (64 - large)) (stepped large v width h) ∙ shl-shr (first_block large v + 1) (64 - large)
 
 stepped_out : (large v : ℕ) → large < 64 → (first_block large v + 1) * 2 ^ (64 - large) ≡ 2 ^ 64 → reversed large (next_of v large) ≡ 0
 stepped_out large v width h =
-    let zeroed : place (next_of v large) ≡ 0 = ap place (next_is large v width) ∙ reversed-twice 64 (block_end (64 - large) (place v) % 2 ^ 64) ∙ ap (λ (x : ℕ). x % 2 ^ 64 % 2 ^ 64) h in
-    omega (arith, place_high large (next_of v large) width, block_start-le (64 - large) (place (next_of v large)), zeroed, pow_pos (64 - large), shr_le (place (next_of v large)) (64 - large))
+    let zeroed : place (next_of v large) ≡ 0 = ap place (next_is large v width) ∙ reversed_twice 64 (block_end (64 - large) (place v) % 2 ^ 64) ∙ ap (λ (x : ℕ). x % 2 ^ 64 % 2 ^ 64) h in
+    omega (arith, place_high large (next_of v large) width, block_start_le (64 - large) (place (next_of v large)), zeroed, pow_pos (64 - large), shr_le (place (next_of v large)) (64 - large))
 
 -- the last turn: both increments are one, and the test says so
 last_turn : (small large v : ℕ) → small ≤ large → large < 64 → first_block large v + 1 ≡ last_block small large v → next_of v large ≡ next_of v small
@@ -52,7 +52,7 @@ last_turn small large v order width e =
 last_test : (small large v : ℕ) → small ≤ large → large < 64 → first_block large v + 1 ≡ last_block small large v → bit_and (next_of v large) (bit_xor (2 ^ small - 1) (2 ^ large - 1)) ≡ 0
 last_test small large v order width e = test_at small large (next_of v large) order width (elim (cases_lt ((first_block large v + 1) * 2 ^ (64 - large)) (2 ^ 64)) [
   | inl h ↦ ap (λ (x : ℕ). x % 2 ^ (large - small)) (stepped_block large v width h ∙ e) ∙ mul-mod_left (place v / 2 ^ (64 - small) + 1) (2 ^ (large - small))
-  | inr h ↦ ap (λ (x : ℕ). x % 2 ^ (large - small)) (stepped_out large v width (omega (arith, h, block_end-le_64 large v width))) ∙ zero_rest (2 ^ (large - small)) (pow_pos (large - small))
+  | inr h ↦ ap (λ (x : ℕ). x % 2 ^ (large - small)) (stepped_out large v width (omega (arith, h, block_end_le_64 large v width))) ∙ zero_rest (2 ^ (large - small)) (pow_pos (large - small))
 ])
   where
     zero_rest : (m : ℕ) → 0 < m → 0 % m ≡ 0
@@ -61,7 +61,7 @@ last_test small large v order width e = test_at small large (next_of v large) or
 -- an earlier turn
 more_fits : (small large v : ℕ) → small ≤ large → large < 64 → first_block large v + 1 < last_block small large v → (first_block large v + 1) * 2 ^ (64 - large) < 2 ^ 64
 more_fits small large v order width h =
-    omega (arith, mul_lt (first_block large v + 1) (last_block small large v) (2 ^ (64 - large)) h (pow_pos (64 - large)), whole_end small large v order width, block_end-le_64 small v (omega arith))
+    omega (arith, mul_lt (first_block large v + 1) (last_block small large v) (2 ^ (64 - large)) h (pow_pos (64 - large)), whole_end small large v order width, block_end_le_64 small v (omega arith))
   where
     mul_lt : (a b k : ℕ) → a < b → 0 < k → a * k < b * k
     mul_lt a b k h pos = omega (arith, mul-le-mul_right k h, suc-mul a k)
@@ -78,14 +78,14 @@ more_test small large v order width h test =
     let under : (first_block large v + 1) / 2 ^ (large - small) * 2 ^ (large - small) ≤ place v / 2 ^ (64 - small) * 2 ^ (large - small) = mul-le-mul_right (2 ^ (large - small)) few in
     let from : place v / 2 ^ (64 - small) * 2 ^ (large - small) ≤ first_block large v =
     le-div (place v / 2 ^ (64 - small) * 2 ^ (large - small)) (place v) (2 ^ (64 - large)) (pow_pos (64 - large))
-    (omega (arith, whole_start small large v order width, block_start-le (64 - small) (place v))) in
+    (omega (arith, whole_start small large v order width, block_start_le (64 - small) (place v))) in
     omega (arith, whole, under, from)
 
 more_same : (small large v : ℕ) → small ≤ large → large < 64 → first_block large v + 1 < last_block small large v → place (next_of v large) / 2 ^ (64 - small) ≡ place v / 2 ^ (64 - small)
 more_same small large v order width h =
     let at : place (next_of v large) ≡ (first_block large v + 1) * 2 ^ (64 - large) = stepped large v width (more_fits small large v order width h) in
     same_block (64 - small) (place (next_of v large)) (place v)
-    (omega (arith, at, block_start-le (64 - small) (place v), lt-block_end (64 - large) (place v)))
+    (omega (arith, at, block_start_le (64 - small) (place v), lt_block_end (64 - large) (place v)))
     (omega (arith, at, mul_lt (first_block large v + 1) (last_block small large v) (2 ^ (64 - large)) h (pow_pos (64 - large)), whole_end small large v order width))
   where
     mul_lt : (a b k : ℕ) → a < b → 0 < k → a * k < b * k

@@ -6,13 +6,13 @@ use Rattle.std.specs.Ordering.{nat_cmp}
 use Rattle.std.specs.Cmp.Lexicographic.{slice_cmp}
 use Rattle.blocks.specs.declared.BlockRef.{BlockRef}
 use Rattle.blocks.specs.Blocks.{Blocks, live, IsIn, Changes, Owned}
-use Rattle.blocks.proofs.Change.{cases_in, live-None, Changes-same, Changes-then, Owned-others}
+use Rattle.blocks.proofs.Change.{cases_in, live_none_in_change, changes_same, changes_then, owned_others}
 use Rattle.collection_walk.proofs.Lists.{some_none}
 use Rattle.rehash_dict.specs.Table.{Element, item}
 use Rattle.rehash_dict.specs.Keyed.{hash_of}
 use Rattle.rehash_dict.specs.Grown.{Grown}
-use Rattle.rehash_dict.proofs.MapOf.{key_refs-owned}
-use Rattle.rehash_dict.proofs.Growing.{Grown-same, Grown-then}
+use Rattle.rehash_dict.proofs.MapOf.{key_refs_owned}
+use Rattle.rehash_dict.proofs.Growing.{grown_same, grown_then}
 use Rattle.score_list.specs.Sorted.{Key}
 use Rattle.score_table.specs.declared.table.ScoreTable.{ScoreTable}
 use Rattle.score_table.specs.Scored.{IsScoreTable, IsArranged, pair_of, pair_at, scores, refs, seed_of, tables, no_tables}
@@ -43,14 +43,14 @@ part_new m seed s copy sound none no_refs no_table seed_is = record {
   sound = sound;
   from = λ q v h. absurd (some_none (get (scores m copy) q) v h (ap (λ map. get map q) none ∙ get-empty (slice_cmp nat_cmp) q));
   onto = λ i v q lt h. absurd (omega (arith, lt));
-  changes = subst (λ rs. Changes m m [] rs) (sym no_refs) (Changes-same m [] (λ r. omega arith));
-  grown = Grown-same (hash_of seed) no_tables (tables m copy) no_table;
+  changes = subst (λ rs. Changes m m [] rs) (sym no_refs) (changes_same m [] (λ r. omega arith));
+  grown = grown_same (hash_of seed) no_tables (tables m copy) no_table;
   seed_is = seed_is;
 }
 
 module _ (m mid : Blocks) (seed : ℕ) (s copy : ScoreTable) (at : ℕ) (is : IsScoreTable m s) (part : IsPart m mid seed s copy at) where
   key_kept : (i : ℕ) (e : Element ℤ) → item s.table i ≡ Some e → mid e.key ≡ m e.key
-  key_kept i e there = Owned-others m mid [] (refs copy) (refs s) (key_refs-owned m s.table is.keyed) part.changes e.key (names_key s.table i e there) refl
+  key_kept i e there = owned_others m mid [] (refs copy) (refs s) (key_refs_owned m s.table is.keyed) part.changes e.key (names_key s.table i e there) refl
 
   pub source_sound : IsScoreTable mid s
   source_sound = kept_sound m mid s is key_kept
@@ -119,8 +119,8 @@ module _ (m mid : Blocks) (seed : ℕ) (s copy : ScoreTable) (at : ℕ) (is : Is
       sound = t.changed.sound;
       from = from;
       onto = onto;
-      changes = Changes-then m mid n [] (refs copy) (refs new) part.changes t.changed.changes;
-      grown = Grown-then (hash_of seed) no_tables (tables mid copy) (tables n new) part.grown (subst (λ k. Grown (hash_of k) (tables mid copy) (tables n new)) part.seed_is t.changed.grown);
+      changes = changes_then m mid n [] (refs copy) (refs new) part.changes t.changed.changes;
+      grown = grown_then (hash_of seed) no_tables (tables mid copy) (tables n new) part.grown (subst (λ k. Grown (hash_of k) (tables mid copy) (tables n new)) part.seed_is t.changed.grown);
       seed_is = t.changed.seed ∙ part.seed_is;
     }
 
@@ -147,11 +147,11 @@ all_same m n p = λ i r. p.kept r refl refl i
 
 -- what a copy has stays where the blocks of the other are given back
 pub new_kept : (m mid n : Blocks) (old new : List BlockRef) → Owned old m → Changes m mid [] new → Changes mid n old [] → (r : BlockRef) → IsIn r new → n r ≡ mid r
-new_kept m mid n old new owned p q r isin = q.kept r (omega (arith, owned r, live-None m r (p.fresh r isin refl))) refl
+new_kept m mid n old new owned p q r isin = q.kept r (omega (arith, owned r, live_none_in_change m r (p.fresh r isin refl))) refl
 
 -- what the other has stays where blocks are placed for a copy
 pub old_owned : (m mid : Blocks) (old new : List BlockRef) → Owned old m → Changes m mid [] new → Owned old mid
 old_owned m mid old new owned p r = elim (cases_in r old) [
   | inl out ↦ omega (arith, out)
-  | inr isin ↦ let e : live mid r ≡ live m r = ap (λ x. cond (is_some x) 1 0) (Owned-others m mid [] new old owned p r isin refl) in omega (arith, owned r, e)
+  | inr isin ↦ let e : live mid r ≡ live m r = ap (λ x. cond (is_some x) 1 0) (owned_others m mid [] new old owned p r isin refl) in omega (arith, owned r, e)
 ]

@@ -8,7 +8,7 @@ use Rattle.blocks.specs.Blocks.{Blocks, IsIn}
 use Rattle.collection_walk.proofs.Replaced.{beside}
 use Rattle.rehash_dict.specs.Table.{Element, item}
 use Rattle.rehash_dict.specs.MapOf.{map_of, pair_of, own_of}
-use Rattle.rehash_dict.proofs.MapOf.{key_refs-owned}
+use Rattle.rehash_dict.proofs.MapOf.{key_refs_owned}
 use Rattle.score_list.specs.Sorted.{key_of}
 use Rattle.std.proofs.lemmas.List.{length-map}
 use Rattle.score_table.specs.declared.table.ScoreTable.{ScoreTable}
@@ -43,7 +43,7 @@ score_table_laws_hold = record {
   sound = sound;
   others = λ a b s old new o p. own_scores a b s (beside a b (refs s) old new o p);
   stays = λ a b s old new o p is. (sound a b s (beside a b (refs s) old new o p) is).0;
-  owned = λ m s is. key_refs-owned m s.table is.keyed;
+  owned = λ m s is. key_refs_owned m s.table is.keyed;
   ranking = ranking_holds;
   counted = λ m s is. length-map s.list (key_of m) ∙ counted m s is;
   arranged = items_arranged;

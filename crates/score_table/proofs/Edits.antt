@@ -4,17 +4,17 @@ use Rattle.std.specs.FinMap.{get, insert, remove}
 use Rattle.std.proofs.lemmas.Bool.{cond-true}
 use Rattle.blocks.specs.declared.BlockRef.{BlockRef}
 use Rattle.blocks.specs.Blocks.{Blocks, ref_eq, times, with_block, bytes_at, Changes}
-use Rattle.blocks.proofs.Refs.{ref_eq-refl, cases_ref, with_block-other}
-use Rattle.blocks.proofs.Change.{one, Changes-beside, Changes-counted, Changes-same, Counts-ended, Counts-same, Owned-others}
+use Rattle.blocks.proofs.Refs.{ref_eq_refl, cases_ref, with_block_other}
+use Rattle.blocks.proofs.Change.{one, changes_beside, changes_counted, changes_same, counts_ended, counts_same, owned_others}
 use Rattle.collection_walk.proofs.Named.{names_key}
 use Rattle.rehash_dict.specs.Table.{Table, Element, at_item, item}
 use Rattle.rehash_dict.specs.Keyed.{Keyed, Lacks, Stands, hash_of, key_of as key_bytes, key_tables}
 use Rattle.rehash_dict.specs.Steps.{Holds, Adds, Swaps, Removes}
 use Rattle.rehash_dict.specs.Grown.{Grown}
 use Rattle.rehash_dict.specs.MapOf.{content, value_of, key_refs, own_of}
-use Rattle.rehash_dict.proofs.Keys.{Keyed-frame, live_bytes}
-use Rattle.rehash_dict.proofs.MapOf.{cases_key, map_of-stands, map_of-frame, map_of-adds, refs_changed, key_refs-owned}
-use Rattle.rehash_dict.proofs.Growing.{Grown-same}
+use Rattle.rehash_dict.proofs.Keys.{keyed_frame, live_bytes}
+use Rattle.rehash_dict.proofs.MapOf.{cases_key, map_of_stands, map_of_frame, map_of_adds, refs_changed, key_refs_owned}
+use Rattle.rehash_dict.proofs.Growing.{grown_same}
 use Rattle.score_list.specs.Linked.{Element as Scored, no_element, with_at, without_at}
 use Rattle.score_list.specs.Sorted.{Key, key_of, place_of, IsSorted, Misses, Rescores, Removes as ListRemoves}
 use Rattle.score_list.proofs.Renaming.{Alike, sorted_alike}
@@ -50,7 +50,7 @@ module _ (m n : Blocks) (s : ScoreTable) (is : IsScoreTable m s) (same : (at : �
 
   -- over the new store the dictionary is sound, and its tables are the same
   keyed_same : Keyed n s.table × (key_tables n s.table ≡ key_tables m s.table)
-  keyed_same = Keyed-frame m n s.table is.keyed same
+  keyed_same = keyed_frame m n s.table is.keyed same
 
   -- a table of scores is sound over a store in which the blocks of its members are the same
   pub kept_sound : IsScoreTable n s
@@ -62,7 +62,7 @@ module _ (m n : Blocks) (s : ScoreTable) (is : IsScoreTable m s) (same : (at : �
 
   -- the scores are the same over a store in which the blocks of its members are the same
   pub kept_scores : scores n s ≡ scores m s
-  kept_scores = map_of-frame m n (λ (v : ℤ). v) (λ (v : ℤ). v) s.table is.keyed keyed_same.0 (λ at e found. (same at e found, refl))
+  kept_scores = map_of_frame m n (λ (v : ℤ). v) (λ (v : ℤ). v) s.table is.keyed keyed_same.0 (λ at e found. (same at e found, refl))
 
   -- the pairs in their order are the same over a store in which the blocks of its members are the same
   pub kept_ranked : ranked n s ≡ ranked m s
@@ -81,7 +81,7 @@ some_element o a b h k = cc
 -- what the map has nothing for no element has
 pub lacks_member : (m : Blocks) (t : Table ℤ) (q : List ℕ) → Keyed m t → get (content m t) q ≡ None → Lacks m t q
 lacks_member m t q k none = elim (cases_key m t q k) [
-  | inl s ↦ absurd (never (get (content m t) q) s.element.value (map_of-stands m (λ (v : ℤ). v) t s.at s.element q k s.found s.bytes) none)
+  | inl s ↦ absurd (never (get (content m t) q) s.element.value (map_of_stands m (λ (v : ℤ). v) t s.at s.element q k s.found s.bytes) none)
   | inr lacks ↦ lacks
 ]
   where
@@ -130,7 +130,7 @@ module _ (m : Blocks) (old : ScoreTable) (table : Table ℤ) (ys : List Scored) 
           (subst (λ zs. Follows old.list zs (entry_of (item old.table at)) (Some (e.value, e.key))) (sym list_is)
           (subst (λ o. Follows old.list (with_at old.list place (e.value, e.key)) o (Some (e.value, e.key))) (sym (ap entry_of adds.vacant)) (follows_with old.list place (e.value, e.key))));
     };
-    scores_are = map_of-adds m (λ (v : ℤ). v) old.table table is.keyed at e added live adds;
+    scores_are = map_of_adds m (λ (v : ℤ). v) old.table table is.keyed at e added live adds;
     one_more = more;
     grown = grown;
     seed = adds.seed;
@@ -141,7 +141,7 @@ module _ (m : Blocks) (old : ScoreTable) (table : Table ℤ) (ys : List Scored) 
 module _ (m n : Blocks) (old : ScoreTable) (at : BlockRef) (q : List ℕ) (is : IsScoreTable m old) (placed : n ≡ with_block m at (Some q)) (p : Changes m n [] (at ∷ [])) where
   -- the blocks of the elements stay the same where a block is placed
   put_same : (i : ℕ) (e : Element ℤ) → item old.table i ≡ Some e → n e.key ≡ m e.key
-  put_same i e found = Owned-others m n [] (at ∷ []) (key_refs old.table) (key_refs-owned m old.table is.keyed) p e.key (names_key old.table i e found) refl
+  put_same i e found = owned_others m n [] (at ∷ []) (key_refs old.table) (key_refs_owned m old.table is.keyed) p e.key (names_key old.table i e found) refl
 
   -- the table of scores stays sound where a block is placed
   pub put_sound : IsScoreTable n old
@@ -149,7 +149,7 @@ module _ (m n : Blocks) (old : ScoreTable) (at : BlockRef) (q : List ℕ) (is : 
 
   -- the placed block holds the bytes of the member
   put_bytes : bytes_at n at ≡ q
-  put_bytes = ap (λ (o : Option (List ℕ)). unwrap_or o []) ((λ j. placed j at) ∙ cond-true _ _ _ (ref_eq-refl at))
+  put_bytes = ap (λ (o : Option (List ℕ)). unwrap_or o []) ((λ j. placed j at) ∙ cond-true _ _ _ (ref_eq_refl at))
 
   -- a dictionary that lacked the member lacks the bytes of the placed block in the new store
   pub put_lacks : Lacks m old.table q → Lacks n old.table (bytes_at n at)
@@ -160,7 +160,7 @@ module _ (m n : Blocks) (old : ScoreTable) (at : BlockRef) (q : List ℕ) (is : 
   put_joined new score j = record {
     sound = j.sound;
     scores_are = j.scores_are ∙ ap (λ b. insert (scores n old) b score) put_bytes ∙ ap (λ map. insert map q score) (kept_scores m n old is put_same);
-    changes = Changes-beside m n [] (at ∷ []) (refs old) (refs new) p (key_refs-owned m old.table is.keyed) (λ r. times r (refs old)) (λ r. omega arith) (λ r. omega (arith, j.one_more r));
+    changes = changes_beside m n [] (at ∷ []) (refs old) (refs new) p (key_refs_owned m old.table is.keyed) (λ r. times r (refs old)) (λ r. omega arith) (λ r. omega (arith, j.one_more r));
     grown = subst (λ t. Grown (hash_of (seed_of old)) t (tables n new)) (kept_tables m n old is put_same) j.grown;
     seed = j.seed;
   }
@@ -176,15 +176,15 @@ value_is t at v e found h = some_same e.value v (ap value_of (sym found) ∙ h)
 
 -- the value of the element that stands for a member is the score of the member
 pub found_score : (m : Blocks) (s : ScoreTable) → IsScoreTable m s → (at : ℕ) (q : List ℕ) (st : Stands m s.table at q) (v : ℤ) → st.element.value ≡ v → get (scores m s) q ≡ Some v
-found_score m s is at q st v value = map_of-stands m (λ (v : ℤ). v) s.table at st.element q is.keyed st.found st.bytes ∙ ap Some value
+found_score m s is at q st v value = map_of_stands m (λ (v : ℤ). v) s.table at st.element q is.keyed st.found st.bytes ∙ ap Some value
 
 -- a table that is left as it is has its scores with one put in that the member has already
 pub same_changed : (m : Blocks) (s : ScoreTable) (q : List ℕ) (v : ℤ) → IsScoreTable m s → get (scores m s) q ≡ Some v → IsChanged m m s s (insert (scores m s) q v)
 same_changed m s q v is has = record {
   sound = is;
   scores_are = sym (insert_same (scores m s) q v has);
-  changes = Changes-same m (refs s) (key_refs-owned m s.table is.keyed);
-  grown = Grown-same (hash_of (seed_of s)) _ _ refl;
+  changes = changes_same m (refs s) (key_refs_owned m s.table is.keyed);
+  grown = grown_same (hash_of (seed_of s)) _ _ refl;
   seed = refl;
 }
 
@@ -239,8 +239,8 @@ module _ (m : Blocks) (old : ScoreTable) (table : Table ℤ) (ys : List Scored) 
           (subst (λ o. Follows old.list ys o (Some (score, swaps.key))) (sym (ap entry_of swaps.found)) (moved_on moved moves));
     };
     scores_are = map_is ∙ ap (λ b. insert (scores m old) b score) (ap (key_bytes m) swaps.found ∙ ap (λ (o : Option (List ℕ)). unwrap_or o []) bytes_are);
-    changes = Changes-counted m m (key_refs old.table) (key_refs table) (key_refs-owned m old.table is.keyed) (Counts-same m (key_refs old.table) (key_refs table) same_refs);
-    grown = Grown-same (hash_of old.table.seed) _ _ tables_are;
+    changes = changes_counted m m (key_refs old.table) (key_refs table) (key_refs_owned m old.table is.keyed) (counts_same m (key_refs old.table) (key_refs table) same_refs);
+    grown = grown_same (hash_of old.table.seed) _ _ tables_are;
     seed = swaps.seed;
   }
 
@@ -294,7 +294,7 @@ module _ (m n : Blocks) (old : ScoreTable) (table : Table ℤ) (ys : List Scored
 
   -- the blocks of the elements that are left stay the same where the block is given back
   others_same : (i : ℕ) (e : Element ℤ) → item table i ≡ Some e → n e.key ≡ m e.key
-  others_same i e h = (λ j. given j e.key) ∙ with_block-other m ref e.key None (other_key i e h)
+  others_same i e h = (λ j. given j e.key) ∙ with_block_other m ref e.key None (other_key i e h)
 
   -- the dictionary names each block as often as before, but the one that is given back once less
   fewer : (p : BlockRef) → times p (key_refs table) + one p ref ≡ times p (key_refs old.table)
@@ -314,7 +314,7 @@ module _ (m n : Blocks) (old : ScoreTable) (table : Table ℤ) (ys : List Scored
   taken keyed sorted removed removes map_is grown = record {
     sound = kept_sound m n mid sound others_same;
     scores_are = kept_scores m n mid sound others_same ∙ map_is;
-    changes = Changes-counted m n (key_refs old.table) (key_refs table) (key_refs-owned m old.table is.keyed) (Counts-ended m n ref (key_refs old.table) (key_refs table) live given fewer);
+    changes = changes_counted m n (key_refs old.table) (key_refs table) (key_refs_owned m old.table is.keyed) (counts_ended m n ref (key_refs old.table) (key_refs table) live given fewer);
     grown = subst (Grown (hash_of old.table.seed) (key_tables m old.table)) (sym (kept_tables m n mid sound others_same)) grown;
     seed = r.seed;
   }
@@ -338,7 +338,7 @@ items_changed m old table is items keyed seed map_is grown = record {
     };
   };
   scores_are = map_is;
-  changes = subst (λ xs. Changes m m (key_refs old.table) (flat_map (own_of no_block) xs)) (sym items) (Changes-same m (key_refs old.table) (key_refs-owned m old.table is.keyed));
+  changes = subst (λ xs. Changes m m (key_refs old.table) (flat_map (own_of no_block) xs)) (sym items) (changes_same m (key_refs old.table) (key_refs_owned m old.table is.keyed));
   grown = grown;
   seed = seed;
 }

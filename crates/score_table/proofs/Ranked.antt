@@ -11,7 +11,7 @@ use Rattle.rehash_dict.specs.Table.{Element, item}
 use Rattle.rehash_dict.specs.Steps.{Holds}
 use Rattle.rehash_dict.specs.MapOf.{value_of}
 use Rattle.rehash_dict.proofs.Keys.{live_bytes}
-use Rattle.rehash_dict.proofs.MapOf.{cases_key, map_of-stands, map_of-lacks, map_of-has}
+use Rattle.rehash_dict.proofs.MapOf.{cases_key, map_of_stands, map_of_lacks, map_of_has}
 use Rattle.score_list.specs.Linked.{Element as Scored, no_element}
 use Rattle.score_list.specs.Sorted.{Key, key_of, key_cmp, AllBehind, IsSorted, Misses, HasAt}
 use Rattle.score_list.proofs.Sortings.{keys_total}
@@ -86,12 +86,12 @@ module _ (m : Blocks) (s : ScoreTable) (is : IsScoreTable m s) where
 
   -- the score of each element of the list is the one that its member has
   pub listed_score : (x : Scored) → Among s.list x → get (scores m s) (bytes_at m x.1) ≡ Some x.0
-  listed_score x h = let p = element_in x h in map_of-stands m (λ (v : ℤ). v) s.table p.0 (record { key = x.1; hash = p.1.hash; value = x.0 }) (bytes_at m x.1) is.keyed p.1.found (listed_live x h)
+  listed_score x h = let p = element_in x h in map_of_stands m (λ (v : ℤ). v) s.table p.0 (record { key = x.1; hash = p.1.hash; value = x.0 }) (bytes_at m x.1) is.keyed p.1.found (listed_live x h)
 
   -- the element of a member with a score
   pub among_score : (q : List ℕ) (v : ℤ) → get (scores m s) q ≡ Some v → (x : Scored) × Among s.list x × (key_of m x ≡ (v, q))
   among_score q v has =
-      let p = map_of-has m (λ (v : ℤ). v) s.table q v is.keyed has in
+      let p = map_of_has m (λ (v : ℤ). v) s.table q v is.keyed has in
       let e = p.0.element in
       let x : Scored = (e.value, e.key) in
       (x, among_contained s.list x (is.agree.listed p.0.at e p.0.found), key_is p.1 (ap (λ (o : Option (List ℕ)). unwrap_or o []) p.0.bytes))
@@ -106,10 +106,10 @@ module _ (m : Blocks) (s : ScoreTable) (is : IsScoreTable m s) where
         let x : Scored = (sp.element.value, sp.element.key) in
         let bytes : bytes_at m x.1 ≡ q = ap (λ (o : Option (List ℕ)). unwrap_or o []) sp.bytes in
         ap (get (map_in m s.list)) (sym bytes) ∙ in_some m s.list x all_apart (among_contained s.list x (is.agree.listed sp.at sp.element sp.found))
-        ∙ sym (map_of-stands m (λ (v : ℤ). v) s.table sp.at sp.element q is.keyed sp.found sp.bytes)
+        ∙ sym (map_of_stands m (λ (v : ℤ). v) s.table sp.at sp.element q is.keyed sp.found sp.bytes)
     | inr lacks ↦
         in_none m s.list q (λ x h same. let p = element_in x h in lacks.each p.0 (record { key = x.1; hash = p.1.hash; value = x.0 }) p.1.found (listed_live x h ∙ ap Some same))
-        ∙ sym (map_of-lacks m (λ (v : ℤ). v) s.table q is.keyed lacks)
+        ∙ sym (map_of_lacks m (λ (v : ℤ). v) s.table q is.keyed lacks)
   ])
 
   -- the list has as many elements as there are members
@@ -170,10 +170,10 @@ pair_some m (Some e) v q h = let same = some_same (e.value, bytes_at m e.key) (v
 -- each member has exactly one item number, and its score there
 pub items_arranged : (m : Blocks) (s : ScoreTable) → IsScoreTable m s → IsArranged m s
 items_arranged m s is = record {
-  found = λ v q has. (let p = map_of-has m (λ (v : ℤ). v) s.table q v is.keyed has in
+  found = λ v q has. (let p = map_of_has m (λ (v : ℤ). v) s.table q v is.keyed has in
       (p.0.at, ap (pair_of m) p.0.found ∙ key_same p.1 (ap (λ (o : Option (List ℕ)). unwrap_or o []) p.0.bytes)));
   pair = λ at v q h. (let p = pair_some m (item s.table at) v q h in
-      map_of-stands m (λ (v : ℤ). v) s.table at p.0 q is.keyed p.1 (bytes at p.0 q p.1 p.3) ∙ ap Some p.2);
+      map_of_stands m (λ (v : ℤ). v) s.table at p.0 q is.keyed p.1 (bytes at p.0 q p.1 p.3) ∙ ap Some p.2);
   apart = λ at other v w q h g. (let p = pair_some m (item s.table at) v q h in let r = pair_some m (item s.table other) w q g in
       is.keyed.apart at other p.0 r.0 p.1 r.1 (bytes at p.0 q p.1 p.3 ∙ sym (bytes other r.0 q r.1 r.3)));
   below = λ at h. is.keyed.placed.below at (there at (item s.table at) refl h);

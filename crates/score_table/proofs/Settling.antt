@@ -2,12 +2,12 @@
 use Rattle.std.proofs.Common.{◌≡◌, ◌≢◌, ℕ, ◌<◌, zero, suc, ℤ, List, [], ◌∷◌, length, get_or, Option, Some, unwrap_or, refl, sym, ap, ◌∙◌, subst, arith}
 use Rattle.blocks.specs.declared.BlockRef.{BlockRef}
 use Rattle.blocks.specs.Blocks.{Blocks, Changes}
-use Rattle.blocks.proofs.Change.{Changes-same}
+use Rattle.blocks.proofs.Change.{changes_same}
 use Rattle.collection_walk.proofs.Renamed.{renamed, bytes_kept, other_kept, moved_keyed, moved_changes, items_stand}
 use Rattle.rehash_dict.specs.Table.{Table, Element, item}
 use Rattle.rehash_dict.specs.Steps.{Holds, Renames}
 use Rattle.rehash_dict.specs.MapOf.{key_refs}
-use Rattle.rehash_dict.proofs.MapOf.{map_of-renames, key_refs-owned}
+use Rattle.rehash_dict.proofs.MapOf.{map_of_renames, key_refs_owned}
 use Rattle.score_list.specs.Linked.{Element as Scored, no_element, renamed_at}
 use Rattle.score_list.specs.Sorted.{Key, key_of, IsSorted, HasAt, Misses, Carries}
 use Rattle.score_table.specs.declared.table.ScoreTable.{ScoreTable}
@@ -24,7 +24,7 @@ settled_same m s stays is = record {
   scores_are = refl;
   ranked_are = refl;
   tables_are = refl;
-  changes = Changes-same m (key_refs s.table) (key_refs-owned m s.table is.keyed);
+  changes = changes_same m (key_refs s.table) (key_refs_owned m s.table is.keyed);
   seed = refl;
   top = refl;
   same_items = λ at. refl;
@@ -107,5 +107,5 @@ module _ (m n : Blocks) (s : ScoreTable) (table : Table ℤ) (ys : List Scored) 
       }
 
       scores_same : scores n new ≡ scores m s
-      scores_same = map_of-renames m n (λ (v : ℤ). v) s.table table at ref is.keyed (moved_keyed m n s.table table at key ref v is.keyed h same p r).0 r
+      scores_same = map_of_renames m n (λ (v : ℤ). v) s.table table at ref is.keyed (moved_keyed m n s.table table at key ref v is.keyed h same p r).0 r
           (bytes_kept m n s.table table at key ref v is.keyed h same p r) (other_kept m n s.table table at key ref v is.keyed h same p r)

@@ -6,7 +6,7 @@ use Rattle.std.specs.Ordering.{nat_cmp}
 use Rattle.std.specs.Cmp.Lexicographic.{slice_cmp}
 use Rattle.blocks.specs.declared.BlockRef.{BlockRef}
 use Rattle.blocks.specs.Blocks.{Blocks, IsIn, bytes_at, Changes}
-use Rattle.blocks.proofs.Change.{Changes-owned}
+use Rattle.blocks.proofs.Change.{changes_owned}
 use Rattle.int_text.specs.Decimal.{canonical}
 use Rattle.intset.specs.Intset.{numbers_of}
 use Rattle.collection_walk.proofs.Replaced.{new_kept, replaced}
@@ -15,8 +15,8 @@ use Rattle.collection_walk.proofs.Named.{self, names_key}
 use Rattle.rehash_dict.specs.Table.{Element, item, table_len}
 use Rattle.rehash_dict.specs.Keyed.{hash_of}
 use Rattle.rehash_dict.specs.Grown.{Grown}
-use Rattle.rehash_dict.proofs.Keys.{Keyed-frame}
-use Rattle.rehash_dict.proofs.MapOf.{len-map_of}
+use Rattle.rehash_dict.proofs.Keys.{keyed_frame}
+use Rattle.rehash_dict.proofs.MapOf.{len_map_of}
 use Rattle.set_object.specs.declared.members.Body.{Body}
 use Rattle.set_object.specs.declared.members.Body.TheVariants.{Empty, Numbers, Pack, Table}
 use Rattle.set_object.specs.declared.members.Members.{Members}
@@ -38,7 +38,7 @@ module _ (a b : Blocks) (limits : Limits) (seed : ℕ) where
       (subst (IsMemberPack limits packed.len) (sym bytes) is, ap (λ bs. members_of (λ _. Some bs) (Pack packed)) bytes, refl)
   body_kept (Table t) is same =
       let keeps : (at : ℕ) (e : Element (Unit {0})) → item t at ≡ Some e → b e.key ≡ a e.key = λ at e found. same e.key (names_key t at e found) in
-      let k = Keyed-frame a b t is.keyed keeps in
+      let k = keyed_frame a b t is.keyed keeps in
       (record { keyed = k.0; seed_is = is.seed_is }, content_kept a b t is.keyed keeps, k.1)
 
 abbrev pub body_len : Body → ℕ
@@ -54,7 +54,7 @@ len_of m limits seed (Numbers packed) is =
     let ns = numbers_of (bytes_at m packed.at) in
     is.counted ∙ sym (length-map ns canonical) ∙ sym (numbers_once ns is.intset.rising is.fit)
 len_of m limits seed (Pack packed) is = is.counted ∙ sym is.once
-len_of m limits seed (Table t) is = sym (len-map_of m (λ v. v) t is.keyed)
+len_of m limits seed (Table t) is = sym (len_map_of m (λ v. v) t is.keyed)
 
 -- ---- another body was placed, and the blocks of the old one were given back
 
@@ -64,7 +64,7 @@ body_changed a b c m body set sound is p q members_are grown =
     let kept = body_kept b c m.limits m.seed body is (new_kept a b c (refs m) (refs_of body) sound.owned p q) in
     let changes = replaced a b c (refs m) (refs_of body) sound.owned p q in
     record {
-      sound = record { limits = sound.limits; owned = Changes-owned a c (refs m) (refs_of body) changes; body = kept.0 };
+      sound = record { limits = sound.limits; owned = changes_owned a c (refs m) (refs_of body) changes; body = kept.0 };
       members_are = kept.1 ∙ members_are;
       changes = changes;
       grown = subst (Grown (hash_of m.seed) (tables a m)) (sym kept.2) grown;

@@ -4,14 +4,14 @@ use Rattle.std.proofs.lemmas.List.{take_all}
 use Rattle.std.specs.FinMap.{insert}
 use Rattle.blocks.specs.declared.BlockRef.{BlockRef}
 use Rattle.blocks.specs.Blocks.{Blocks, bytes_at, with_block, Changes}
-use Rattle.blocks.proofs.Change.{Owned-others, Changes-same}
+use Rattle.blocks.proofs.Change.{owned_others, changes_same}
 use Rattle.rehash_dict.specs.Table.{Element, item}
 use Rattle.rehash_dict.specs.Keyed.{Keyed, hash_of, key_of}
 use Rattle.rehash_dict.specs.MapOf.{content, key_refs}
-use Rattle.rehash_dict.proofs.Keys.{Keyed-frame, live_bytes}
+use Rattle.rehash_dict.proofs.Keys.{keyed_frame, live_bytes}
 use Rattle.rehash_dict.proofs.Fresh.{placed_bytes}
-use Rattle.rehash_dict.proofs.MapOf.{key_refs-owned}
-use Rattle.rehash_dict.proofs.Growing.{Grown-same}
+use Rattle.rehash_dict.proofs.MapOf.{key_refs_owned}
+use Rattle.rehash_dict.proofs.Growing.{grown_same}
 use Rattle.set_object.specs.declared.members.Packed.{Packed}
 use Rattle.set_object.specs.declared.members.Body.TheVariants.{Empty, Numbers, Pack}
 use Rattle.set_object.specs.declared.members.Members.{Members}
@@ -32,10 +32,10 @@ keys_before m t at = take (rank t.items at) (flat_map (key_in m) t.items)
 
 module _ (m mid : Blocks) (seed : ℕ) (t u : Dict) (at : ℕ) (k : Keyed m t) (p : IsHashed m mid (no_members seed) u (set_of (keys_before m t at))) where
   key_kept : (i : ℕ) (e : Element (Unit {0})) → item t i ≡ Some e → mid e.key ≡ m e.key
-  key_kept i e there = Owned-others m mid [] (key_refs u) (key_refs t) (key_refs-owned m t k) p.changes e.key (names_key t i e there) refl
+  key_kept i e there = owned_others m mid [] (key_refs u) (key_refs t) (key_refs_owned m t k) p.changes e.key (names_key t i e there) refl
 
   pub source_keyed : Keyed mid t
-  source_keyed = (Keyed-frame m mid t k key_kept).0
+  source_keyed = (keyed_frame m mid t k key_kept).0
 
   module _ (e : Element (Unit {0})) (there : item t at ≡ Some e) where
     abbrev keys : List (List ℕ)
@@ -77,7 +77,7 @@ module _ (m n : Blocks) (s : Members) (p : Packed) (at : BlockRef) (sound : IsMe
     sound = numbers_moved m n s.limits s.seed p copy (same_block live) refl (subst (IsBody m s.limits s.seed) is sound.body);
     members_are = numbers_mean m n s.limits s.seed p copy (same_block live) refl ∙ ap (members_of m) (sym is);
     changes = changes;
-    grown = Grown-same (hash_of s.seed) no_tables no_tables refl;
+    grown = grown_same (hash_of s.seed) no_tables no_tables refl;
   }
 
   pub pack_copied : s.body ≡ Pack p → IsSome (m p.at) → IsPlacedBody m n s (Pack copy) (members m s)
@@ -85,13 +85,13 @@ module _ (m n : Blocks) (s : Members) (p : Packed) (at : BlockRef) (sound : IsMe
     sound = pack_moved m n s.limits s.seed p copy (same_block live) refl (subst (IsBody m s.limits s.seed) is sound.body);
     members_are = pack_mean m n s.limits s.seed p copy (same_block live) refl ∙ ap (members_of m) (sym is);
     changes = changes;
-    grown = Grown-same (hash_of s.seed) no_tables no_tables refl;
+    grown = grown_same (hash_of s.seed) no_tables no_tables refl;
   }
 
 pub empty_copied : (m : Blocks) (s : Members) → s.body ≡ Empty → IsPlacedBody m m s Empty (members m s)
 empty_copied m s is = record {
   sound = tt;
   members_are = ap (members_of m) (sym is);
-  changes = Changes-same m [] (λ r. omega arith);
-  grown = Grown-same (hash_of s.seed) no_tables no_tables refl;
+  changes = changes_same m [] (λ r. omega arith);
+  grown = grown_same (hash_of s.seed) no_tables no_tables refl;
 }

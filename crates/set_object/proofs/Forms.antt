@@ -12,7 +12,7 @@ use Rattle.object_codec.specs.declared.form.Form.{Form}
 use Rattle.object_codec.specs.declared.form.Form.TheVariants.{Intset, Listpack, Hashtable, Skiplist, Quicklist, Stream}
 use Rattle.object_codec.specs.Forms.{FitsSet, IsLeast, IsLeastFrom, rank}
 use Rattle.set_object.specs.Strings.{Strings, set_of, has, IsOnce, are_numbers, longest, FitsMembers, IsRisen}
-use Rattle.set_object.proofs.Sets.{two_ways, tied, tied-true, tied-same, among, has_among, has_put, has_empty, len_put}
+use Rattle.set_object.proofs.Sets.{two_ways, tied, tied_true, tied_same, among, has_among, has_put, has_empty, len_put}
 
 -- the keys of a set are its strings
 pub keys_among : (m : Strings) (q : List ℕ) → has m q ≡ among q (keys m)
@@ -32,7 +32,7 @@ same_bools false true there back = back refl
 same_bools false false there back = refl
 
 head_there : (x : List ℕ) (xs : List (List ℕ)) → among x (x ∷ xs) ≡ true
-head_there x xs = cond-true _ _ _ (tied-same x x refl)
+head_there x xs = cond-true _ _ _ (tied_same x x refl)
 
 tail_there : (q x : List ℕ) (xs : List (List ℕ)) → among q xs ≡ true → among q (x ∷ xs) ≡ true
 tail_there q x xs h = elim (cases_Bool (tied q x)) [ inl t ↦ cond-true _ _ _ t | inr f ↦ cond-false _ _ _ f ∙ h ]
@@ -44,7 +44,7 @@ numbers_all (x ∷ xs) each = and_from _ _ (each x (head_there x xs)) (numbers_a
 pub numbers_each : (xs : List (List ℕ)) (q : List ℕ) → are_numbers xs ≡ true → among q xs ≡ true → is_some (number_of q) ≡ true
 numbers_each [] q all h = absurd cc
 numbers_each (x ∷ xs) q all h = let parts = and_parts (is_some (number_of x)) (are_numbers xs) all in elim (cases_Bool (tied q x)) [
-  | inl t ↦ ap (λ k. is_some (number_of k)) (tied-true q x t) ∙ parts.0
+  | inl t ↦ ap (λ k. is_some (number_of k)) (tied_true q x t) ∙ parts.0
   | inr f ↦ numbers_each xs q parts.1 (sym (cond-false _ _ _ f) ∙ h)
 ]
 
@@ -55,7 +55,7 @@ longest_all (x ∷ xs) v each = omega (arith, each x (head_there x xs), longest_
 pub longest_each : (xs : List (List ℕ)) (q : List ℕ) → among q xs ≡ true → length q ≤ longest xs
 longest_each [] q h = absurd cc
 longest_each (x ∷ xs) q h = elim (cases_Bool (tied q x)) [
-  | inl t ↦ omega (arith, ap length (tied-true q x t))
+  | inl t ↦ omega (arith, ap length (tied_true q x t))
   | inr f ↦ omega (arith, longest_each xs q (sym (cond-false _ _ _ f) ∙ h))
 ]
 

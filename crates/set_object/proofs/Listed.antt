@@ -14,7 +14,7 @@ use Rattle.rehash_dict.specs.Table.{Element, item}
 use Rattle.rehash_dict.specs.MapOf.{pair_of, content, map_of}
 use Rattle.rehash_dict.specs.Keyed.{Keyed}
 use Rattle.rehash_dict.proofs.Keys.{live_bytes}
-use Rattle.rehash_dict.proofs.MapOf.{len-map_of, map_of-stands, map_of-lacks, cases_key}
+use Rattle.rehash_dict.proofs.MapOf.{len_map_of, map_of_stands, map_of_lacks, cases_key}
 use Rattle.int_text.specs.Decimal.{canonical}
 use Rattle.intset.specs.Intset.{numbers_of}
 use Rattle.set_object.specs.declared.members.Body.{Body}
@@ -23,7 +23,7 @@ use Rattle.set_object.specs.declared.members.Members.{Members}
 use Rattle.set_object.specs.Strings.{set_of, has, IsOnce}
 use Rattle.set_object.specs.Members.{IsMembers, IsBody, members_of, listed_of, key_in}
 use Rattle.set_object.specs.Items.{IsArranged, key_at, member_in, top_in}
-use Rattle.set_object.proofs.Sets.{two_ways, tied, tied-true, among, has_among, set_nil, once_nil, once_parts, stands_get}
+use Rattle.set_object.proofs.Sets.{two_ways, tied, tied_true, among, has_among, set_nil, once_nil, once_parts, stands_get}
 use Rattle.set_object.proofs.Texts.{numbers_once}
 use Rattle.set_object.proofs.Hashing.{Dict}
 
@@ -47,7 +47,7 @@ keys_len m (None ∷ items) = omega (arith, keys_len m items, count_cons (is_som
 keys_len m (Some e ∷ items) = omega (arith, keys_len m items, count_cons is_some (Some e) items)
 
 pub table_once : (m : Blocks) (t : Dict) → Keyed m t → IsOnce (flat_map (key_in m) t.items)
-table_once m t k = ap len (sym (table_listed m t)) ∙ len-map_of m (λ v. v) t k ∙ sym (keys_len m t.items)
+table_once m t k = ap len (sym (table_listed m t)) ∙ len_map_of m (λ v. v) t k ∙ sym (keys_len m t.items)
 
 -- the members of a set are those of its list, in which none stands twice
 pub listed_is : (m : Blocks) (limits : Limits) (seed : ℕ) (body : Body) → IsBody m limits seed body → (members_of m body ≡ set_of (listed_of m body)) × IsOnce (listed_of m body)
@@ -62,7 +62,7 @@ listed_is m limits seed (Table t) is =
 index_of : (xs : List (List ℕ)) (x : List ℕ) → among x xs ≡ true → (i : ℕ) × (slice_get xs i ≡ Some x)
 index_of [] x h = absurd cc
 index_of (y ∷ xs) x h = elim (cases_Bool (tied x y)) [
-  | inl t ↦ (0, ap Some (sym (tied-true x y t)))
+  | inl t ↦ (0, ap Some (sym (tied_true x y t)))
   | inr f ↦ (let p = index_of xs x (sym (cond-false _ _ _ f) ∙ h) in (suc p.0, p.1))
 ]
 
@@ -101,11 +101,11 @@ module _ (m : Blocks) (t : Dict) (k : Keyed m t) where
   table_found : (x : List ℕ) → has (content m t) x ≡ true → (at : ℕ) × (key_at m (item t at) ≡ Some x)
   table_found x h = elim (cases_key m t x k) [
     | inl s ↦ (s.at, ap (key_at m) s.found ∙ ap Some (read (m s.element.key) x s.bytes))
-    | inr lacks ↦ absurd (two_ways (has (content m t) x) h (ap is_some (map_of-lacks m (λ (v : Unit {0}). v) t x k lacks)))
+    | inr lacks ↦ absurd (two_ways (has (content m t) x) h (ap is_some (map_of_lacks m (λ (v : Unit {0}). v) t x k lacks)))
   ]
 
   table_has : (at : ℕ) (x : List ℕ) → key_at m (item t at) ≡ Some x → has (content m t) x ≡ true
-  table_has at x h = let p = key_some m (item t at) x h in ap is_some (map_of-stands m (λ (v : Unit {0}). v) t at p.0 x k p.1 (key_live at p.0 x p.1 p.2))
+  table_has at x h = let p = key_some m (item t at) x h in ap is_some (map_of_stands m (λ (v : Unit {0}). v) t at p.0 x k p.1 (key_live at p.0 x p.1 p.2))
 
   table_apart : (at other : ℕ) (x : List ℕ) → key_at m (item t at) ≡ Some x → key_at m (item t other) ≡ Some x → at ≡ other
   table_apart at other x h l =

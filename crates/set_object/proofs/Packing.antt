@@ -11,7 +11,7 @@ use Rattle.listpack.specs.Writing.{spelling, number_spelling, text_head, entry, 
 use Rattle.listpack.specs.Edits.{IsEdited}
 use Rattle.listpack.proofs.Writings.{number_cases, spelling_as}
 use Rattle.quicklist.specs.Nodes.{pack_len}
-use Rattle.quicklist.proofs.Written.{written_len, remove_range-map}
+use Rattle.quicklist.proofs.Written.{written_len, remove_range_map}
 use Rattle.set_object.specs.Members.{IsPackOf}
 
 back_len : (n : ℕ) → length (back_length n) ≤ 5
@@ -73,4 +73,4 @@ pack_removed list old new i count p e is = record {
 }
   where
     map_removed : (xs : List (List ℕ)) (i : ℕ) → removed (map spelling xs) i ≡ map spelling (removed xs i)
-    map_removed xs i = remove_range-map xs i (suc i)
+    map_removed xs i = remove_range_map xs i (suc i)

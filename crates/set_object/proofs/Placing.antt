@@ -22,14 +22,14 @@ use Rattle.object_codec.specs.declared.limits.Limits.{Limits}
 use Rattle.object_codec.specs.declared.form.Form.{Form}
 use Rattle.object_codec.specs.declared.form.Form.TheVariants.{Intset, Listpack, Hashtable, Skiplist, Quicklist, Stream}
 use Rattle.rehash_dict.proofs.Fresh.{placed_bytes}
-use Rattle.rehash_dict.proofs.Growing.{Grown-same}
+use Rattle.rehash_dict.proofs.Growing.{grown_same}
 use Rattle.rehash_dict.specs.Keyed.{hash_of}
 use Rattle.set_object.specs.declared.members.Body.{Body}
 use Rattle.set_object.specs.declared.members.Body.TheVariants.{Empty, Numbers, Pack, Table}
 use Rattle.set_object.specs.declared.members.Members.{Members}
 use Rattle.set_object.specs.Strings.{Strings, set_of, has, IsOnce, longest, IsRisen}
 use Rattle.set_object.specs.Members.{IsMembers, IsBody, IsPackOf, IsNumberList, IsMemberPack, IsNumbers, IsPlacedBody, members, members_of, listed_of, number_texts, form_of, form_of_body, no_tables}
-use Rattle.set_object.proofs.Sets.{tied, among, has_among, has_put, tied-same, set_nil, set_push, set_inserted, once_push, once_nil, len_put, has_empty}
+use Rattle.set_object.proofs.Sets.{tied, among, has_among, has_put, tied_same, set_nil, set_push, set_inserted, once_push, once_nil, len_put, has_empty}
 use Rattle.set_object.proofs.Texts.{numbers_once, texts_numbers, stands_text}
 use Rattle.set_object.proofs.Packing.{pack_fits}
 use Rattle.set_object.proofs.Forms.{keys_among, longest_each, numbers_each, least_zero, risen_numbers, risen_pack}
@@ -43,7 +43,7 @@ use Rattle.object_codec.specs.Forms.{rank, FitsSet, IsLeast}
 pub all_short : (xs : List (List ℕ)) (v : ℕ) → ((q : List ℕ) → among q xs ≡ true → length q ≤ v) → All (λ (x : List ℕ). length x ≤ v) xs
 all_short [] v each = All-nil (λ (x : List ℕ). length x ≤ v)
 all_short (x ∷ xs) v each =
-    All-cons (λ (x : List ℕ). length x ≤ v) x xs (each x (cond-true _ _ _ (tied-same x x refl))) (all_short xs v (λ q h. each q (later q h)))
+    All-cons (λ (x : List ℕ). length x ≤ v) x xs (each x (cond-true _ _ _ (tied_same x x refl))) (all_short xs v (λ q h. each q (later q h)))
   where
     later : (q : List ℕ) → among q xs ≡ true → among q (x ∷ xs) ≡ true
     later q h = elim (cases_Bool (tied q x)) [ inl t ↦ cond-true _ _ _ t | inr f ↦ cond-false _ _ _ f ∙ h ]
@@ -96,7 +96,7 @@ module _ (m n : Blocks) (self : Members) (x : List ℕ) (sound : IsMembers m sel
         (omega (arith, each_short x last, risen.fitting.1, sound.limits.set_value))
       where
         last : among x (list ++ x ∷ []) ≡ true
-        last = sym (has_among (list ++ x ∷ []) x) ∙ ap (λ s. has s x) more_set ∙ has_put (members m self) x x ∙ cond-true _ _ _ (tied-same x x refl)
+        last = sym (has_among (list ++ x ∷ []) x) ∙ ap (λ s. has s x) more_set ∙ has_put (members m self) x x ∙ cond-true _ _ _ (tied_same x x refl)
 
         left : (q : List ℕ) → among q list ≡ true → among q (list ++ x ∷ []) ≡ true
         left q h = sym (has_among (list ++ x ∷ []) q) ∙ ap (λ s. has s q) more_set ∙ has_put (members m self) x q ∙ either (tied q x) (ap (λ s. has s q) members_list ∙ has_among list q ∙ h)
@@ -121,14 +121,14 @@ module _ (m n : Blocks) (self : Members) (x : List ℕ) (sound : IsMembers m sel
           sound = subst (IsMemberPack self.limits size) (sym same) whole;
           members_are = ap (λ bs. set_of (texts bs)) same ∙ ap set_of is.texts_are ∙ more_set;
           changes = p;
-          grown = Grown-same (hash_of self.seed) no_tables no_tables refl;
+          grown = grown_same (hash_of self.seed) no_tables no_tables refl;
         }
 
   module _ (risen : IsRisen self.limits (form_of self) (insert (members m self) x tt) Intset) where
     -- where the set with the new member is to be an intset, that member is the canonical text of a number
     pub is_number : is_some (number_of x) ≡ true
     is_number = numbers_each (keys (insert (members m self) x tt)) x risen.fitting.0
-        (sym (keys_among (insert (members m self) x tt) x) ∙ has_put (members m self) x x ∙ cond-true _ _ _ (tied-same x x refl))
+        (sym (keys_among (insert (members m self) x tt) x) ∙ has_put (members m self) x x ∙ cond-true _ _ _ (tied_same x x refl))
 
     -- an intset of the old members and the new one, placed in a block, is a body of the set with the new member
     pub number_placed : (at : BlockRef) (size : ℕ) (k : ℤ) (old bytes : List ℕ) → n ≡ with_block m at (Some bytes) → Changes m n [] (at ∷ []) → size ≡ len (members m self) + 1
@@ -149,7 +149,7 @@ module _ (m n : Blocks) (self : Members) (x : List ℕ) (sound : IsMembers m sel
               ∙ ap (λ xs. set_of (inserted xs i (canonical k))) is.texts_are ∙ set_inserted list i (canonical k) ∙ ap (λ q. insert (set_of list) q tt) (sym text)
               ∙ ap (λ s. insert s x tt) (sym members_list);
           changes = p;
-          grown = Grown-same (hash_of self.seed) no_tables no_tables refl;
+          grown = grown_same (hash_of self.seed) no_tables no_tables refl;
         }
       where
         inserted_len : (ns : List ℤ) (i : ℕ) (k : ℤ) → length (inserted ns i k) ≡ length ns + 1

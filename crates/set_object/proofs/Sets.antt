@@ -23,8 +23,8 @@ abbrev pub tied : List ℕ → List ℕ → Bool
 tied q k = eq_by_cmp (slice_cmp nat_cmp) q k
 
 -- strings that compare as equal are the same
-pub tied-true : (q k : List ℕ) → tied q k ≡ true → q ≡ k
-tied-true q k h = slice_cmp-IsAntisymmetric nat_cmp-IsAntisymmetric q k (equal (slice_cmp nat_cmp q k) h)
+pub tied_true : (q k : List ℕ) → tied q k ≡ true → q ≡ k
+tied_true q k h = slice_cmp-IsAntisymmetric nat_cmp-IsAntisymmetric q k (equal (slice_cmp nat_cmp q k) h)
   where
     equal : (o : Ordering) → is_eq o ≡ true → o ≡ Equal
     equal Less h = cc
@@ -32,12 +32,12 @@ tied-true q k h = slice_cmp-IsAntisymmetric nat_cmp-IsAntisymmetric q k (equal (
     equal Greater h = cc
 
 -- strings that are the same compare as equal
-pub tied-same : (q k : List ℕ) → q ≡ k → tied q k ≡ true
-tied-same q k is = ap (tied q) (sym is) ∙ (eq_by_cmp_equiv nat_list_cmp_total).refl q
+pub tied_same : (q k : List ℕ) → q ≡ k → tied q k ≡ true
+tied_same q k is = ap (tied q) (sym is) ∙ (eq_by_cmp_equiv nat_list_cmp_total).refl q
 
 -- strings that differ don't compare as equal
-pub tied-other : (q k : List ℕ) → q ≢ k → tied q k ≡ false
-tied-other q k h = elim (cases_Bool (tied q k)) [ inl t ↦ absurd (h (tied-true q k t)) | inr f ↦ f ]
+pub tied_other_in_maps : (q k : List ℕ) → q ≢ k → tied q k ≡ false
+tied_other_in_maps q k h = elim (cases_Bool (tied q k)) [ inl t ↦ absurd (h (tied_true q k t)) | inr f ↦ f ]
 
 -- the string stands in the list
 abbrev pub among : List ℕ → List (List ℕ) → Bool
@@ -112,20 +112,20 @@ pub taken_is : (old new : List (List ℕ)) (x : List ℕ) → ((q : List ℕ) �
 taken_is old new x h = sets_alike _ _ (λ q. has_among new q ∙ h q ∙ ap (cond (tied q x) false) (sym (has_among old q)) ∙ sym (has_taken (set_of old) x q))
 
 -- a string stands in two lists put together where it stands in one of them
-pub among-append : (q : List ℕ) (xs ys : List (List ℕ)) → among q (xs ++ ys) ≡ cond (among q xs) true (among q ys)
-among-append q [] ys = refl
-among-append q (x ∷ xs) ys = ap (cond (tied q x) true) (among-append q xs ys) ∙ twice (tied q x) (among q xs) (among q ys)
+pub among_append : (q : List ℕ) (xs ys : List (List ℕ)) → among q (xs ++ ys) ≡ cond (among q xs) true (among q ys)
+among_append q [] ys = refl
+among_append q (x ∷ xs) ys = ap (cond (tied q x) true) (among_append q xs ys) ∙ twice (tied q x) (among q xs) (among q ys)
   where
     twice : (t a b : Bool) → cond t true (cond a true b) ≡ cond (cond t true a) true b
     twice true a b = refl
     twice false a b = refl
 
 -- in a list with x inserted at an index stand x and what stood in the list before
-among-inserted : (q : List ℕ) (xs : List (List ℕ)) (i : ℕ) (x : List ℕ) → among q (inserted xs i x) ≡ cond (tied q x) true (among q xs)
-among-inserted q xs i x =
-    among-append q (take i xs) (x ∷ drop i xs)
+among_inserted : (q : List ℕ) (xs : List (List ℕ)) (i : ℕ) (x : List ℕ) → among q (inserted xs i x) ≡ cond (tied q x) true (among q xs)
+among_inserted q xs i x =
+    among_append q (take i xs) (x ∷ drop i xs)
     ∙ swap (among q (take i xs)) (tied q x) (among q (drop i xs))
-    ∙ ap (cond (tied q x) true) (sym (among-append q (take i xs) (drop i xs)) ∙ ap (among q) (take-append-drop i xs))
+    ∙ ap (cond (tied q x) true) (sym (among_append q (take i xs) (drop i xs)) ∙ ap (among q) (take-append-drop i xs))
   where
     swap : (a t b : Bool) → cond a true (cond t true b) ≡ cond t true (cond a true b)
     swap true true b = refl
@@ -135,11 +135,11 @@ among-inserted q xs i x =
 
 -- a list with x inserted at an index makes the set with x put in
 pub set_inserted : (xs : List (List ℕ)) (i : ℕ) (x : List ℕ) → set_of (inserted xs i x) ≡ insert (set_of xs) x tt
-set_inserted xs i x = put_is xs (inserted xs i x) x (λ q. among-inserted q xs i x)
+set_inserted xs i x = put_is xs (inserted xs i x) x (λ q. among_inserted q xs i x)
 
 -- a list with x at its end makes the set with x put in
 pub set_push : (xs : List (List ℕ)) (x : List ℕ) → set_of (xs ++ x ∷ []) ≡ insert (set_of xs) x tt
-set_push xs x = put_is xs (xs ++ x ∷ []) x (λ q. among-append q xs (x ∷ []) ∙ swap (among q xs) (tied q x))
+set_push xs x = put_is xs (xs ++ x ∷ []) x (λ q. among_append q xs (x ∷ []) ∙ swap (among q xs) (tied q x))
   where
     swap : (a t : Bool) → cond a true (cond t true false) ≡ cond t true a
     swap true true = refl
@@ -192,29 +192,29 @@ once_parts x xs once = elim (cases_Bool (has (set_of xs) x)) [
 -- a string that is found at an index stands in the list
 pub stands_get : (xs : List (List ℕ)) (i : ℕ) (x : List ℕ) → slice_get xs i ≡ Some x → among x xs ≡ true
 stands_get [] i x h = cc
-stands_get (y ∷ xs) zero x h = cond-true _ _ _ (tied-same x y (let e : x ≡ y = cc in e))
+stands_get (y ∷ xs) zero x h = cond-true _ _ _ (tied_same x y (let e : x ≡ y = cc in e))
 stands_get (y ∷ xs) (suc i) x h = elim (cases_Bool (tied x y)) [ inl t ↦ cond-true _ _ _ t | inr f ↦ cond-false _ _ _ f ∙ stands_get xs i x h ]
 
 -- where none stands twice, in a list without the string at an index stand all but that string
-among-removed : (q : List ℕ) (xs : List (List ℕ)) (i : ℕ) (x : List ℕ) → IsOnce xs → slice_get xs i ≡ Some x → among q (removed xs i) ≡ cond (tied q x) false (among q xs)
-among-removed q [] i x once is = cc
-among-removed q (y ∷ xs) zero x once is =
+among_removed : (q : List ℕ) (xs : List (List ℕ)) (i : ℕ) (x : List ℕ) → IsOnce xs → slice_get xs i ≡ Some x → among q (removed xs i) ≡ cond (tied q x) false (among q xs)
+among_removed q [] i x once is = cc
+among_removed q (y ∷ xs) zero x once is =
     let same : y ≡ x = some_same (Some y) y x refl is in
     elim (cases_Bool (tied q x)) [
-      | inl t ↦ ap (λ k. among k xs) (tied-true q x t ∙ sym same) ∙ (once_parts y xs once).0 ∙ sym (cond-true _ _ _ t)
+      | inl t ↦ ap (λ k. among k xs) (tied_true q x t ∙ sym same) ∙ (once_parts y xs once).0 ∙ sym (cond-true _ _ _ t)
       | inr f ↦ sym (cond-false _ _ _ f ∙ ap (λ k. cond (tied q k) true (among q xs)) same ∙ cond-false _ _ _ f)
     ]
   where
     some_same : (o : Option (List ℕ)) (a b : List ℕ) → o ≡ Some a → o ≡ Some b → a ≡ b
     some_same o a b h k = cc
-among-removed q (y ∷ xs) (suc i) x once is =
+among_removed q (y ∷ xs) (suc i) x once is =
     let parts = once_parts y xs once in
-    let rest = among-removed q xs i x parts.1 is in
+    let rest = among_removed q xs i x parts.1 is in
     elim (cases_Bool (tied q x)) [
       | inl t ↦
-          (let out : tied q y ≡ false = tied-other q y
+          (let out : tied q y ≡ false = tied_other_in_maps q y
           (λ same. elim (cases_Bool (among x xs)) [
-            | inl yes' ↦ let never : among y xs ≡ true = ap (λ k. among k xs) (sym same ∙ tied-true q x t) ∙ yes' in absurd (two_ways _ never parts.0)
+            | inl yes' ↦ let never : among y xs ≡ true = ap (λ k. among k xs) (sym same ∙ tied_true q x t) ∙ yes' in absurd (two_ways _ never parts.0)
             | inr lacks
                 ↦ absurd (two_ways _ (stands_get xs i x is) lacks)
           ]) in
@@ -224,12 +224,12 @@ among-removed q (y ∷ xs) (suc i) x once is =
 
 -- where none stands twice, a list without the string at an index makes the set without that string
 pub set_removed : (xs : List (List ℕ)) (i : ℕ) (x : List ℕ) → IsOnce xs → slice_get xs i ≡ Some x → set_of (removed xs i) ≡ remove (set_of xs) x
-set_removed xs i x once is = taken_is xs (removed xs i) x (λ q. among-removed q xs i x once is)
+set_removed xs i x once is = taken_is xs (removed xs i) x (λ q. among_removed q xs i x once is)
 
 -- the string at an index below the length stands in the list
 pub stands_at : (xs : List (List ℕ)) (i : ℕ) → i < length xs → among (get_or xs i []) xs ≡ true
 stands_at [] i h = absurd (omega arith)
-stands_at (y ∷ xs) zero h = cond-true _ _ _ (tied-same y y refl)
+stands_at (y ∷ xs) zero h = cond-true _ _ _ (tied_same y y refl)
 stands_at (y ∷ xs) (suc i) h = elim (cases_Bool (tied (get_or xs i []) y)) [ inl t ↦ cond-true _ _ _ t | inr f ↦ cond-false _ _ _ f ∙ stands_at xs i (omega (arith, h)) ]
 
 -- what stands at an index doesn't stand before it
@@ -240,7 +240,7 @@ once_before (y ∷ xs) (suc i) once h =
     let parts = once_parts y xs once in
     let x : List ℕ = get_or xs i [] in
     elim (cases_Bool (tied x y)) [
-      | inl t ↦ absurd (two_ways (among y xs) (ap (λ k. among k xs) (sym (tied-true x y t)) ∙ stands_at xs i (omega (arith, h))) parts.0)
+      | inl t ↦ absurd (two_ways (among y xs) (ap (λ k. among k xs) (sym (tied_true x y t)) ∙ stands_at xs i (omega (arith, h))) parts.0)
       | inr f ↦ cond-false _ _ _ f ∙ once_before xs i parts.1 (omega (arith, h))
     ]
 
@@ -248,9 +248,9 @@ once_before (y ∷ xs) (suc i) once h =
 pub among_more : (q : List ℕ) (xs : List (List ℕ)) (i : ℕ) → i < length xs → among q (take i xs) ≡ false → (get_or xs i [] ≡ q → ⊥) → among q (take (i + 1) xs) ≡ false
 among_more q xs i h out other =
     ap (among q) (take_more xs i [] h)
-    ∙ among-append q (take i xs) (get_or xs i [] ∷ [])
+    ∙ among_append q (take i xs) (get_or xs i [] ∷ [])
     ∙ cond-false _ _ _ out
-    ∙ cond-false _ _ _ (tied-other q (get_or xs i []) (λ same. other (sym same)))
+    ∙ cond-false _ _ _ (tied_other_in_maps q (get_or xs i []) (λ same. other (sym same)))
 
 -- the set of the first i + 1 strings is that of the first i with the string at i put in
 pub set_more : (xs : List (List ℕ)) (i : ℕ) → i < length xs → set_of (take (i + 1) xs) ≡ insert (set_of (take i xs)) (get_or xs i []) tt

@@ -2,13 +2,13 @@
 use Rattle.std.proofs.Common.{◌≡◌, ◌≢◌, ◌⊎◌, ℕ, ◌+◌, ◌<◌, ◌≤◌, [], ◌∷◌, unwrap_or, refl, sym, ap, ◌∙◌, subst, arith, inl, inr}
 use Rattle.blocks.specs.declared.BlockRef.{BlockRef}
 use Rattle.blocks.specs.Blocks.{Blocks, bytes_at, Changes}
-use Rattle.blocks.proofs.Change.{Changes-same, Changes-then}
+use Rattle.blocks.proofs.Change.{changes_same, changes_then}
 use Rattle.object_codec.specs.declared.limits.Limits.{Limits}
 use Rattle.collection_walk.proofs.Renamed.{bytes_kept, other_kept, moved_keyed, moved_changes, items_stand}
 use Rattle.rehash_dict.specs.Keyed.{Keyed}
 use Rattle.rehash_dict.specs.Steps.{Holds, Renames}
 use Rattle.rehash_dict.specs.MapOf.{key_refs}
-use Rattle.rehash_dict.proofs.MapOf.{map_of-renames, key_refs-owned}
+use Rattle.rehash_dict.proofs.MapOf.{map_of_renames, key_refs_owned}
 use Rattle.set_object.specs.declared.members.Packed.{Packed}
 use Rattle.set_object.specs.declared.members.Body.TheVariants.{Numbers, Pack}
 use Rattle.set_object.specs.Members.{IsBody, IsNumbers, IsMemberPack, members_of}
@@ -20,7 +20,7 @@ settled_same m t stays k = record {
   keyed = k;
   content_is = refl;
   tables_are = refl;
-  changes = Changes-same m (key_refs t) (key_refs-owned m t k);
+  changes = changes_same m (key_refs t) (key_refs_owned m t k);
   seed = refl;
   top = refl;
   same_items = λ at. refl;
@@ -36,7 +36,7 @@ module _ (m n : Blocks) (old new : Dict) (at : ℕ) (key ref : BlockRef) (k : Ke
       let moved = moved_keyed m n old new at key ref tt k h same p r in
       record {
         keyed = moved.0;
-        content_is = map_of-renames m n (λ (v : Unit {0}). v) old new at ref k moved.0 r (bytes_kept m n old new at key ref tt k h same p r) (other_kept m n old new at key ref tt k h same p r);
+        content_is = map_of_renames m n (λ (v : Unit {0}). v) old new at ref k moved.0 r (bytes_kept m n old new at key ref tt k h same p r) (other_kept m n old new at key ref tt k h same p r);
         tables_are = moved.1;
         changes = moved_changes m n old new at key ref tt k h same p r;
         seed = r.seed;
@@ -53,7 +53,7 @@ settled_more a b c t u v start k low p q = record {
   keyed = q.keyed;
   content_is = q.content_is ∙ p.content_is;
   tables_are = q.tables_are ∙ p.tables_are;
-  changes = Changes-then a b c (key_refs t) (key_refs u) (key_refs v) p.changes q.changes;
+  changes = changes_then a b c (key_refs t) (key_refs u) (key_refs v) p.changes q.changes;
   seed = q.seed ∙ p.seed;
   top = q.top ∙ p.top;
   same_items = λ i. q.same_items i ∙ p.same_items i;

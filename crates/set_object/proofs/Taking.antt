@@ -12,7 +12,7 @@ use Rattle.std.proofs.lemmas.List.Elements.{All-head, All-tail}
 use lib.Signed.{mag}
 use Rattle.blocks.specs.declared.BlockRef.{BlockRef}
 use Rattle.blocks.specs.Blocks.{Blocks, bytes_at, with_block, Changes}
-use Rattle.blocks.proofs.Change.{Changes-same}
+use Rattle.blocks.proofs.Change.{changes_same}
 use Rattle.int_text.specs.Decimal.{canonical}
 use Rattle.intset.specs.Intset.{numbers_of, without_number}
 use Rattle.listpack.specs.Pack.{texts}
@@ -20,7 +20,7 @@ use Rattle.object_codec.specs.declared.form.Form.{Form}
 use Rattle.object_codec.specs.declared.form.Form.TheVariants.{Intset, Listpack, Hashtable, Skiplist, Quicklist, Stream}
 use Rattle.rehash_dict.specs.Keyed.{hash_of}
 use Rattle.rehash_dict.specs.Tables.{IsSettled}
-use Rattle.rehash_dict.proofs.Growing.{Grown-same}
+use Rattle.rehash_dict.proofs.Growing.{grown_same}
 use Rattle.set_object.specs.declared.members.Packed.{Packed}
 use Rattle.set_object.specs.declared.members.Body.{Body}
 use Rattle.set_object.specs.declared.members.Body.TheVariants.{Empty, Numbers, Pack, Table}
@@ -28,7 +28,7 @@ use Rattle.set_object.specs.declared.members.Members.{Members}
 use Rattle.set_object.specs.Strings.{Strings, set_of, has, IsOnce}
 use Rattle.set_object.specs.Members.{IsMembers, IsBody, IsMemberPack, IsNumbers, AreNumbersOf, ArePackedOf, AreBytesOf, IsPacked, repacked, IsPlacedBody, form_of_body, members, members_of}
 use Rattle.set_object.specs.Members.{number_texts, form_left, tables_of, no_tables}
-use Rattle.set_object.proofs.Sets.{two_ways, tied, has_empty, tied-true, among, has_among, has_taken, stands_get, taken_is, set_removed, len_taken}
+use Rattle.set_object.proofs.Sets.{two_ways, tied, has_empty, tied_true, among, has_among, has_taken, stands_get, taken_is, set_removed, len_taken}
 use Rattle.set_object.proofs.Hashing.{Dict}
 use Rattle.set_object.proofs.Texts.{AreFit, numbers_once}
 use Rattle.set_object.proofs.Placing.{all_short, block_is, longest_within}
@@ -75,7 +75,7 @@ module _ (n : ℤ) (small : mag n < 2 ^ 63) (q : List ℕ) where
     where
       apart : int_eq x n ≡ false → tied q (canonical n) ≡ true → tied q (canonical x) ≡ true → ⊥
       apart other t u =
-          let same : x ≡ n = signed_decimal_injective x n (All-head (λ n. mag n < 2 ^ 63) x ns fit) small (sym (tied-true q (canonical x) u) ∙ tied-true q (canonical n) t) in
+          let same : x ≡ n = signed_decimal_injective x n (All-head (λ n. mag n < 2 ^ 63) x ns fit) small (sym (tied_true q (canonical x) u) ∙ tied_true q (canonical n) t) in
           two_ways (int_eq x n) (ap (λ y. int_eq y n) same ∙ int_self n) other
 
 -- the texts of the numbers without n make the set of all texts without that of n
@@ -126,7 +126,7 @@ module _ (m n : Blocks) (self : Members) (x : List ℕ) (sound : IsMembers m sel
         sound = subst (IsNumbers self.limits size) (sym same_bytes) whole;
         members_are = ap (λ bs. set_of (number_texts bs)) same_bytes ∙ now.members_are;
         changes = changes;
-        grown = Grown-same (hash_of self.seed) no_tables no_tables refl;
+        grown = grown_same (hash_of self.seed) no_tables no_tables refl;
       }
 
   -- where the bytes are a listpack of what is left, the new block can take the place of the set's listpack
@@ -153,7 +153,7 @@ module _ (m n : Blocks) (self : Members) (x : List ℕ) (sound : IsMembers m sel
         sound = subst (IsMemberPack self.limits size) (sym same_bytes) whole;
         members_are = ap (λ bs. set_of (texts bs)) same_bytes ∙ now.members_are;
         changes = changes;
-        grown = Grown-same (hash_of self.seed) no_tables no_tables refl;
+        grown = grown_same (hash_of self.seed) no_tables no_tables refl;
       }
     where
       was : (q : List ℕ) (list : List (List ℕ)) → has (members m self) q ≡ among q list → cond (tied q x) false (has (members m self) q) ≡ true → among q list ≡ true
@@ -178,8 +178,8 @@ pub none_left : (m : Blocks) (self : Members) (set : Strings) → len set ≡ 0 
 none_left m self set none = record {
   sound = tt;
   members_are = sym (empty_of_len set none);
-  changes = Changes-same m [] (λ r. omega arith);
-  grown = Grown-same (hash_of self.seed) no_tables no_tables refl;
+  changes = changes_same m [] (λ r. omega arith);
+  grown = grown_same (hash_of self.seed) no_tables no_tables refl;
 }
 
 -- a set without a dictionary, of which no member is left, has the form of an intset

@@ -11,7 +11,7 @@ use Rattle.int_text.specs.Decimal.{canonical, IsI64Text}
 use Rattle.int_text.proofs.NumberOf.{number_back}
 use Rattle.intset.specs.Intset.{IsRising}
 use Rattle.set_object.specs.Strings.{IsOnce, longest, are_numbers}
-use Rattle.set_object.proofs.Sets.{tied, tied-true, tied-same, tied-other, among, once_nil, once_cons}
+use Rattle.set_object.proofs.Sets.{tied, tied_true, tied_same, tied_other_in_maps, among, once_nil, once_cons}
 
 -- numbers of 64 bits with a sign
 abbrev pub AreFit : List ℤ → Type 0
@@ -24,7 +24,7 @@ contains_cons x n ns c = (suc c.0, omega (arith, c.1), c.2)
 pub text_stands : (ns : List ℤ) (n : ℤ) → AreFit ns → mag n < 2 ^ 63 → among (canonical n) (map canonical ns) ≡ true → Contains ns n
 text_stands [] n fit small h = absurd cc
 text_stands (x ∷ ns) n fit small h = elim (cases_Bool (tied (canonical n) (canonical x))) [
-  | inl t ↦ (0, omega arith, signed_decimal_injective x n (All-head (λ n. mag n < 2 ^ 63) x ns fit) small (sym (tied-true _ _ t)))
+  | inl t ↦ (0, omega arith, signed_decimal_injective x n (All-head (λ n. mag n < 2 ^ 63) x ns fit) small (sym (tied_true _ _ t)))
   | inr f ↦ contains_cons x n ns (text_stands ns n (All-tail (λ n. mag n < 2 ^ 63) x ns fit) small (sym (cond-false _ _ _ f) ∙ h))
 ]
 
@@ -33,7 +33,7 @@ stands_text ns n c = at ns c.0 c.1 c.2
   where
     at : (ns : List ℤ) (k : ℕ) → k < length ns → get_or ns k n ≡ n → among (canonical n) (map canonical ns) ≡ true
     at [] k h is = absurd (omega arith)
-    at (x ∷ ns) zero h is = cond-true _ _ _ (tied-same (canonical n) (canonical x) (ap canonical (sym is)))
+    at (x ∷ ns) zero h is = cond-true _ _ _ (tied_same (canonical n) (canonical x) (ap canonical (sym is)))
     at (x ∷ ns) (suc k) h is = elim (cases_Bool (tied (canonical n) (canonical x))) [ inl t ↦ cond-true _ _ _ t | inr f ↦ cond-false _ _ _ f ∙ at ns k (omega (arith, h)) is ]
 
 pub number_among : (ns : List ℤ) (n : ℤ) (b : Bool) → AreFit ns → mag n < 2 ^ 63 → (IsTrue b → Contains ns n) × (Contains ns n → IsTrue b) → b ≡ among (canonical n) (map canonical ns)
@@ -47,7 +47,7 @@ number_among ns n b fit small both = by_cases b (among (canonical n) (map canoni
 pub no_number_among : (ns : List ℤ) (text : List ℕ) → AreFit ns → ¬ (IsI64Text text) → among text (map canonical ns) ≡ false
 no_number_among [] text fit none = refl
 no_number_among (x ∷ ns) text fit none =
-    cond-false _ _ _ (tied-other text (canonical x) (λ same. none (x, record { sfits = All-head (λ n. mag n < 2 ^ 63) x ns fit }, same)))
+    cond-false _ _ _ (tied_other_in_maps text (canonical x) (λ same. none (x, record { sfits = All-head (λ n. mag n < 2 ^ 63) x ns fit }, same)))
     ∙ no_number_among ns text (All-tail (λ n. mag n < 2 ^ 63) x ns fit) none
 
 -- texts of rising numbers stand once

@@ -41,16 +41,16 @@ found_later true o e = refl
 found_later false o e = e
 
 -- A name at a place is found.
-pub found-at : (names : List Name) (name : List ℕ) (at : ℕ) → IsAt names name at → find name_cmp name (listed names) ≡ Some tt
-found-at [] name at is = absurd (omega (arith, is.in_range))
-found-at (x ∷ names) name zero is = cond-true _ _ _ (tied (bytes_of x) name (is.here x))
-found-at (x ∷ names) name (suc at) is = found_later _ _ (found-at names name at (record { in_range = omega (arith, is.in_range); here = is.here }))
+pub found_at_in_gaps : (names : List Name) (name : List ℕ) (at : ℕ) → IsAt names name at → find name_cmp name (listed names) ≡ Some tt
+found_at_in_gaps [] name at is = absurd (omega (arith, is.in_range))
+found_at_in_gaps (x ∷ names) name zero is = cond-true _ _ _ (tied (bytes_of x) name (is.here x))
+found_at_in_gaps (x ∷ names) name (suc at) is = found_later _ _ (found_at_in_gaps names name at (record { in_range = omega (arith, is.in_range); here = is.here }))
 
 -- no name is the one asked for
-none-above : (names : List Name) (name : List ℕ) → ((k : ℕ) (d : Name) → 0 ≤ k → k < length names → name_cmp (bytes_of (get_or names k d)) name ≡ Greater) → find name_cmp name (listed names) ≡ None
-none-above [] name above = refl
-none-above (x ∷ names) name above = cond-false _ _ _ (ap is_eq (turned name (bytes_of x) _ refl) ∙ untied_above _ (above 0 x (omega arith) (omega arith)))
-    ∙ none-above names name (λ k d low high. above (suc k) d (omega arith) (omega arith))
+none_above_in_gaps : (names : List Name) (name : List ℕ) → ((k : ℕ) (d : Name) → 0 ≤ k → k < length names → name_cmp (bytes_of (get_or names k d)) name ≡ Greater) → find name_cmp name (listed names) ≡ None
+none_above_in_gaps [] name above = refl
+none_above_in_gaps (x ∷ names) name above = cond-false _ _ _ (ap is_eq (turned name (bytes_of x) _ refl) ∙ untied_above _ (above 0 x (omega arith) (omega arith)))
+    ∙ none_above_in_gaps names name (λ k d low high. above (suc k) d (omega arith) (omega arith))
 
 -- the gap among the names behind the first
 behind : (x : Name) (names : List Name) (name : List ℕ) (at : ℕ) → IsGap (x ∷ names) name (suc at) → IsGap names name at
@@ -61,52 +61,52 @@ behind x names name at is = record {
 }
 
 -- A name with a gap isn't found.
-pub missed-gap : (names : List Name) (name : List ℕ) (at : ℕ) → IsGap names name at → find name_cmp name (listed names) ≡ None
-missed-gap [] name at is = refl
-missed-gap (x ∷ names) name zero is = none-above (x ∷ names) name is.higher
-missed-gap (x ∷ names) name (suc at) is = cond-false _ _ _ (ap is_eq (turned name (bytes_of x) _ refl) ∙ untied _ (is.lower 0 x (omega arith) (omega arith)))
-    ∙ missed-gap names name at (behind x names name at is)
+pub missed_gap : (names : List Name) (name : List ℕ) (at : ℕ) → IsGap names name at → find name_cmp name (listed names) ≡ None
+missed_gap [] name at is = refl
+missed_gap (x ∷ names) name zero is = none_above_in_gaps (x ∷ names) name is.higher
+missed_gap (x ∷ names) name (suc at) is = cond-false _ _ _ (ap is_eq (turned name (bytes_of x) _ refl) ∙ untied _ (is.lower 0 x (omega arith) (omega arith)))
+    ∙ missed_gap names name at (behind x names name at is)
 
 -- A name that is put into its gap is put into the set.
-pub put-gap : (names : List Name) (new : Name) (at : ℕ) → IsGap names (bytes_of new) at → listed (insert names at new) ≡ put name_cmp (bytes_of new) tt (listed names)
-put-gap [] new zero gap = refl
-put-gap [] new (suc at) gap = absurd (omega (arith, gap.in_range))
-put-gap (x ∷ names) new zero gap = sym
+pub put_gap : (names : List Name) (new : Name) (at : ℕ) → IsGap names (bytes_of new) at → listed (insert names at new) ≡ put name_cmp (bytes_of new) tt (listed names)
+put_gap [] new zero gap = refl
+put_gap [] new (suc at) gap = absurd (omega (arith, gap.in_range))
+put_gap (x ∷ names) new zero gap = sym
     (ap (λ r. by_order r ((bytes_of new, tt) ∷ listed (x ∷ names)) ((bytes_of x, tt) ∷ listed names) ((bytes_of x, tt) ∷ put name_cmp (bytes_of new) tt (listed names)))
     (turned (bytes_of new) (bytes_of x) Greater (gap.higher 0 x (omega arith) (omega arith))))
-put-gap (x ∷ names) new (suc at) gap =
-    ap (λ es. (bytes_of x, tt) ∷ es) (put-gap names new at (behind x names (bytes_of new) at gap))
+put_gap (x ∷ names) new (suc at) gap =
+    ap (λ es. (bytes_of x, tt) ∷ es) (put_gap names new at (behind x names (bytes_of new) at gap))
     ∙ sym
     (ap (λ r. by_order r ((bytes_of new, tt) ∷ listed (x ∷ names)) ((bytes_of x, tt) ∷ listed names) ((bytes_of x, tt) ∷ put name_cmp (bytes_of new) tt (listed names)))
     (turned (bytes_of new) (bytes_of x) Less (gap.lower 0 x (omega arith) (omega arith))))
 
 -- The names rise still.
-pub rise-gap : (names : List Name) (new : Name) (at : ℕ) → Rise names → IsGap names (bytes_of new) at → Rise (insert names at new)
-rise-gap names new at rise gap = subst (λ es. T (is_sorted name_cmp es)) (sym (put-gap names new at gap)) (is_sorted-put name_cmp name_total (bytes_of new) tt (listed names) rise)
+pub rise_gap : (names : List Name) (new : Name) (at : ℕ) → Rise names → IsGap names (bytes_of new) at → Rise (insert names at new)
+rise_gap names new at rise gap = subst (λ es. T (is_sorted name_cmp es)) (sym (put_gap names new at gap)) (is_sorted-put name_cmp name_total (bytes_of new) tt (listed names) rise)
 
 -- The set of the names has the new one.
-pub names-gap : (names : List Name) (new : Name) (at : ℕ) → Rise names → IsGap names (bytes_of new) at → names_of (insert names at new) ≡ map.insert (names_of names) (bytes_of new) tt
+pub names_gap : (names : List Name) (new : Name) (at : ℕ) → Rise names → IsGap names (bytes_of new) at → names_of (insert names at new) ≡ map.insert (names_of names) (bytes_of new) tt
 unfolding names_of
-names-gap names new at rise gap = map.same_entries_map _ _ (map.entries-from_sorted name_cmp _ (rise-gap names new at rise gap) ∙ put-gap names new at gap
+names_gap names new at rise gap = map.same_entries_map _ _ (map.entries-from_sorted name_cmp _ (rise_gap names new at rise gap) ∙ put_gap names new at gap
     ∙ ap (put name_cmp (bytes_of new) tt) (sym (map.entries-from_sorted name_cmp _ rise)) ∙ sym (map.entries-insert name_total (names_of names) (bytes_of new) tt))
 
 -- What the set has at a name.
-pub names-get : (names : List Name) (q : List ℕ) → Rise names → map.get (names_of names) q ≡ find name_cmp q (listed names)
+pub names_get : (names : List Name) (q : List ℕ) → Rise names → map.get (names_of names) q ≡ find name_cmp q (listed names)
 unfolding names_of
-names-get names q rise = map.get-from_sorted name_cmp (listed names) q rise
+names_get names q rise = map.get-from_sorted name_cmp (listed names) q rise
 
 -- The names by rising bytes.
-pub names-keys : (names : List Name) → Rise names → map.keys (names_of names) ≡ list_map bytes_of names
+pub names_keys : (names : List Name) → Rise names → map.keys (names_of names) ≡ list_map bytes_of names
 unfolding names_of
-names-keys names rise = ap (list_map (λ (e : List ℕ × Unit {0}). e.0)) (map.entries-from_sorted name_cmp (listed names) rise) ∙ firsts names
+names_keys names rise = ap (list_map (λ (e : List ℕ × Unit {0}). e.0)) (map.entries-from_sorted name_cmp (listed names) rise) ∙ firsts names
   where
     firsts : (xs : List Name) → list_map (λ (e : List ℕ × Unit {0}). e.0) (listed xs) ≡ list_map bytes_of xs
     firsts [] = refl
     firsts (x ∷ xs) = ap (λ ys. bytes_of x ∷ ys) (firsts xs)
 
 -- To put a name that is there changes nothing.
-pub put-known : (names : Names) (name : List ℕ) → map.get names name ≡ Some tt → map.insert names name tt ≡ names
-put-known names name is = map.same_map name_total name_same _ _ (λ q. map.get-insert name_total names name tt q ∙ elim (cases_Bool (eq_by_cmp name_cmp q name)) [
+pub put_known : (names : Names) (name : List ℕ) → map.get names name ≡ Some tt → map.insert names name tt ≡ names
+put_known names name is = map.same_map name_total name_same _ _ (λ q. map.get-insert name_total names name tt q ∙ elim (cases_Bool (eq_by_cmp name_cmp q name)) [
   | inl same ↦ cond-true _ _ _ same ∙ sym is ∙ ap (map.get names) (sym (name_same q name (equal _ same)))
   | inr other ↦ cond-false _ _ _ other
 ])
@@ -114,47 +114,47 @@ put-known names name is = map.same_map name_total name_same _ _ (λ q. map.get-i
 -- ---- a name that is taken out
 
 -- a name below all others is below each
-below-at : (x : List ℕ) (names : List Name) (name : List ℕ) (at : ℕ) → T (below_all name_cmp x (listed names)) → IsAt names name at → name_cmp x name ≡ Less
-below-at x [] name at h is = absurd (omega (arith, is.in_range))
-below-at x (y ∷ names) name zero h is = ap (name_cmp x) (sym (is.here y)) ∙ less _ (first _ _ h)
-below-at x (y ∷ names) name (suc at) h is = below-at x names name at (second _ _ h) (record { in_range = omega (arith, is.in_range); here = is.here })
+below_at : (x : List ℕ) (names : List Name) (name : List ℕ) (at : ℕ) → T (below_all name_cmp x (listed names)) → IsAt names name at → name_cmp x name ≡ Less
+below_at x [] name at h is = absurd (omega (arith, is.in_range))
+below_at x (y ∷ names) name zero h is = ap (name_cmp x) (sym (is.here y)) ∙ less _ (first _ _ h)
+below_at x (y ∷ names) name (suc at) h is = below_at x names name at (second _ _ h) (record { in_range = omega (arith, is.in_range); here = is.here })
 
 -- a name below all others is below them without one of them
-below-without : (x : List ℕ) (names : List Name) (at : ℕ) → T (below_all name_cmp x (listed names)) → T (below_all name_cmp x (listed (removed names at)))
-below-without x [] zero h = tt
-below-without x [] (suc at) h = tt
-below-without x (y ∷ names) zero h = second _ _ h
-below-without x (y ∷ names) (suc at) h = both _ _ (first _ _ h) (below-without x names at (second _ _ h))
+below_without : (x : List ℕ) (names : List Name) (at : ℕ) → T (below_all name_cmp x (listed names)) → T (below_all name_cmp x (listed (removed names at)))
+below_without x [] zero h = tt
+below_without x [] (suc at) h = tt
+below_without x (y ∷ names) zero h = second _ _ h
+below_without x (y ∷ names) (suc at) h = both _ _ (first _ _ h) (below_without x names at (second _ _ h))
 
 -- The names rise still without one.
-pub rise-without : (names : List Name) (at : ℕ) → Rise names → Rise (removed names at)
-rise-without [] zero h = tt
-rise-without [] (suc at) h = tt
-rise-without (y ∷ names) zero h = second _ _ h
-rise-without (y ∷ names) (suc at) h = both _ _ (below-without (bytes_of y) names at (first _ _ h)) (rise-without names at (second _ _ h))
+pub rise_without : (names : List Name) (at : ℕ) → Rise names → Rise (removed names at)
+rise_without [] zero h = tt
+rise_without [] (suc at) h = tt
+rise_without (y ∷ names) zero h = second _ _ h
+rise_without (y ∷ names) (suc at) h = both _ _ (below_without (bytes_of y) names at (first _ _ h)) (rise_without names at (second _ _ h))
 
 -- without the name at a place, that name is found no more, and each other is found as before
-find-without : (names : List Name) (name p : List ℕ) (at : ℕ) → Rise names → IsAt names name at
+find_without : (names : List Name) (name p : List ℕ) (at : ℕ) → Rise names → IsAt names name at
     → find name_cmp p (listed (removed names at)) ≡ cond (eq_by_cmp name_cmp p name) None (find name_cmp p (listed names))
-find-without [] name p at rise is = absurd (omega (arith, is.in_range))
-find-without (x ∷ names) name p zero rise is = elim (cases_Bool (eq_by_cmp name_cmp p name)) [
+find_without [] name p at rise is = absurd (omega (arith, is.in_range))
+find_without (x ∷ names) name p zero rise is = elim (cases_Bool (eq_by_cmp name_cmp p name)) [
   | inl same ↦ find_below name_total p (bytes_of x) (listed names) (ap (name_cmp p) (is.here x) ∙ equal _ same) (first _ _ rise) ∙ sym (cond-true _ _ _ same)
   | inr other ↦ sym (cond-false _ _ _ (ap (eq_by_cmp name_cmp p) (is.here x) ∙ other)) ∙ sym (cond-false _ _ _ other)
 ]
-find-without (x ∷ names) name p (suc at) rise is =
+find_without (x ∷ names) name p (suc at) rise is =
     let rest : IsAt names name at = record { in_range = omega (arith, is.in_range); here = is.here } in
-    ap (λ o. cond (eq_by_cmp name_cmp p (bytes_of x)) (Some tt) o) (find-without names name p at (second _ _ rise) rest)
+    ap (λ o. cond (eq_by_cmp name_cmp p (bytes_of x)) (Some tt) o) (find_without names name p at (second _ _ rise) rest)
     ∙ swapped (eq_by_cmp name_cmp p (bytes_of x)) (eq_by_cmp name_cmp p name) _ _ _
-    (λ same. ap is_eq (name_total.congr p (bytes_of x) name (equal _ same) ∙ below-at (bytes_of x) names name at (first _ _ rise) rest))
+    (λ same. ap is_eq (name_total.congr p (bytes_of x) name (equal _ same) ∙ below_at (bytes_of x) names name at (first _ _ rise) rest))
 
 -- The set of the names hasn't the one that was taken out.
-pub names-without : (names : List Name) (name : List ℕ) (at : ℕ) → Rise names → IsAt names name at → names_of (removed names at) ≡ map.remove (names_of names) name
-names-without names name at rise is = map.same_map name_total name_same _ _ (λ p. names-get (removed names at) p (rise-without names at rise) ∙ find-without names name p at rise is
-    ∙ ap (cond (eq_by_cmp name_cmp p name) None) (sym (names-get names p rise)) ∙ sym (map.get-remove name_total (names_of names) name p))
+pub names_without : (names : List Name) (name : List ℕ) (at : ℕ) → Rise names → IsAt names name at → names_of (removed names at) ≡ map.remove (names_of names) name
+names_without names name at rise is = map.same_map name_total name_same _ _ (λ p. names_get (removed names at) p (rise_without names at rise) ∙ find_without names name p at rise is
+    ∙ ap (cond (eq_by_cmp name_cmp p name) None) (sym (names_get names p rise)) ∙ sym (map.get-remove name_total (names_of names) name p))
 
 -- To take out a name that isn't there changes nothing.
-pub remove-unknown : (names : Names) (name : List ℕ) → map.get names name ≡ None → map.remove names name ≡ names
-remove-unknown names name is = map.same_map name_total name_same _ _ (λ q. map.get-remove name_total names name q ∙ elim (cases_Bool (eq_by_cmp name_cmp q name)) [
+pub remove_unknown : (names : Names) (name : List ℕ) → map.get names name ≡ None → map.remove names name ≡ names
+remove_unknown names name is = map.same_map name_total name_same _ _ (λ q. map.get-remove name_total names name q ∙ elim (cases_Bool (eq_by_cmp name_cmp q name)) [
   | inl same ↦ cond-true _ _ _ same ∙ sym is ∙ ap (map.get names) (sym (name_same q name (equal _ same)))
   | inr other ↦ cond-false _ _ _ other
 ])
@@ -162,10 +162,10 @@ remove-unknown names name is = map.same_map name_total name_same _ _ (λ q. map.
 -- ---- the search
 
 -- a name below all others is less than the one at each place
-below-each : (x : List ℕ) (names : List Name) (j : ℕ) (d : Name) → T (below_all name_cmp x (listed names)) → j < length names → name_cmp x (bytes_of (get_or names j d)) ≡ Less
-below-each x [] j d h within = absurd (omega arith)
-below-each x (y ∷ names) zero d h within = less _ (first _ _ h)
-below-each x (y ∷ names) (suc j) d h within = below-each x names j d (second _ _ h) (omega arith)
+below_each : (x : List ℕ) (names : List Name) (j : ℕ) (d : Name) → T (below_all name_cmp x (listed names)) → j < length names → name_cmp x (bytes_of (get_or names j d)) ≡ Less
+below_each x [] j d h within = absurd (omega arith)
+below_each x (y ∷ names) zero d h within = less _ (first _ _ h)
+below_each x (y ∷ names) (suc j) d h within = below_each x names j d (second _ _ h) (omega arith)
 
 -- of two names, the lower one compares lower
 lower_first : (x y name : List ℕ) → name_cmp x y ≡ Less → ordering_index (name_cmp x name) ≤ ordering_index (name_cmp y name)
@@ -185,7 +185,7 @@ lower_first x y name below = by (name_cmp y name) refl
 comparisons_rise : (names : List Name) (name : List ℕ) → Rise names → IsNonDecreasingBy (λ (known : Name). ordering_index (name_cmp (bytes_of known) name)) names
 comparisons_rise [] name rise i j d le within = absurd (omega arith)
 comparisons_rise (x ∷ names) name rise zero zero d le within = omega arith
-comparisons_rise (x ∷ names) name rise zero (suc j) d le within = lower_first (bytes_of x) (bytes_of (get_or names j d)) name (below-each (bytes_of x) names j d (first _ _ rise) (omega arith))
+comparisons_rise (x ∷ names) name rise zero (suc j) d le within = lower_first (bytes_of x) (bytes_of (get_or names j d)) name (below_each (bytes_of x) names j d (first _ _ rise) (omega arith))
 comparisons_rise (x ∷ names) name rise (suc i) zero d le within = absurd (omega arith)
 comparisons_rise (x ∷ names) name rise (suc i) (suc j) d le within = comparisons_rise names name (second _ _ rise) i j d (omega arith) (omega arith)
 
@@ -199,38 +199,38 @@ searched names name rise (Err at) in_range parted = record {
 }
 
 -- the name that stands at a place is the one read there
-here-at : (names : List Name) (name : List ℕ) (at : ℕ) → IsAt names name at → option_map bytes_of (slice_get names at) ≡ Some name
-here-at [] name at is = absurd (omega (arith, is.in_range))
-here-at (x ∷ names) name zero is = ap Some (is.here x)
-here-at (x ∷ names) name (suc at) is = here-at names name at (record { in_range = omega (arith, is.in_range); here = is.here })
+here_at : (names : List Name) (name : List ℕ) (at : ℕ) → IsAt names name at → option_map bytes_of (slice_get names at) ≡ Some name
+here_at [] name at is = absurd (omega (arith, is.in_range))
+here_at (x ∷ names) name zero is = ap Some (is.here x)
+here_at (x ∷ names) name (suc at) is = here_at names name at (record { in_range = omega (arith, is.in_range); here = is.here })
 
 -- ---- the consumers as they are seen
 
 -- the set of no names is empty
-pub names-none : (names : List Name) → names ≡ [] → names_of names ≡ map.empty
-names-none names none = ap names_of none ∙ map.same_map name_total name_same _ _ (λ q. names-get [] q tt ∙ sym (map.get-empty name_cmp q))
+pub names_none : (names : List Name) → names ≡ [] → names_of names ≡ map.empty
+names_none names none = ap names_of none ∙ map.same_map name_total name_same _ _ (λ q. names_get [] q tt ∙ sym (map.get-empty name_cmp q))
 
 module _ (names : List Name) (seen : Names) (name : List ℕ) (at : ℕ) (rise : Rise names) (view : names_of names ≡ seen) where
   -- the set has a name that stands at a place
-  pub get-known : IsAt names name at → map.get seen name ≡ Some tt
-  get-known is = ap (λ m. map.get m name) (sym view) ∙ names-get names name rise ∙ found-at names name at is
+  pub get_known : IsAt names name at → map.get seen name ≡ Some tt
+  get_known is = ap (λ m. map.get m name) (sym view) ∙ names_get names name rise ∙ found_at_in_gaps names name at is
 
   -- the set has nothing at a name that has a gap
-  pub get-unknown : IsGap names name at → map.get seen name ≡ None
-  get-unknown is = ap (λ m. map.get m name) (sym view) ∙ names-get names name rise ∙ missed-gap names name at is
+  pub get_unknown : IsGap names name at → map.get seen name ≡ None
+  get_unknown is = ap (λ m. map.get m name) (sym view) ∙ names_get names name rise ∙ missed_gap names name at is
 
   -- A name at a place is a consumer's.
   pub known : IsAt names name at → true ≡ map.contains_key seen name
-  known is = ap is_some (sym (get-known is))
+  known is = ap is_some (sym (get_known is))
 
   -- A name with a gap is no consumer's.
   pub unknown : IsGap names name at → false ≡ map.contains_key seen name
-  unknown is = ap is_some (sym (get-unknown is))
+  unknown is = ap is_some (sym (get_unknown is))
 
   -- The name at a place is the one there by rising bytes.
-  pub key-at : IsAt names name at → slice_get (map.keys seen) at ≡ Some name
-  key-at is = ap (λ m. slice_get (map.keys m) at) (sym view) ∙ ap (λ ks. slice_get ks at) (names-keys names rise) ∙ slice_get-map bytes_of names at ∙ here-at names name at is
+  pub key_at_in_gaps : IsAt names name at → slice_get (map.keys seen) at ≡ Some name
+  key_at_in_gaps is = ap (λ m. slice_get (map.keys m) at) (sym view) ∙ ap (λ ks. slice_get ks at) (names_keys names rise) ∙ slice_get-map bytes_of names at ∙ here_at names name at is
 
   -- the name at each place
-  pub keys-at : (k : ℕ) → slice_get (map.keys seen) k ≡ option_map bytes_of (slice_get names k)
-  keys-at k = ap (λ m. slice_get (map.keys m) k) (sym view) ∙ ap (λ ks. slice_get ks k) (names-keys names rise) ∙ slice_get-map bytes_of names k
+  pub keys_at_in_gaps : (k : ℕ) → slice_get (map.keys seen) k ≡ option_map bytes_of (slice_get names k)
+  keys_at_in_gaps k = ap (λ m. slice_get (map.keys m) k) (sym view) ∙ ap (λ ks. slice_get ks k) (names_keys names rise) ∙ slice_get-map bytes_of names k

@@ -76,41 +76,41 @@ module _ {K X L Y : Type 0} {R : L → L → Ordering} (o : IsTotalOrder R) (key
   seen_sorted (e ∷ es) h = both _ _ (below_seen e.0 es h.0) (seen_sorted es h.1)
 
   -- The entries of the map that is seen.
-  pub entries-seen : (es : List (K × X)) → IsStrictlySortedBy by_key (keys_of es) → entries (seen R key value es) ≡ seen_entries key value es
+  pub entries_seen : (es : List (K × X)) → IsStrictlySortedBy by_key (keys_of es) → entries (seen R key value es) ≡ seen_entries key value es
   unfolding seen
-  entries-seen es h = entries-from_sorted R (seen_entries key value es) (seen_sorted es h)
+  entries_seen es h = entries-from_sorted R (seen_entries key value es) (seen_sorted es h)
 
   -- No entry is seen as no entry.
-  pub seen-empty : (es : List (K × X)) → es ≡ [] → seen R key value es ≡ empty
+  pub seen_empty : (es : List (K × X)) → es ≡ [] → seen R key value es ≡ empty
   unfolding seen
-  seen-empty es none = ap (λ xs. from_sorted {R = R} (seen_entries key value xs)) none ∙ empty_of_len _ (len-entries (from_sorted {R = R} []) ∙ ap length (entries-from_sorted R [] tt))
+  seen_empty es none = ap (λ xs. from_sorted {R = R} (seen_entries key value xs)) none ∙ empty_of_len _ (len-entries (from_sorted {R = R} []) ∙ ap length (entries-from_sorted R [] tt))
 
-  find-seen : (q : L) (es : List (K × X)) → find R q (seen_entries key value es) ≡ option_map value (lookup (λ k. eq_by_cmp R q (key k)) es)
-  find-seen q [] = refl
-  find-seen q (e ∷ es) = elim (eq_by_cmp R q (key e.0)) as
+  find_seen : (q : L) (es : List (K × X)) → find R q (seen_entries key value es) ≡ option_map value (lookup (λ k. eq_by_cmp R q (key k)) es)
+  find_seen q [] = refl
+  find_seen q (e ∷ es) = elim (eq_by_cmp R q (key e.0)) as
       (λ b. cond b (Some (value e.1)) (find R q (seen_entries key value es)) ≡ option_map value (cond b (Some e.1) (lookup (λ k. eq_by_cmp R q (key k)) es)))
-      [ true ↦ refl | false ↦ find-seen q es ]
+      [ true ↦ refl | false ↦ find_seen q es ]
 
   -- What the map that is seen has at a key.
-  pub get-seen : (q : L) (es : List (K × X)) → IsStrictlySortedBy by_key (keys_of es) → get (seen R key value es) q ≡ option_map value (lookup (λ k. eq_by_cmp R q (key k)) es)
+  pub get_seen : (q : L) (es : List (K × X)) → IsStrictlySortedBy by_key (keys_of es) → get (seen R key value es) q ≡ option_map value (lookup (λ k. eq_by_cmp R q (key k)) es)
   unfolding seen
-  get-seen q es h = get-from_sorted R (seen_entries key value es) q (seen_sorted es h) ∙ find-seen q es
+  get_seen q es h = get-from_sorted R (seen_entries key value es) q (seen_sorted es h) ∙ find_seen q es
 
-  put-seen : (k : K) (v : X) (es : List (K × X)) → seen_entries key value (insert_entry by_key es k v) ≡ put R (key k) (value v) (seen_entries key value es)
-  put-seen k v [] = refl
-  put-seen k v (e ∷ es) = elim (R (key k) (key e.0)) as
+  put_seen : (k : K) (v : X) (es : List (K × X)) → seen_entries key value (insert_entry by_key es k v) ≡ put R (key k) (value v) (seen_entries key value es)
+  put_seen k v [] = refl
+  put_seen k v (e ∷ es) = elim (R (key k) (key e.0)) as
       (λ r. seen_entries key value (match_ordering r ((k, v) ∷ e ∷ es) ((e.0, v) ∷ es) (e ∷ insert_entry by_key es k v)) ≡ by_order r ((key k, value v) ∷ seen_entries key value (e ∷ es))
       ((key e.0, value v) ∷ seen_entries key value es) ((key e.0, value e.1) ∷ put R (key k) (value v) (seen_entries key value es))) [
         | Less ↦ refl
         | Equal ↦ refl
-        | Greater ↦ ap (λ xs. (key e.0, value e.1) ∷ xs) (put-seen k v es)
+        | Greater ↦ ap (λ xs. (key e.0, value e.1) ∷ xs) (put_seen k v es)
       ]
 
   -- To insert is to insert into the map that is seen.
-  pub seen-insert : (k : K) (v : X) (es new : List (K × X)) → IsStrictlySortedBy by_key (keys_of es) → IsStrictlySortedBy by_key (keys_of new) → new ≡ insert_entry by_key es k v
+  pub seen_insert : (k : K) (v : X) (es new : List (K × X)) → IsStrictlySortedBy by_key (keys_of es) → IsStrictlySortedBy by_key (keys_of new) → new ≡ insert_entry by_key es k v
       → seen R key value new ≡ insert (seen R key value es) (key k) (value v)
-  seen-insert k v es new h after is = same_entries_map _ _
-      (entries-seen new after ∙ ap (seen_entries key value) is ∙ put-seen k v es ∙ ap (put R (key k) (value v)) (sym (entries-seen es h))
+  seen_insert k v es new h after is = same_entries_map _ _
+      (entries_seen new after ∙ ap (seen_entries key value) is ∙ put_seen k v es ∙ ap (put R (key k) (value v)) (sym (entries_seen es h))
       ∙ sym (entries-insert o (seen R key value es) (key k) (value v)))
 
   -- whether the key of an entry is the one asked for
@@ -138,17 +138,17 @@ module _ {K X L Y : Type 0} {R : L → L → Ordering} (o : IsTotalOrder R) (key
   ]
 
   -- To write a value in its place is to insert into the map that is seen.
-  pub seen-set : (q : L) (w : X) (es new : List (K × X)) → IsAntisymmetric R → IsStrictlySortedBy by_key (keys_of es) → IsStrictlySortedBy by_key (keys_of new) → IsSome (lookup (at q) es)
+  pub seen_set : (q : L) (w : X) (es new : List (K × X)) → IsAntisymmetric R → IsStrictlySortedBy by_key (keys_of es) → IsStrictlySortedBy by_key (keys_of new) → IsSome (lookup (at q) es)
       → new ≡ set_value (at q) es w → seen R key value new ≡ insert (seen R key value es) q (value w)
   unfolding seen
-  seen-set q w es new same h after there is = same_map o same _ _
+  seen_set q w es new same h after there is = same_map o same _ _
       (λ p. get-from_sorted R (seen_entries key value new) p (seen_sorted new after) ∙ ap (λ xs. find R p (seen_entries key value xs)) is ∙ find-set q p w es there
       ∙ ap (cond (eq_by_cmp R p q) (Some (value w))) (sym (get-from_sorted R (seen_entries key value es) p (seen_sorted es h))) ∙ sym (get-insert o (seen R key value es) q (value w) p))
 
-  find-removed : (q p : L) (es : List (K × X)) → T (is_sorted R (seen_entries key value es))
+  find_removed_in_maps : (q p : L) (es : List (K × X)) → T (is_sorted R (seen_entries key value es))
       → find R p (seen_entries key value (remove_entry (at q) es)) ≡ cond (eq_by_cmp R p q) None (find R p (seen_entries key value es))
-  find-removed q p [] h = elim (eq_by_cmp R p q) as (λ b. ◌≡◌ {A = Option Y} None (cond b None None)) [ true ↦ refl | false ↦ refl ]
-  find-removed q p (e ∷ es) h = elim (cases_Bool (at q e.0)) [
+  find_removed_in_maps q p [] h = elim (eq_by_cmp R p q) as (λ b. ◌≡◌ {A = Option Y} None (cond b None None)) [ true ↦ refl | false ↦ refl ]
+  find_removed_in_maps q p (e ∷ es) h = elim (cases_Bool (at q e.0)) [
     | inl t ↦ ap (λ b. find R p (seen_entries key value (cond b es (e ∷ remove_entry (at q) es)))) t
         ∙ ap (λ b. find R p (seen_entries key value es)) t
         ∙ elim (cases_Bool (eq_by_cmp R p q)) [
@@ -156,14 +156,14 @@ module _ {K X L Y : Type 0} {R : L → L → Ordering} (o : IsTotalOrder R) (key
           | inr f ↦ sym (cond-false _ _ _ (ap is_eq (sym (alike_right o q (key e.0) p (equal _ t))) ∙ f)) ∙ sym (cond-false _ _ _ f)
         ]
     | inr f ↦ ap (λ b. find R p (seen_entries key value (cond b es (e ∷ remove_entry (at q) es)))) f
-        ∙ ap (λ x. cond (eq_by_cmp R p (key e.0)) (Some (value e.1)) x) (find-removed q p es (second _ _ h))
+        ∙ ap (λ x. cond (eq_by_cmp R p (key e.0)) (Some (value e.1)) x) (find_removed_in_maps q p es (second _ _ h))
         ∙ swapped (eq_by_cmp R p (key e.0)) (eq_by_cmp R p q) _ _ _ (apart p q (key e.0) f)
   ]
 
   -- To remove is to remove from the map that is seen.
-  pub seen-remove : (q : L) (es new : List (K × X)) → IsAntisymmetric R → IsStrictlySortedBy by_key (keys_of es) → IsStrictlySortedBy by_key (keys_of new) → new ≡ remove_entry (at q) es
+  pub seen_remove : (q : L) (es new : List (K × X)) → IsAntisymmetric R → IsStrictlySortedBy by_key (keys_of es) → IsStrictlySortedBy by_key (keys_of new) → new ≡ remove_entry (at q) es
       → seen R key value new ≡ remove (seen R key value es) q
   unfolding seen
-  seen-remove q es new same h after is = same_map o same _ _
-      (λ p. get-from_sorted R (seen_entries key value new) p (seen_sorted new after) ∙ ap (λ xs. find R p (seen_entries key value xs)) is ∙ find-removed q p es (seen_sorted es h)
+  seen_remove q es new same h after is = same_map o same _ _
+      (λ p. get-from_sorted R (seen_entries key value new) p (seen_sorted new after) ∙ ap (λ xs. find R p (seen_entries key value xs)) is ∙ find_removed_in_maps q p es (seen_sorted es h)
       ∙ ap (cond (eq_by_cmp R p q) None) (sym (get-from_sorted R (seen_entries key value es) p (seen_sorted es h))) ∙ sym (get-remove o (seen R key value es) q p))

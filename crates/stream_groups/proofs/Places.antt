@@ -10,14 +10,14 @@ use Rattle.std.proofs.lemmas.Map.Iter.{rest_so_far}
 use Rattle.std.specs.FinMap as map
 use Rattle.stream_groups.specs.Groups.{Group, Groups}
 use Rattle.stream_groups.specs.Kept.{Name, named, NamesRise}
-use Rattle.stream_groups.proofs.Uses.{named-entries}
+use Rattle.stream_groups.proofs.Uses.{named_entries}
 
 -- What stands behind a number of items.
-pub place-behind : {A : Type 0} (xs : List A) (x : A) (rest : List A) (n : ℕ) → length xs ≡ n → slice_get (xs ++ x ∷ rest) n ≡ Some x
-place-behind [] x rest zero is = refl
-place-behind [] x rest (suc n) is = absurd (omega arith)
-place-behind (y ∷ xs) x rest zero is = absurd (omega arith)
-place-behind (y ∷ xs) x rest (suc n) is = place-behind xs x rest n (omega arith)
+pub place_behind_in_places : {A : Type 0} (xs : List A) (x : A) (rest : List A) (n : ℕ) → length xs ≡ n → slice_get (xs ++ x ∷ rest) n ≡ Some x
+place_behind_in_places [] x rest zero is = refl
+place_behind_in_places [] x rest (suc n) is = absurd (omega arith)
+place_behind_in_places (y ∷ xs) x rest zero is = absurd (omega arith)
+place_behind_in_places (y ∷ xs) x rest (suc n) is = place_behind_in_places xs x rest n (omega arith)
 
 -- a place past what was passed over
 place-past : {A : Type 0} (xs all : List A) (n : ℕ) → all ≡ xs ++ [] → length xs ≤ n → slice_get all n ≡ None
@@ -25,40 +25,40 @@ place-past xs all n is past = slice_get_past all n (omega (arith, ap length (is 
 
 module _ {K X : Type 0} where
   -- the n-th item of an iterator over all entries, which wasn't there
-  pub nth-none : (all : List (K × X)) (s u : List (K × X)) (n : ℕ) → s ≡ all → SkipsThenYields (TakesFirst deref_pair) s n None u → slice_get all n ≡ None
-  nth-none all s u n start ran =
+  pub nth_none : (all : List (K × X)) (s u : List (K × X)) (n : ℕ) → s ≡ all → SkipsThenYields (TakesFirst deref_pair) s n None u → slice_get all n ≡ None
+  nth_none all s u n start ran =
       place-past (list_map deref_pair ran.0) all n (sym start ∙ rest_so_far deref_pair ran.0 s ran.1.0 ran.1.1 ∙ ap (λ t. list_map deref_pair ran.0 ++ t) ran.1.2.0)
       (omega (arith, ran.2, length-map ran.0 deref_pair))
 
   -- the n-th item of an iterator over all entries
-  pub nth-some : (all : List (K × X)) (s u : List (K × X)) (n : ℕ) (x : Bor K × Bor X) → s ≡ all → SkipsThenYields (TakesFirst deref_pair) s n (Some x) u → slice_get all n ≡ Some (x.0.now, x.1.now)
-  nth-some all s u n x start ran =
+  pub nth_some : (all : List (K × X)) (s u : List (K × X)) (n : ℕ) (x : Bor K × Bor X) → s ≡ all → SkipsThenYields (TakesFirst deref_pair) s n (Some x) u → slice_get all n ≡ Some (x.0.now, x.1.now)
+  nth_some all s u n x start ran =
       ap (λ xs. slice_get xs n) (sym start ∙ rest_so_far deref_pair ran.0 s ran.1.0 ran.1.1 ∙ ap (λ t. list_map deref_pair ran.0 ++ t) ran.1.2)
-      ∙ place-behind (list_map deref_pair ran.0) (x.0.now, x.1.now) u n (length-map ran.0 deref_pair ∙ ran.2)
+      ∙ place_behind_in_places (list_map deref_pair ran.0) (x.0.now, x.1.now) u n (length-map ran.0 deref_pair ∙ ran.2)
 
 module _ (es : List (Name × Group)) (groups : Groups) (rising : NamesRise es) (view : named (λ g. g) es ≡ groups) where
   seen : Name × Group → List ℕ × Group
   seen e = (e.0.items, e.1)
 
-  named-values : (xs : List (Name × Group)) → list_map (λ (e : List ℕ × Group). e.1) (list_map (λ (e : Name × Group). (e.0.items, e.1)) xs) ≡ list_map (λ (e : Name × Group). e.1) xs
-  named-values [] = refl
-  named-values (x ∷ xs) = ap (λ ys. x.1 ∷ ys) (named-values xs)
+  named_values : (xs : List (Name × Group)) → list_map (λ (e : List ℕ × Group). e.1) (list_map (λ (e : Name × Group). (e.0.items, e.1)) xs) ≡ list_map (λ (e : Name × Group). e.1) xs
+  named_values [] = refl
+  named_values (x ∷ xs) = ap (λ ys. x.1 ∷ ys) (named_values xs)
 
-  named-keys : (xs : List (Name × Group)) → list_map (λ (e : List ℕ × Group). e.0) (list_map (λ (e : Name × Group). (e.0.items, e.1)) xs) ≡ list_map (λ (e : Name × Group). e.0.items) xs
-  named-keys [] = refl
-  named-keys (x ∷ xs) = ap (λ ys. x.0.items ∷ ys) (named-keys xs)
+  named_keys : (xs : List (Name × Group)) → list_map (λ (e : List ℕ × Group). e.0) (list_map (λ (e : Name × Group). (e.0.items, e.1)) xs) ≡ list_map (λ (e : Name × Group). e.0.items) xs
+  named_keys [] = refl
+  named_keys (x ∷ xs) = ap (λ ys. x.0.items ∷ ys) (named_keys xs)
 
   -- The group at a place.
-  pub value-at : (k : ℕ) → slice_get (map.values groups) k ≡ option_map (λ (e : Name × Group). e.1) (slice_get es k)
-  value-at k = ap (λ m. slice_get (map.values m) k) (sym view) ∙ ap (λ xs. slice_get (list_map (λ (e : List ℕ × Group). e.1) xs) k) (named-entries (λ (g : Group). g) es rising)
-      ∙ ap (λ xs. slice_get xs k) (named-values es) ∙ slice_get-map (λ (e : Name × Group). e.1) es k
+  pub value_at_in_places : (k : ℕ) → slice_get (map.values groups) k ≡ option_map (λ (e : Name × Group). e.1) (slice_get es k)
+  value_at_in_places k = ap (λ m. slice_get (map.values m) k) (sym view) ∙ ap (λ xs. slice_get (list_map (λ (e : List ℕ × Group). e.1) xs) k) (named_entries (λ (g : Group). g) es rising)
+      ∙ ap (λ xs. slice_get xs k) (named_values es) ∙ slice_get-map (λ (e : Name × Group). e.1) es k
 
   -- The name at a place.
-  pub name-at : (k : ℕ) → slice_get (map.keys groups) k ≡ option_map (λ (e : Name × Group). e.0.items) (slice_get es k)
-  name-at k = ap (λ m. slice_get (map.keys m) k) (sym view) ∙ ap (λ xs. slice_get (list_map (λ (e : List ℕ × Group). e.0) xs) k) (named-entries (λ (g : Group). g) es rising)
-      ∙ ap (λ xs. slice_get xs k) (named-keys es) ∙ slice_get-map (λ (e : Name × Group). e.0.items) es k
+  pub name_at_in_places : (k : ℕ) → slice_get (map.keys groups) k ≡ option_map (λ (e : Name × Group). e.0.items) (slice_get es k)
+  name_at_in_places k = ap (λ m. slice_get (map.keys m) k) (sym view) ∙ ap (λ xs. slice_get (list_map (λ (e : List ℕ × Group). e.0) xs) k) (named_entries (λ (g : Group). g) es rising)
+      ∙ ap (λ xs. slice_get xs k) (named_keys es) ∙ slice_get-map (λ (e : Name × Group). e.0.items) es k
 
   -- How many groups there are.
-  pub groups-len : length es ≡ map.len groups
-  groups-len = sym (length-map es (λ (e : Name × Group). (e.0.items, e.1))) ∙ ap length (sym (named-entries (λ (g : Group). g) es rising))
+  pub groups_len : length es ≡ map.len groups
+  groups_len = sym (length-map es (λ (e : Name × Group). (e.0.items, e.1))) ∙ ap length (sym (named_entries (λ (g : Group). g) es rising))
       ∙ sym (map.len-entries (named (λ (g : Group). g) es)) ∙ ap map.len view

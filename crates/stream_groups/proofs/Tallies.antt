@@ -14,19 +14,19 @@ use Rattle.stream_groups.specs.Groups.{Id, Pending, name_cmp, is_of, some_if_any
 use Rattle.stream_groups.specs.Kept.{Name, named, NamesRise}
 use Rattle.stream_groups.proofs.Maps.{equal}
 use Rattle.stream_groups.proofs.Orders.{name_total, name_same}
-use Rattle.stream_groups.proofs.Uses.{is_named, named-get}
+use Rattle.stream_groups.proofs.Uses.{is_named, named_get}
 
 -- What is found of a name is its number.
-pub count-found : (es : List (Name × ℕ)) (counts : FinMap name_cmp ℕ) (q : List ℕ) → NamesRise es → named (λ n. n) es ≡ counts → lookup (is_named q) es ≡ map.get counts q
-count-found es counts q rising view = sym (option_map_id _) ∙ sym (named-get (λ (n : ℕ). n) es rising q) ∙ ap (λ m. map.get m q) view
+pub count_found_in_tallies : (es : List (Name × ℕ)) (counts : FinMap name_cmp ℕ) (q : List ℕ) → NamesRise es → named (λ n. n) es ≡ counts → lookup (is_named q) es ≡ map.get counts q
+count_found_in_tallies es counts q rising view = sym (option_map_id _) ∙ sym (named_get (λ (n : ℕ). n) es rising q) ∙ ap (λ m. map.get m q) view
 
-pub none-where : {A : Type 0} (o : Option A) → is_some o ≡ false → o ≡ None
-none-where None h = refl
-none-where (Some x) h = absurd (true≢false h)
+pub none_where : {A : Type 0} (o : Option A) → is_some o ≡ false → o ≡ None
+none_where None h = refl
+none_where (Some x) h = absurd (true≢false h)
 
-some-any : (n : ℕ) → 0 < n → Some n ≡ some_if_any n
-some-any zero h = absurd (omega arith)
-some-any (suc n) h = sym (cond-false _ _ _ (eqb-suc-zero n))
+some_any : (n : ℕ) → 0 < n → Some n ≡ some_if_any n
+some_any zero h = absurd (omega arith)
+some_any (suc n) h = sym (cond-false _ _ _ (eqb-suc-zero n))
 
 -- the number at a name, or 0
 abbrev pub number : FinMap name_cmp ℕ → List ℕ → ℕ
@@ -46,16 +46,16 @@ pub record IsTallying (counts : FinMap name_cmp ℕ) (rest all : List (Id × Pen
   pub some : (q : List ℕ) → map.get counts q ≡ some_if_any (number counts q)
 
 -- Nothing was counted at first.
-pub tally-init : (counts : FinMap name_cmp ℕ) (all : List (Id × Pending)) → counts ≡ map.empty → IsTallying counts all all
-tally-init counts all none = record {
+pub tally_init : (counts : FinMap name_cmp ℕ) (all : List (Id × Pending)) → counts ≡ map.empty → IsTallying counts all all
+tally_init counts all none = record {
   sums = λ q. ap (λ m. number m q + count_by (is_of q) all) none ∙ ap (λ o. unwrap_or o 0 + count_by (is_of q) all) (map.get-empty name_cmp q) ∙ omega arith;
   some = λ q. ap (λ m. map.get m q) none ∙ map.get-empty name_cmp q ∙ ap (λ o. some_if_any (unwrap_or o 0)) (sym (map.get-empty name_cmp q)) ∙ ap (λ m. some_if_any (number m q)) (sym none);
 }
 
 -- One more was counted.
-pub tally-step : (counts new : FinMap name_cmp ℕ) (e : Id × Pending) (rest all : List (Id × Pending)) → length all < 2 ^ 63 → IsTallying counts (e ∷ rest) all
+pub tally_step : (counts new : FinMap name_cmp ℕ) (e : Id × Pending) (rest all : List (Id × Pending)) → length all < 2 ^ 63 → IsTallying counts (e ∷ rest) all
     → new ≡ map.insert counts e.1.consumer (one_more (map.get counts e.1.consumer)) → IsTallying new rest all
-tally-step counts new e rest all small t is = record { sums = λ q. (at q).0; some = λ q. (at q).1 }
+tally_step counts new e rest all small t is = record { sums = λ q. (at q).0; some = λ q. (at q).1 }
   where
     name : List ℕ
     name = e.1.consumer
@@ -74,7 +74,7 @@ tally-step counts new e rest all small t is = record { sums = λ q. (at q).0; so
           let bound : count_by (is_of q) all < 2 ^ 63 = omega (arith, count_by-le-length (is_of q) all) in
           let both : (one_more (map.get counts q) + count_by (is_of q) rest ≡ count_by (is_of q) all)
           × (0 < one_more (map.get counts q)) = more (map.get counts q) (count_by (is_of q) rest) (count_by (is_of q) all) whole bound in
-          (ap (λ o. unwrap_or o 0 + count_by (is_of q) rest) get ∙ both.0, get ∙ some-any (one_more (map.get counts q)) both.1 ∙ ap (λ o. some_if_any (unwrap_or o 0)) (sym get)))
+          (ap (λ o. unwrap_or o 0 + count_by (is_of q) rest) get ∙ both.0, get ∙ some_any (one_more (map.get counts q)) both.1 ∙ ap (λ o. some_if_any (unwrap_or o 0)) (sym get)))
       | inr other ↦
           (let get : map.get new q ≡ map.get counts q = got q ∙ cond-false _ _ _ other in
           let miss : is_of q e ≡ false = (eq_by_cmp_equiv name_total).symm e.1.consumer q ∙ other in

@@ -6,7 +6,7 @@ use Rattle.std.proofs.lemmas.List.Concat.{flat_map-append}
 use Rattle.listpack.specs.Entry.{entry_of}
 use Rattle.listpack.specs.Pack.{IsPack, entries, spellings_of, texts}
 use Rattle.listpack.specs.Writing.{spelling}
-use Rattle.listpack.proofs.Offsets.{length-texts}
+use Rattle.listpack.proofs.Offsets.{length_texts}
 use Rattle.stream_node.specs.declared.id.Id.{Id}
 use Rattle.stream_node.specs.Entry.{Pair, Stored, number, fields_of, body, size, HasFields}
 use Rattle.stream_node.specs.Node.{IsAfter, LacksHead, last_id, Node}
@@ -17,7 +17,7 @@ use Rattle.stream_node.proofs.Lists.{Texts}
 use Rattle.stream_node.proofs.ReadBack.{read_head, reads_node, is_node}
 use Rattle.stream_node.proofs.FieldsAt.{same_yes}
 use Rattle.stream_node.proofs.Marches.{last_push}
-use Rattle.stream_node.proofs.Written.{written, written-append, length-pack, few_written, length-values, length-own}
+use Rattle.stream_node.proofs.Written.{written, written_append, length_pack, few_written, length-values, length_own}
 use Rattle.stream_node.proofs.Grown.{first_node, more_node}
 
 -- a number of bytes that is less where less is written
@@ -31,7 +31,7 @@ written_end ss elements =
 pub behind_room : (old mid : List ℕ) (first : List ℕ) (elements : Texts) → Replaces old mid 0 first
     → pack_len (slice_set (spellings_of old) 0 (spelling first) ++ map spelling elements) < 2 ^ 32 → HasRoom mid elements
 behind_room old mid first elements r room =
-    omega (arith, room, written_end (slice_set (spellings_of old) 0 (spelling first)) elements, length-pack mid r.pack, ap (λ (x : Texts). length (entries x)) r.spelled)
+    omega (arith, room, written_end (slice_set (spellings_of old) 0 (spelling first)) elements, length_pack mid r.pack, ap (λ (x : Texts). length (entries x)) r.spelled)
 
 pub behind_first : (ss elements : Texts) → pack_len (ss ++ map spelling elements) < 2 ^ 32 → pack_len ss < 2 ^ 32
 behind_first ss elements room = omega (arith, room, written_end ss elements)
@@ -48,7 +48,7 @@ pub pairs_few : (key id : Id) (same : Bool) (pairs : List Pair) → written (ent
 pairs_few key id true pairs h =
     omega (arith, h, few_written (entry_texts key id true pairs) h, length-append (body true pairs) (number (size (body true pairs)) ∷ []), length-values pairs)
 pairs_few key id false pairs h =
-    omega (arith, h, few_written (entry_texts key id false pairs) h, length-append (body false pairs) (number (size (body false pairs)) ∷ []), length-own pairs)
+    omega (arith, h, few_written (entry_texts key id false pairs) h, length-append (body false pairs) (number (size (body false pairs)) ∷ []), length_own pairs)
 
 -- where there is an element
 added_behind : (key id : Id) (list : Texts) (pairs : List Pair) → 0 < length list → added key list id pairs ≡ entry_texts key id (same_texts (fields_of pairs) (fields_in list)) pairs
@@ -133,7 +133,7 @@ no_spellings [] e = refl
 no_spellings (s ∷ ss) e = absurd (omega arith)
 
 pub none_spelled : (old : List ℕ) → texts old ≡ [] → spellings_of old ≡ []
-none_spelled old none = no_spellings (spellings_of old) (omega (arith, length-texts old, ap length none))
+none_spelled old none = no_spellings (spellings_of old) (omega (arith, length_texts old, ap length none))
 
 pub first_is : (key id : Id) (old : List ℕ) (pairs : List Pair) → texts old ≡ [] → appended key old id pairs ≡ map spelling (head_texts pairs ++ entry_texts key id true pairs)
 first_is key id old pairs none =
@@ -143,7 +143,7 @@ first_is key id old pairs none =
 pub first_room : (key id : Id) (old : List ℕ) (pairs : List Pair) → IsPack old → texts old ≡ [] → pack_len (appended key old id pairs) < 2 ^ 32
     → HasRoom old (head_texts pairs ++ entry_texts key id true pairs)
 first_room key id old pairs pack none room =
-    omega (arith, room, ap pack_len (first_is key id old pairs none), length-pack old pack, ap (λ (x : Texts). length (entries x)) (none_spelled old none))
+    omega (arith, room, ap pack_len (first_is key id old pairs none), length_pack old pack, ap (λ (x : Texts). length (entries x)) (none_spelled old none))
 
 pub appended_first : (key id : Id) (old new : List ℕ) (pairs : List Pair) → AreIds key id → texts old ≡ [] → 0 < length pairs → pack_len (appended key old id pairs) < 2 ^ 32
     → Extends old new (head_texts pairs ++ entry_texts key id true pairs) → IsAppended key old new id pairs
@@ -151,7 +151,7 @@ appended_first key id old new pairs ids none some room e =
     let all = head_texts pairs ++ entry_texts key id true pairs in
     let is = first_is key id old pairs none in
     let list : texts new ≡ all = e.list ∙ ap (λ (x : Texts). x ++ all) none in
-    let few : length pairs < 2 ^ 32 = pairs_few key id true pairs (omega (arith, room, ap pack_len is, written-append (head_texts pairs) (entry_texts key id true pairs))) in
+    let few : length pairs < 2 ^ 32 = pairs_few key id true pairs (omega (arith, room, ap pack_len is, written_append (head_texts pairs) (entry_texts key id true pairs))) in
     let made = first_node key id pairs ids.id_ms ids.id_seq ids.key_ms ids.key_seq some (omega (arith, few)) in
     let n = subst (λ (x : Texts). Node key x (record { id = id; deleted = false; pairs = pairs } ∷ [])) (sym list) made in
     record {

@@ -7,7 +7,7 @@ use Rattle.stream_node.specs.Entry.{Pair, number, body, size, IsBody}
 use Rattle.stream_node.specs.Pairs.{alternating}
 use Rattle.stream_node.specs.Reading.{LacksBody}
 use Rattle.stream_node.proofs.Lists.{Texts, first, behind}
-use Rattle.stream_node.proofs.Same.{same_number, values_of, flat, length-flat}
+use Rattle.stream_node.proofs.Same.{same_number, values_of, flat, length_flat_in_same}
 use Rattle.stream_node.proofs.Heads.{NoCount, NotThis}
 
 -- as many values as the node has fields
@@ -59,41 +59,41 @@ lacks_some_pair master list a n fits e is_zero pairs rest b =
 pub lacks_pairs : (master list a : Texts) (n : ℕ) → n < 2 ^ 63 → list ≡ number n ∷ a → length a < 2 * n → LacksBody false master list
 lacks_pairs master list a n fits e few pairs rest b =
     let s = behind_len master list a n pairs rest fits e b in
-    omega (arith, s.0, few, ap length s.1, length-append (flat pairs) (number (size (body false pairs)) ∷ rest), length-flat pairs)
+    omega (arith, s.0, few, ap length s.1, length-append (flat pairs) (number (size (body false pairs)) ∷ rest), length_flat_in_same pairs)
 
 pub lacks_pairs_end : (master list a end : Texts) (n : ℕ) → n < 2 ^ 63 → list ≡ number n ∷ a → end ≡ drop (2 * n) a → NotThis (2 * n + 4) end → LacksBody false master list
 lacks_pairs_end master list a end n fits e f none pairs rest b =
     let s = behind_len master list a n pairs rest fits e b in
-    let many : length (flat pairs) ≡ 2 * n = omega (arith, s.0, length-flat pairs) in
+    let many : length (flat pairs) ≡ 2 * n = omega (arith, s.0, length_flat_in_same pairs) in
     let long : size (body false pairs) ≡ 2 * n + 4 = omega (arith, many) in
     none rest (f ∙ ap (drop (2 * n)) s.1 ∙ drop_at (flat pairs) (number (size (body false pairs)) ∷ rest) (2 * n) many ∙ ap (λ (k : ℕ). number k ∷ rest) long)
 
-pub length-alternating : (n : ℕ) (list : Texts) → 2 * n ≤ length list → length (alternating n list) ≡ n
+pub length_alternating : (n : ℕ) (list : Texts) → 2 * n ≤ length list → length (alternating n list) ≡ n
 unfolding alternating
-length-alternating zero list enough = refl
-length-alternating (suc n) [] enough = absurd (omega arith)
-length-alternating (suc n) (f ∷ []) enough = absurd (omega arith)
-length-alternating (suc n) (f ∷ (v ∷ list)) enough = omega (arith, length-alternating n list (omega (arith, enough)))
+length_alternating zero list enough = refl
+length_alternating (suc n) [] enough = absurd (omega arith)
+length_alternating (suc n) (f ∷ []) enough = absurd (omega arith)
+length_alternating (suc n) (f ∷ (v ∷ list)) enough = omega (arith, length_alternating n list (omega (arith, enough)))
 
-flat-alternating : (n : ℕ) (list : Texts) → 2 * n ≤ length list → flat (alternating n list) ++ drop (2 * n) list ≡ list
+flat_alternating : (n : ℕ) (list : Texts) → 2 * n ≤ length list → flat (alternating n list) ++ drop (2 * n) list ≡ list
 unfolding alternating
-flat-alternating zero list enough = refl
-flat-alternating (suc n) [] enough = absurd (omega arith)
-flat-alternating (suc n) (f ∷ []) enough = absurd (omega arith)
-flat-alternating (suc n) (f ∷ (v ∷ list)) enough =
+flat_alternating zero list enough = refl
+flat_alternating (suc n) [] enough = absurd (omega arith)
+flat_alternating (suc n) (f ∷ []) enough = absurd (omega arith)
+flat_alternating (suc n) (f ∷ (v ∷ list)) enough =
     let twice : 2 * suc n ≡ suc (suc (2 * n)) = omega arith in
-    ap (λ (k : ℕ). (f ∷ v ∷ flat (alternating n list)) ++ drop k (f ∷ v ∷ list)) twice ∙ ap (λ (x : Texts). f ∷ v ∷ x) (flat-alternating n list (omega (arith, enough)))
+    ap (λ (k : ℕ). (f ∷ v ∷ flat (alternating n list)) ++ drop k (f ∷ v ∷ list)) twice ∙ ap (λ (x : Texts). f ∷ v ∷ x) (flat_alternating n list (omega (arith, enough)))
 
 pub is_pairs : (master list a end rest : Texts) (n : ℕ) → n < 2 ^ 63 → 0 < n → list ≡ number n ∷ a → 2 * n ≤ length a → end ≡ drop (2 * n) a → end ≡ number (2 * n + 4) ∷ rest
     → IsBody false master list (alternating n a) rest
 is_pairs master list a end rest n fits some e enough f g =
-    let many = length-alternating n a enough in
-    let long : 2 * n + 4 ≡ size (body false (alternating n a)) = omega (arith, many, length-flat (alternating n a)) in
+    let many = length_alternating n a enough in
+    let long : 2 * n + 4 ≡ size (body false (alternating n a)) = omega (arith, many, length_flat_in_same (alternating n a)) in
     record {
       fields = (omega (arith, many, some), omega (arith, many, fits));
       elements =
           e
           ∙ ap (λ (k : ℕ). number k ∷ a) (sym many)
-          ∙ ap (λ (x : Texts). number (length (alternating n a)) ∷ x) (sym (flat-alternating n a enough) ∙ ap (λ (x : Texts). flat (alternating n a) ++ x) (sym f ∙ g))
+          ∙ ap (λ (x : Texts). number (length (alternating n a)) ∷ x) (sym (flat_alternating n a enough) ∙ ap (λ (x : Texts). flat (alternating n a) ++ x) (sym f ∙ g))
           ∙ ap (λ (k : ℕ). number (length (alternating n a)) ∷ (flat (alternating n a) ++ number k ∷ rest)) long;
     }

@@ -8,10 +8,10 @@ use Rattle.listpack.specs.Entry.{entry_of}
 use Rattle.listpack.specs.Pack.{IsPack, entries, spellings_of, texts}
 use Rattle.listpack.specs.Writing.{spelling, entry}
 use Rattle.listpack.specs.Edits.{IsEdited}
-use Rattle.listpack.proofs.Offsets.{length-texts}
+use Rattle.listpack.proofs.Offsets.{length_texts}
 use Rattle.stream_node.specs.Appended.{pack_len}
 use Rattle.stream_node.proofs.Lists.{Texts}
-use Rattle.stream_node.proofs.Written.{length-pack}
+use Rattle.stream_node.proofs.Written.{length_pack}
 
 -- how many bytes it takes to put an entry in the place of another
 pub exchanged_len : (ss : Texts) (i : ℕ) (s : List ℕ) → i < length ss → length (entries (slice_set ss i s)) ≡ length (entries (remove ss i)) + length (entry_of s)
@@ -32,8 +32,8 @@ first_room old without text due count p some gone same room =
     omega (
       arith,
       room,
-      length-pack without gone.pack,
+      length_pack without gone.pack,
       ap (λ (x : Texts). length (entries x)) gone.entries,
-      exchanged_len (spellings_of old) 0 (spelling due) (omega (arith, some, length-texts old)),
+      exchanged_len (spellings_of old) 0 (spelling due) (omega (arith, some, length_texts old)),
       ap (λ (x : List ℕ). length (entry x)) same,
     )

@@ -11,7 +11,7 @@ use Rattle.listpack.specs.Edits.{IsEdited}
 use Rattle.stream_node.specs.Appended.{pack_len}
 use Rattle.stream_node.specs.Marked.{exchanged, Inserts, Exchanges}
 use Rattle.stream_node.proofs.Lists.{Texts}
-use Rattle.stream_node.proofs.Written.{length-pack}
+use Rattle.stream_node.proofs.Written.{length_pack}
 
 abbrev pub without : Texts → ℕ → Texts
 without list at = remove_range (remove list at) 0 2
@@ -71,12 +71,12 @@ final old at a b f p two inside room =
       insert_len (insert (insert w 0 (spelling a)) 1 (spelling b)) at (spelling f),
     )
 
-pub length-none : (old none : List ℕ) (at : ℕ) → Steps old none at → length none ≡ 7 + length (entries (without (spellings_of old) at))
-length-none old none at s = omega (arith, length-pack none s.pack, ap (λ (x : Texts). length (entries x)) s.spelled)
+pub length_none : (old none : List ℕ) (at : ℕ) → Steps old none at → length none ≡ 7 + length (entries (without (spellings_of old) at))
+length_none old none at s = omega (arith, length_pack none s.pack, ap (λ (x : Texts). length (entries x)) s.spelled)
 
-pub length-inserted : (old new text : List ℕ) (i : ℕ) → IsPack old → Inserts old new i text → length new ≡ length old + length (entry text)
-length-inserted old new text i p e =
-    omega (arith, length-pack old p, length-pack new e.pack, ap (λ (x : Texts). length (entries x)) e.spelled, insert_len (spellings_of old) i (spelling text))
+pub length_inserted : (old new text : List ℕ) (i : ℕ) → IsPack old → Inserts old new i text → length new ≡ length old + length (entry text)
+length_inserted old new text i p e =
+    omega (arith, length_pack old p, length_pack new e.pack, ap (λ (x : Texts). length (entries x)) e.spelled, insert_len (spellings_of old) i (spelling text))
 
 -- how many elements there are before the last step
 pub many_left : (old none one two : List ℕ) (at : ℕ) (a b : List ℕ) → 2 ≤ at → at < length (texts old) → Steps old none at → Inserts none one 0 a → Inserts one two 1 b → at ≤ length (texts two)

@@ -13,36 +13,36 @@ use Rattle.stream_node.specs.declared.id.Id.{Id}
 use Rattle.stream_node.specs.Entry.{IsBelow}
 use Rattle.stream_node.specs.Ids.{IsId, id_number, id_key, key_id, IdLaws}
 
-pub cmp-less : (x y : ℕ) → x < y → nat_cmp x y ≡ Less
-cmp-less x y h = cond-true _ _ _ (lt-ltb x y h)
+pub cmp_less : (x y : ℕ) → x < y → nat_cmp x y ≡ Less
+cmp_less x y h = cond-true _ _ _ (lt-ltb x y h)
 
-pub cmp-equal : (x y : ℕ) → x ≡ y → nat_cmp x y ≡ Equal
-cmp-equal x y h = cond-false _ _ _ (le-ltb x y (omega arith)) ∙ cond-true _ _ _ (eq-eqb x y h)
+pub cmp_equal : (x y : ℕ) → x ≡ y → nat_cmp x y ≡ Equal
+cmp_equal x y h = cond-false _ _ _ (le-ltb x y (omega arith)) ∙ cond-true _ _ _ (eq-eqb x y h)
 
-pub cmp-greater : (x y : ℕ) → y < x → nat_cmp x y ≡ Greater
-cmp-greater x y h = cond-false _ _ _ (le-ltb x y (omega arith)) ∙ cond-false _ _ _ (ne_eqb x y (λ e. omega arith))
+pub cmp_greater : (x y : ℕ) → y < x → nat_cmp x y ≡ Greater
+cmp_greater x y h = cond-false _ _ _ (le-ltb x y (omega arith)) ∙ cond-false _ _ _ (ne_eqb x y (λ e. omega arith))
 
 -- where the first parts of two numbers differ they decide, else the second parts do
 pub parts_cmp : (x y r s p : ℕ) → r < p → s < p → nat_cmp (x * p + r) (y * p + s) ≡ ordering_then (nat_cmp x y) (nat_cmp r s)
 parts_cmp x y r s p small also = elim (cases_lt x y) [
   | inl less ↦ (let more : suc x * p ≤ y * p = nat.mul-le-mul_right p less in
       let one : suc x * p ≡ x * p + p = omega arith in
-      cmp-less (x * p + r) (y * p + s) (omega arith) ∙ sym (ap (λ o. ordering_then o (nat_cmp r s)) (cmp-less x y less)))
+      cmp_less (x * p + r) (y * p + s) (omega arith) ∙ sym (ap (λ o. ordering_then o (nat_cmp r s)) (cmp_less x y less)))
   | inr upto ↦ elim (cases_eq x y) [
-    | inl same ↦ (let e : x * p ≡ y * p = ap (λ n. n * p) same in same_first (x * p) (y * p) e ∙ sym (ap (λ o. ordering_then o (nat_cmp r s)) (cmp-equal x y same)))
+    | inl same ↦ (let e : x * p ≡ y * p = ap (λ n. n * p) same in same_first (x * p) (y * p) e ∙ sym (ap (λ o. ordering_then o (nat_cmp r s)) (cmp_equal x y same)))
     | inr other ↦ (let more : suc y * p ≤ x * p = nat.mul-le-mul_right p (omega arith) in
         let one : suc y * p ≡ y * p + p = omega arith in
         let more_first : y < x = omega arith in
-        cmp-greater (x * p + r) (y * p + s) (omega arith) ∙ sym (ap (λ o. ordering_then o (nat_cmp r s)) (cmp-greater x y more_first)))
+        cmp_greater (x * p + r) (y * p + s) (omega arith) ∙ sym (ap (λ o. ordering_then o (nat_cmp r s)) (cmp_greater x y more_first)))
   ]
 ]
   where
     same_first : (a b : ℕ) → a ≡ b → nat_cmp (a + r) (b + s) ≡ nat_cmp r s
     same_first a b e = elim (cases_lt r s) [
-      | inl less ↦ cmp-less (a + r) (b + s) (omega arith) ∙ sym (cmp-less r s less)
+      | inl less ↦ cmp_less (a + r) (b + s) (omega arith) ∙ sym (cmp_less r s less)
       | inr upto ↦ elim (cases_eq r s) [
-        | inl same ↦ cmp-equal (a + r) (b + s) (omega arith) ∙ sym (cmp-equal r s same)
-        | inr other ↦ (let more : s < r = omega arith in cmp-greater (a + r) (b + s) (omega arith) ∙ sym (cmp-greater r s more))
+        | inl same ↦ cmp_equal (a + r) (b + s) (omega arith) ∙ sym (cmp_equal r s same)
+        | inr other ↦ (let more : s < r = omega arith in cmp_greater (a + r) (b + s) (omega arith) ∙ sym (cmp_greater r s more))
       ]
     ]
 
@@ -64,7 +64,7 @@ byte_small (suc k) n = omega arith
 
 -- the lowest bytes of two numbers, the highest first, are in the order of the numbers that these bytes are
 high_cmp : (k m n : ℕ) → slice_cmp nat_cmp (bytes_high_first k m) (bytes_high_first k n) ≡ nat_cmp (m % 256 ^ k) (n % 256 ^ k)
-high_cmp zero m n = sym (cmp-equal (m % 256 ^ 0) (n % 256 ^ 0) (omega arith))
+high_cmp zero m n = sym (cmp_equal (m % 256 ^ 0) (n % 256 ^ 0) (omega arith))
 high_cmp (suc k) m n =
     let some : 0 < 256 ^ k = some_power k in
     let a : m % 256 ^ k < 256 ^ k = nat.mod-lt m some in

@@ -7,7 +7,7 @@ use Rattle.stream_node.specs.Pairs.{alternating, pairs_at, pair_at, fields_long,
 use Rattle.stream_node.specs.Rest.{rest_of}
 use Rattle.stream_node.specs.Reading.{pairs_of}
 use Rattle.stream_node.proofs.Lists.{Texts}
-use Rattle.stream_node.proofs.Bodies.{length-alternating}
+use Rattle.stream_node.proofs.Bodies.{length_alternating}
 
 length-zip : (n : ℕ) (fields values : Texts) → n ≤ length fields → n ≤ length values → length (zip (take n fields) (take n values)) ≡ n
 length-zip zero fields values h k = refl
@@ -15,12 +15,12 @@ length-zip (suc n) [] values h k = absurd (omega arith)
 length-zip (suc n) (f ∷ fields) [] h k = absurd (omega arith)
 length-zip (suc n) (f ∷ fields) (v ∷ values) h k = omega (arith, length-zip n fields values (omega (arith, h)) (omega (arith, k)))
 
-length-at : (same : Bool) (n : ℕ) (fields values : Texts) → fields_long same n ≤ length fields → values_long same n ≤ length values → length (pairs_at same n fields values) ≡ n
-length-at true n fields values h k = length-zip n fields values h k
-length-at false n fields values h k = length-alternating n fields h
+length_at_in_pairs_at : (same : Bool) (n : ℕ) (fields values : Texts) → fields_long same n ≤ length fields → values_long same n ≤ length values → length (pairs_at same n fields values) ≡ n
+length_at_in_pairs_at true n fields values h k = length-zip n fields values h k
+length_at_in_pairs_at false n fields values h k = length_alternating n fields h
 
 pub length-pairs : (b : Body) → length (pairs_of b) ≡ b.len
-length-pairs b = length-at b.same b.len (rest_of b.fields) (rest_of b.values) b.all_fields b.all_values
+length-pairs b = length_at_in_pairs_at b.same b.len (rest_of b.fields) (rest_of b.values) b.all_fields b.all_values
 
 pub zip_at : (i n : ℕ) (fields values : Texts) → i < n → n ≤ length fields → n ≤ length values → pair_at (zip (take n fields) (take n values)) i ≡ (get_or fields i [], get_or values i [])
 zip_at i zero fields values h k l = absurd (omega arith)
@@ -83,7 +83,7 @@ pub at_false : (same : Bool) (n : ℕ) (fields values : Texts) (i : ℕ) → sam
     → (pair_at (pairs_at same n fields values) i ≡ (get_or fields (2 * i) [], get_or fields (2 * i + 1) [])) × (2 * i + 1 < length fields)
 at_false true n fields values i e f v inside = let never : ⊥ = cc in absurd never
 at_false false n fields values i e f v inside =
-    let few : i < n = omega (arith, inside, length-alternating n fields f) in
+    let few : i < n = omega (arith, inside, length_alternating n fields f) in
     (alternating_at i n fields few f, omega (arith, few, f))
 
 pub unsplit_fields : (same : Bool) (fields values : Texts) → fields ≡ [] → IsUnsplit same fields values

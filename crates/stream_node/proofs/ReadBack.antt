@@ -13,7 +13,7 @@ use Rattle.stream_node.specs.Pairs.{alternating}
 use Rattle.stream_node.specs.Node.{Begins, IsHead, Node}
 use Rattle.stream_node.specs.Entries.{integer, count, is_marked, has_same, pairs_in, pairs_long, entry_at, behind_entry, entries_from, field_count, entry_count, entries_of, IsNode}
 use Rattle.stream_node.proofs.Lists.{Texts}
-use Rattle.stream_node.proofs.Same.{fits_count, few_flags, same_id, same_stored, values_of, flat, length-flat}
+use Rattle.stream_node.proofs.Same.{fits_count, few_flags, same_id, same_stored, values_of, flat, length_flat_in_same}
 
 integer_back : (n : ℤ) → FitsSigned w64 n → integer (canonical n) ≡ n
 integer_back n fits = ap (λ (o : Option ℤ). unwrap_or o (pos 0)) (number_back n fits)
@@ -33,14 +33,14 @@ same_back true false = refl
 same_back false true = refl
 same_back false false = refl
 
-zip-pairs : (pairs : List Pair) → zip (fields_of pairs) (values_of pairs) ≡ pairs
-zip-pairs [] = refl
-zip-pairs (p ∷ pairs) = ap (λ (x : List Pair). p ∷ x) (zip-pairs pairs)
+zip_pairs : (pairs : List Pair) → zip (fields_of pairs) (values_of pairs) ≡ pairs
+zip_pairs [] = refl
+zip_pairs (p ∷ pairs) = ap (λ (x : List Pair). p ∷ x) (zip_pairs pairs)
 
-alternating-flat : (pairs : List Pair) (rest : Texts) → alternating (length pairs) (flat pairs ++ rest) ≡ pairs
+alternating_flat : (pairs : List Pair) (rest : Texts) → alternating (length pairs) (flat pairs ++ rest) ≡ pairs
 unfolding alternating
-alternating-flat [] rest = refl
-alternating-flat (p ∷ pairs) rest = ap (λ (x : List Pair). p ∷ x) (alternating-flat pairs rest)
+alternating_flat [] rest = refl
+alternating_flat (p ∷ pairs) rest = ap (λ (x : List Pair). p ∷ x) (alternating_flat pairs rest)
 
 -- what a body is read as
 reads_pairs : (same : Bool) (master list : Texts) (pairs : List Pair) (rest : Texts) → IsBody same master list pairs rest
@@ -49,7 +49,7 @@ reads_pairs true master list pairs rest b =
     let end : Texts = number (size (values_of pairs)) ∷ rest in
     let many : length (values_of pairs) ≡ length master = omega (arith, length-map pairs (λ (p : Pair). p.1), length-map pairs (λ (p : Pair). p.0), ap length b.fields) in
     let front : take (length master) list ≡ values_of pairs = ap (take (length master)) b.elements ∙ take_at (values_of pairs) end (length master) many in (
-      ap (λ (x : Texts). zip master x) front ∙ ap (λ (x : Texts). zip x (values_of pairs)) (sym b.fields) ∙ zip-pairs pairs,
+      ap (λ (x : Texts). zip master x) front ∙ ap (λ (x : Texts). zip x (values_of pairs)) (sym b.fields) ∙ zip_pairs pairs,
       ap (λ (k : ℕ). drop k list) (omega arith) ∙ sym (drop-drop 1 (length master) list) ∙ ap (drop 1) (ap (drop (length master)) b.elements ∙ drop_at (values_of pairs) end (length master) many),
     )
 reads_pairs false master list pairs rest b =
@@ -58,9 +58,9 @@ reads_pairs false master list pairs rest b =
     let at : (x : Texts) → x ≡ number n ∷ (flat pairs ++ end) → count (Rattle.stream_node.specs.Entries.element x 0) ≡ n =
     λ x e. ap (λ (y : Texts). count (Rattle.stream_node.specs.Entries.element y 0)) e ∙ count_back n b.fields.1 in
     let is : count (Rattle.stream_node.specs.Entries.element list 0) ≡ n = at list b.elements in
-    let many : length (flat pairs) ≡ 2 * n = length-flat pairs in
+    let many : length (flat pairs) ≡ 2 * n = length_flat_in_same pairs in
     let behind : drop 1 list ≡ flat pairs ++ end = ap (drop 1) b.elements in (
-      ap (λ (k : ℕ). alternating k (drop 1 list)) is ∙ ap (alternating n) behind ∙ alternating-flat pairs end,
+      ap (λ (k : ℕ). alternating k (drop 1 list)) is ∙ ap (alternating n) behind ∙ alternating_flat pairs end,
       ap (λ (k : ℕ). drop (1 + (1 + 2 * k)) list) is
           ∙ ap (λ (k : ℕ). drop k list) (omega arith)
           ∙ sym (drop-drop 1 (1 + 2 * n) list)

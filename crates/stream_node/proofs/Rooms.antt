@@ -29,7 +29,7 @@ use Rattle.stream_node.proofs.Grown.{difference_fits}
 use Rattle.stream_node.proofs.Weights.{mark_weight, append_written, mark_written}
 use Rattle.stream_node.proofs.Appendings.{written_end, first_is}
 use Rattle.stream_node.proofs.Lists.{Texts}
-use Rattle.stream_node.proofs.Written.{written, written-append, few_written, length-pack, length-values, length-own}
+use Rattle.stream_node.proofs.Written.{written, written_append, few_written, length_pack, length-values, length_own}
 
 -- a back length takes at most 5 bytes
 back_short : (n : ℕ) → length (back_length n) ≤ 5
@@ -164,12 +164,12 @@ body_own pairs small =
     omega (
       arith,
       small,
-      written-append (body false pairs) (end ∷ []),
+      written_append (body false pairs) (end ∷ []),
       written_cons (number (length pairs)) (flat pairs),
       written_cons end [],
       flat_parts pairs,
       count_most (length pairs) (omega (arith, small)),
-      count_most (size (body false pairs)) (omega (arith, small, length-own pairs)),
+      count_most (size (body false pairs)) (omega (arith, small, length_own pairs)),
     )
 
 -- pairs whose fields are the node's take at most 34 bytes more than their values
@@ -178,16 +178,16 @@ body_same pairs small =
     let end = number (size (body true pairs)) in
     omega (
       arith,
-      written-append (body true pairs) (end ∷ []),
+      written_append (body true pairs) (end ∷ []),
       written_cons end [],
       count_most (size (body true pairs)) (omega (arith, small, length-values pairs)),
     )
 
 -- an entry takes at most 170 bytes more than its fields and values
 entry_bytes : (key id : Id) (same : Bool) (pairs : List Pair) → length pairs < 2 ^ 32 → written (entry_texts key id same pairs) ≤ parts_bytes pairs + 170
-entry_bytes key id true pairs small = omega (arith, written-append (start_texts key id true) (body_texts true pairs), start_most key id true, body_same pairs small)
+entry_bytes key id true pairs small = omega (arith, written_append (start_texts key id true) (body_texts true pairs), start_most key id true, body_same pairs small)
 entry_bytes key id false pairs small =
-    omega (arith, written-append (start_texts key id false) (body_texts false pairs), start_most key id false, body_own pairs small)
+    omega (arith, written_append (start_texts key id false) (body_texts false pairs), start_most key id false, body_own pairs small)
 
 -- the head of a new node takes at most 136 bytes more than its fields, and no fewer than they
 head_bytes : (pairs : List Pair) → length pairs < 2 ^ 32 → (written (head_texts pairs) ≤ written (fields_of pairs) + 136) × (written (fields_of pairs) ≤ written (head_texts pairs))
@@ -197,7 +197,7 @@ head_bytes pairs small =
     let one = written_cons (number 1) (number 0 ∷ many ∷ rest) in
     let two = written_cons (number 0) (many ∷ rest) in
     let three = written_cons many rest in
-    let four = written-append (fields_of pairs) (number 0 ∷ []) in (
+    let four = written_append (fields_of pairs) (number 0 ∷ []) in (
       omega (arith, one, two, three, four, written_cons (number 0) [], count_most 0 (omega arith), count_most 1 (omega arith), count_most (length pairs) (omega (arith, small))),
       omega (arith, one, two, three, four),
     )
@@ -207,8 +207,8 @@ added_parts : (key id : Id) (list : Texts) (pairs : List Pair) → length pairs 
 added_parts key id [] pairs small =
     omega (
       arith,
-      written-append (head_texts pairs) (entry_texts key id true pairs),
-      written-append (start_texts key id true) (body_texts true pairs),
+      written_append (head_texts pairs) (entry_texts key id true pairs),
+      written_append (start_texts key id true) (body_texts true pairs),
       (head_bytes pairs small).0,
       start_most key id true,
       body_same pairs small,
@@ -233,7 +233,7 @@ append_most key id pack pairs p few =
     omega (
       arith,
       few,
-      length-pack pack p,
+      length_pack pack p,
       written_end (slice_set ss 0 (spelling (number n))) (added key list id pairs),
       set_most ss 0 (spelling (number n)),
       count_most n (omega (arith, read_small (element list 0))),
@@ -242,7 +242,7 @@ append_most key id pack pairs p few =
 
 -- the bytes of an entry alone in a node
 alone_is : (id : Id) (pairs : List Pair) → alone_len id pairs ≡ 7 + (written (head_texts pairs) + written (entry_texts id id true pairs))
-alone_is id pairs = ap (λ n. 7 + n) (written-append (head_texts pairs) (entry_texts id id true pairs))
+alone_is id pairs = ap (λ n. 7 + n) (written_append (head_texts pairs) (entry_texts id id true pairs))
 
 alone_most : (id : Id) (pairs : List Pair) → most_bytes pairs < 2 ^ 32 → alone_len id pairs ≤ 7 + most_bytes pairs
 alone_most id pairs few = omega (arith, added_most id id [] pairs (omega (arith, few)))
@@ -257,8 +257,8 @@ behind_alone key id pack pairs p small =
     let list = texts pack in
     let n : ℕ = count (element list 0) + 1 in
     let whole = alone_is id pairs in
-    let own = written-append (start_texts id id true) (body_texts true pairs) in
-    let values = written-append (body true pairs) (number (size (body true pairs)) ∷ []) in
+    let own = written_append (start_texts id id true) (body_texts true pairs) in
+    let values = written_append (body true pairs) (number (size (body true pairs)) ∷ []) in
     let few : length pairs ≤ written (body true pairs) = omega (arith, few_written (body true pairs) (omega (arith, small, whole, own, values)), length-values pairs) in
     let many : length pairs < 2 ^ 32 = omega (arith, few, small, whole, own, values) in
     omega (
@@ -267,7 +267,7 @@ behind_alone key id pack pairs p small =
       own,
       values,
       (head_bytes pairs many).1,
-      length-pack pack p,
+      length_pack pack p,
       written_end (slice_set ss 0 (spelling (number n))) (added key list id pairs),
       set_most ss 0 (spelling (number n)),
       count_most n (omega (arith, read_small (element list 0))),
@@ -292,7 +292,7 @@ mark_room pack index p room =
     omega (
       arith,
       room,
-      length-pack pack p,
+      length_pack pack p,
       set_most ss 0 (spelling (number a)),
       set_most one 1 (spelling (number b)),
       set_most two at (spelling (number c)),

@@ -78,9 +78,9 @@ same_pairs (x ∷ p) (y ∷ q) e f =
     let b : x.1 ≡ y.1 = ap first f in
     λ i. (a i, b i) ∷ more i
 
-pub length-flat : (p : List Pair) → length (flat p) ≡ 2 * length p
-length-flat [] = refl
-length-flat (x ∷ p) = omega (arith, length-flat p)
+pub length_flat_in_same : (p : List Pair) → length (flat p) ≡ 2 * length p
+length_flat_in_same [] = refl
+length_flat_in_same (x ∷ p) = omega (arith, length_flat_in_same p)
 
 same_flat : (p q : List Pair) → flat p ≡ flat q → p ≡ q
 same_flat [] [] e = refl
@@ -101,7 +101,7 @@ one_body true master list p q r t a b =
 one_body false master list p q r t a b =
     let e : number (length p) ∷ (flat p ++ number (size (body false p)) ∷ r) ≡ number (length q) ∷ (flat q ++ number (size (body false q)) ∷ t) = sym a.elements ∙ b.elements in
     let m = same_number (length p) (length q) a.fields.1 b.fields.1 (ap first e) in
-    let n : length (flat p) ≡ length (flat q) = omega (arith, m, length-flat p, length-flat q) in
+    let n : length (flat p) ≡ length (flat q) = omega (arith, m, length_flat_in_same p, length_flat_in_same q) in
     let f = same_fronts (flat p) (flat q) (number (size (body false p)) ∷ r) (number (size (body false q)) ∷ t) n (ap behind e) in
     (same_flat p q f.0, ap behind f.1)
 

@@ -22,7 +22,7 @@ use Rattle.stream_node.proofs.Lists.{Texts, first, behind}
 use Rattle.stream_node.proofs.Same.{fits_count, few_flags}
 use Rattle.stream_node.proofs.ReadBack.{count_back}
 use Rattle.stream_node.proofs.Markings.{IsFound, found, place_is, element_at}
-use Rattle.stream_node.proofs.Written.{length-pack}
+use Rattle.stream_node.proofs.Written.{length_pack}
 
 -- a small number takes two bytes
 small_entry : (n : ℕ) → n < 128 → length (entry (number n)) ≡ 2
@@ -65,7 +65,7 @@ weights (u ∷ v ∷ ss) live deleted flag k a b f second tail w few is at p q r
     let more = length-append (entry_of v) (entries ss) in
     let now : Texts = slice_set ss k (spelling (number f)) in
     let there : element (map text_of ss) k ≡ number flag = ap (λ n. element (map text_of ss) n) at ∙ ap (λ (l : Texts). element l (length second)) rest ∙ element_at second tail (number flag) in
-    let inside : k < length ss = omega (arith, at, ap length rest, length-append second (number flag ∷ tail), length-texts ss) in
+    let inside : k < length ss = omega (arith, at, ap length rest, length-append second (number flag ∷ tail), length_texts ss) in
     omega (
       arith,
       all,
@@ -79,9 +79,9 @@ weights (u ∷ v ∷ ss) live deleted flag k a b f second tail w few is at p q r
       set_small ss k flag (spelling (number f)) w.1.1 (omega (arith, few, all, more)) inside there r (small_entry f z),
     )
   where
-    length-texts : (l : Texts) → length (map text_of l) ≡ length l
-    length-texts [] = refl
-    length-texts (s ∷ l) = ap suc (length-texts l)
+    length_texts : (l : Texts) → length (map text_of l) ≡ length l
+    length_texts [] = refl
+    length_texts (s ∷ l) = ap suc (length_texts l)
 
 flags_small : (deleted same : Bool) → flags deleted same < 4
 flags_small true true = omega arith
@@ -104,7 +104,7 @@ mark_weight key pack index p w can few short =
     let flag : count (element list (flags_at list index)) ≡ flags false f.same =
     ap (λ k. count (element list k)) at ∙ ap (λ (l : Texts). count (element l (suc (suc (length f.second))))) whole
     ∙ ap count (element_at (number n.live ∷ number n.deleted ∷ f.second) f.tail (number (flags false f.same))) ∙ count_back (flags false f.same) (few_flags false f.same) in
-    let all = length-pack pack p in
+    let all = length_pack pack p in
     let same : length (entries (exchanged ss (suc (suc (length f.second))) (spelling (less_live list)) (spelling (more_deleted list)) (spelling (marked_flags list (flags_at list index)))))
     ≡ length (entries ss) =
     weights ss n.live n.deleted (flags false f.same) (length f.second) (count (element list 0) - 1) (count (element list 1) + 1) (count (element list (flags_at list index)) + 1) f.second

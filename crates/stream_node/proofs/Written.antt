@@ -13,25 +13,25 @@ use Rattle.listpack.specs.Entry.{entry_of, back_length}
 use Rattle.listpack.specs.Pack.{IsPack, entries, spellings_of, texts}
 use Rattle.listpack.specs.Writing.{spelling, entry}
 use Rattle.listpack.specs.Edits.{IsEdited}
-use Rattle.listpack.proofs.Offsets.{length-offset}
-use Rattle.listpack.proofs.Regions.{length-entry}
+use Rattle.listpack.proofs.Offsets.{length_offset}
+use Rattle.listpack.proofs.Regions.{length_entry}
 use Rattle.listpack.proofs.ReadBack.{spelled}
 use Rattle.listpack.proofs.Writings.{element_short}
 use Rattle.stream_node.specs.Entry.{Pair, number, fields_of, body, size}
 use Rattle.stream_node.specs.Pairs.{pair_at}
 use Rattle.stream_node.specs.Written.{Extends, HasRoom, pair_texts, body_texts}
 use Rattle.stream_node.proofs.Lists.{Texts}
-use Rattle.stream_node.proofs.Same.{flat, length-flat}
+use Rattle.stream_node.proofs.Same.{flat, length_flat_in_same}
 
 -- how long a listpack is
-pub length-pack : (bytes : List ℕ) → IsPack bytes → length bytes ≡ 7 + length (entries (spellings_of bytes))
-length-pack bytes p = omega (arith, length-offset bytes 0 p)
+pub length_pack : (bytes : List ℕ) → IsPack bytes → length bytes ≡ 7 + length (entries (spellings_of bytes))
+length_pack bytes p = omega (arith, length_offset bytes 0 p)
 
 abbrev pub written : Texts → ℕ
 written elements = length (entries (map spelling elements))
 
-pub written-append : (xs ys : Texts) → written (xs ++ ys) ≡ written xs + written ys
-written-append xs ys =
+pub written_append : (xs ys : Texts) → written (xs ++ ys) ≡ written xs + written ys
+written_append xs ys =
     ap (λ (x : Texts). length (entries x)) (map-append spelling xs ys)
     ∙ ap length (flat_map-append entry_of (map spelling xs) (map spelling ys))
     ∙ length-append (entries (map spelling xs)) (entries (map spelling ys))
@@ -58,8 +58,8 @@ pub length-put : (old mid : List ℕ) (xs : Texts) → IsPack old → Extends ol
 length-put old mid xs p a =
     omega (
       arith,
-      length-pack old p,
-      length-pack mid a.pack,
+      length_pack old p,
+      length_pack mid a.pack,
       ap (λ (x : Texts). length (entries x)) a.spelled,
       ap length (flat_map-append entry_of (spellings_of old) (map spelling xs)),
       length-append (entries (spellings_of old)) (entries (map spelling xs)),
@@ -67,10 +67,10 @@ length-put old mid xs p a =
 
 -- room for the first ones, and for those that follow when these are there
 pub room_first : (old : List ℕ) (xs ys : Texts) → HasRoom old (xs ++ ys) → HasRoom old xs
-room_first old xs ys room = omega (arith, room, written-append xs ys)
+room_first old xs ys room = omega (arith, room, written_append xs ys)
 
 pub room_next : (old mid : List ℕ) (xs ys : Texts) → IsPack old → Extends old mid xs → HasRoom old (xs ++ ys) → HasRoom mid ys
-room_next old mid xs ys p a room = omega (arith, room, written-append xs ys, length-put old mid xs p a)
+room_next old mid xs ys p a room = omega (arith, room, written_append xs ys, length-put old mid xs p a)
 
 -- an element's entry takes a byte at least
 pub few_written : (xs : Texts) → written xs < 2 ^ 32 → length xs ≤ written xs
@@ -79,7 +79,7 @@ few_written (x ∷ xs) h =
     let s = spelling x in
     let both = length-append (entry x) (entries (map spelling xs)) in
     let short : length s < 2 ^ 32 = omega (arith, h, both, length-append s (back_length (length s))) in
-    let one = length-entry s [] (spelled x (element_short x short)).0 in
+    let one = length_entry s [] (spelled x (element_short x short)).0 in
     omega (arith, few_written xs (omega (arith, h, both)), both, one, length-append (entry x) [])
 
 pub few_in_room : (pack : List ℕ) (xs : Texts) → HasRoom pack xs → length xs < 2 ^ 32
@@ -134,11 +134,11 @@ handed_on n d h e = ap canonical (to_z-of_z w64 n (record { sfits = h }) ∙ e)
 pub length-values : (pairs : List Pair) → size (body true pairs) ≡ length pairs + 3
 length-values pairs = omega (arith, length-map pairs (λ (p : Pair). p.1))
 
-pub length-own : (pairs : List Pair) → size (body false pairs) ≡ 2 * length pairs + 4
-length-own pairs = omega (arith, length-flat pairs)
+pub length_own : (pairs : List Pair) → size (body false pairs) ≡ 2 * length pairs + 4
+length_own pairs = omega (arith, length_flat_in_same pairs)
 
 pub few_pairs : (pack : List ℕ) (same : Bool) (pairs : List Pair) → HasRoom pack (body_texts same pairs) → length pairs < 2 ^ 32
 few_pairs pack true pairs room =
     omega (arith, few_in_room pack (body_texts true pairs) room, length-append (body true pairs) (number (size (body true pairs)) ∷ []), length-values pairs)
 few_pairs pack false pairs room =
-    omega (arith, few_in_room pack (body_texts false pairs) room, length-append (body false pairs) (number (size (body false pairs)) ∷ []), length-own pairs)
+    omega (arith, few_in_room pack (body_texts false pairs) room, length-append (body false pairs) (number (size (body false pairs)) ∷ []), length_own pairs)

@@ -10,10 +10,10 @@ use Rattle.std.proofs.lemmas.Bool.{cases_lt, cases_Bool, cond-true, cond-false}
 use Rattle.std.proofs.lemmas.List.{length-append, length-map, map-append, take_more}
 use Rattle.stream_groups.specs.Groups.{Group, Groups, Id as Pair, name_cmp, changed, changed_from, ids_of, with_again, with_consumer}
 use Rattle.stream_groups.proofs.Orders.{name_total, name_same}
-use Rattle.stream_groups.proofs.Changing.{put-same}
+use Rattle.stream_groups.proofs.Changing.{put_same_in_changing}
 use Rattle.stream_node.specs.declared.id.Id.{Id}
 use Rattle.stream_node.specs.Ids.{IsId, id_number}
-use Rattle.stream_node.proofs.Ids.{cmp-less, cmp-equal, cmp-greater}
+use Rattle.stream_node.proofs.Ids.{cmp_less, cmp_equal, cmp_greater}
 use Rattle.plain_world.specs.Streams.{StreamEntry}
 use Rattle.stream_object.specs.declared.again.Again.{Again}
 use Rattle.stream_object.specs.declared.owned.Owned.{Owned}
@@ -33,11 +33,11 @@ module _ (id : Id) (fits : IsId id) where
       let n = id_number (id_of e) in
       let k = id_number id in
       elim (cases_lt n k) [
-        | inl less ↦ (λ i. not (is_lt ((low ∙ cmp-less n k less) i)) && not (is_lt (high i))) ∙ sym (ap is_eq (low ∙ cmp-less n k less))
+        | inl less ↦ (λ i. not (is_lt ((low ∙ cmp_less n k less) i)) && not (is_lt (high i))) ∙ sym (ap is_eq (low ∙ cmp_less n k less))
         | inr upto ↦ elim (cases_lt k n) [
-          | inl more ↦ (λ i. not (is_lt ((low ∙ cmp-greater n k more) i)) && not (is_lt ((high ∙ cmp-less k n more) i))) ∙ sym (ap is_eq (low ∙ cmp-greater n k more))
+          | inl more ↦ (λ i. not (is_lt ((low ∙ cmp_greater n k more) i)) && not (is_lt ((high ∙ cmp_less k n more) i))) ∙ sym (ap is_eq (low ∙ cmp_greater n k more))
           | inr also ↦ (let same : n ≡ k = omega arith in
-              (λ i. not (is_lt ((low ∙ cmp-equal n k same) i)) && not (is_lt ((high ∙ cmp-equal k n (sym same)) i))) ∙ sym (ap is_eq (low ∙ cmp-equal n k same)))
+              (λ i. not (is_lt ((low ∙ cmp_equal n k same) i)) && not (is_lt ((high ∙ cmp_equal k n (sym same)) i))) ∙ sym (ap is_eq (low ∙ cmp_equal n k same)))
         ]
       ]
 
@@ -93,7 +93,7 @@ unchanged groups name = by (fin.get groups name) refl
   where
     by : (o : Option Group) → fin.get groups name ≡ o → groups ≡ changed_from groups name (λ group. group) o
     by None is = refl
-    by (Some group) is = sym (put-same groups name group is)
+    by (Some group) is = sym (put_same_in_changing groups name group is)
 
 -- an id is counted where its entry is there
 pub none_once : (groups : Groups) (name : List ℕ) (moment : ℕ) (id : Pair) (pairs : Option Owned) → is_some pairs ≡ false → groups ≡ changed groups name (once_more moment id (option_map taken pairs))
@@ -108,10 +108,10 @@ some_once groups now name moment id (Some x) is h = h
 pub map_more : {X Y : Type 0} (f : X → Y) (xs : List X) (i : ℕ) (x : X) → i < length xs → x ≡ get_or xs i x → map f (take (i + 1) xs) ≡ map f (take i xs) ++ f x ∷ []
 map_more f xs i x inside is = ap (map f) (take_more xs i x inside) ∙ map-append f (take i xs) (get_or xs i x ∷ []) ∙ ap (λ y. map f (take i xs) ++ f y ∷ []) (sym is)
 
-again-append : (moment : ℕ) (ts : List (Pair × Option StreamEntry)) (t : Pair × Option StreamEntry) (group : Group)
+again_append : (moment : ℕ) (ts : List (Pair × Option StreamEntry)) (t : Pair × Option StreamEntry) (group : Group)
     → all_again moment (ts ++ t ∷ []) group ≡ once_more moment t.0 t.1 (all_again moment ts group)
-again-append moment [] t group = refl
-again-append moment (s ∷ ts) t group = again-append moment ts t (once_more moment s.0 s.1 group)
+again_append moment [] t group = refl
+again_append moment (s ∷ ts) t group = again_append moment ts t (once_more moment s.0 s.1 group)
 
 -- one id more
 pub counted_more : (moment : ℕ) (groups mid now : Groups) (name : List ℕ) (ts more : List (Pair × Option StreamEntry)) (t : Pair × Option StreamEntry)
@@ -119,7 +119,7 @@ pub counted_more : (moment : ℕ) (groups mid now : Groups) (name : List ℕ) (t
 counted_more moment groups mid now name ts more t was is all =
     is ∙ ap (λ (g : Groups). changed g name (once_more moment t.0 t.1)) was
     ∙ changed_twice groups name (all_again moment ts) (once_more moment t.0 t.1)
-    ∙ (λ i. changed groups name (λ group. sym (again-append moment ts t group) i))
+    ∙ (λ i. changed groups name (λ group. sym (again_append moment ts t group) i))
     ∙ ap (λ ts. changed groups name (all_again moment ts)) (sym all)
 
 -- what is handed out again, where the group is there

@@ -12,7 +12,7 @@ use Rattle.listpack.specs.Pack.{IsPack, entries, region, spellings_of, texts}
 use Rattle.listpack.specs.Writing.{number_spelling, text_head, spelling, entry}
 use Rattle.listpack.proofs.Backs.{back_one}
 use Rattle.listpack.proofs.ReadBack.{number_spelled}
-use Rattle.listpack.proofs.Spellings.{spelling-pos}
+use Rattle.listpack.proofs.Spellings.{spelling_pos}
 use Rattle.listpack.proofs.Writings.{head_short, head_medium, head_long, number_cases, spelling_as}
 use Rattle.stream_node.specs.declared.id.Id.{Id}
 use Rattle.stream_node.specs.Entry.{Pair, Stored, number, flags, fields_of, body, size, IsBody, IsEntry}
@@ -23,8 +23,8 @@ use Rattle.stream_node.specs.Room.{alone_len}
 use Rattle.stream_node.specs.Written.{difference, start_texts, body_texts, entry_texts, head_texts}
 use Rattle.stream_node.proofs.Lists.{Texts}
 use Rattle.stream_node.proofs.Same.{flat, fits_count}
-use Rattle.stream_node.proofs.Written.{written, written-append, length-pack, length-values}
-use Rattle.rax_packed.proofs.Entries.{all-front, all-back, all-weaker}
+use Rattle.stream_node.proofs.Written.{written, written_append, length_pack, length-values}
+use Rattle.rax_packed.proofs.Entries.{all_front, all_back, all_weaker}
 use Rattle.stream_object.proofs.Lighter.{entry_two, some_back}
 use Rattle.stream_object.proofs.Marking.{node_ids}
 use Rattle.stream_object.proofs.Shortest.{Bytes, five_bytes, written_shortest}
@@ -42,7 +42,7 @@ some_head n = elim (cases_lt n 64) [
 some_spelling : (text : List ℕ) → 1 ≤ length (spelling text)
 some_spelling text = elim (number_cases text) [
   | inl none ↦ omega (arith, some_head (length text), ap length (spelling_as text None none), length-append (text_head (length text)) text)
-  | inr is ↦ omega (arith, ap length (spelling_as text (Some is.0) is.1), spelling-pos (number_spelling is.0) (number_spelled is.0 is.2).0)
+  | inr is ↦ omega (arith, ap length (spelling_as text (Some is.0) is.1), spelling_pos (number_spelling is.0) (number_spelled is.0 is.2).0)
 ]
 
 entry_least : (text : List ℕ) → 2 ≤ length (entry text)
@@ -123,7 +123,7 @@ head_is pairs =
       written_cons (number 1) (number 0 ∷ many ∷ rest),
       written_cons (number 0) (many ∷ rest),
       written_cons many rest,
-      written-append (fields_of pairs) (number 0 ∷ []),
+      written_append (fields_of pairs) (number 0 ∷ []),
       written_cons (number 0) [],
       entry_two 0 (omega arith),
       entry_two 1 (omega arith),
@@ -134,11 +134,11 @@ alone_is id pairs fits =
     let end = number (size (body true pairs)) in
     omega (
       arith,
-      written-append (head_texts pairs) (entry_texts id id true pairs),
+      written_append (head_texts pairs) (entry_texts id id true pairs),
       head_is pairs,
-      written-append (start_texts id id true) (body_texts true pairs),
+      written_append (start_texts id id true) (body_texts true pairs),
       start_six id fits,
-      written-append (body true pairs) (end ∷ []),
+      written_append (body true pairs) (end ∷ []),
       written_cons end [],
     )
 
@@ -150,13 +150,13 @@ body_weighs : (same : Bool) (master list : Texts) (pairs : List Pair) (rest : Te
     → (cost pairs + written rest ≤ fields_cost master + written list) × (written rest ≤ written list)
 body_weighs true master list pairs rest is some short =
     let end = number (size (body true pairs)) in
-    let whole = ap written is.elements ∙ written-append (body true pairs) (end ∷ rest) in
+    let whole = ap written is.elements ∙ written_append (body true pairs) (end ∷ rest) in
     let last = written_cons end rest in
     let many : length master ≡ length pairs = ap length (sym is.fields) ∙ length-map pairs (λ (p : Pair). p.0) in
     (omega (arith, whole, last, ap bytes_of many, ap written is.fields), omega (arith, whole, last))
 body_weighs false master list pairs rest is some short =
     let end = number (size (body false pairs)) in
-    let whole = ap written is.elements ∙ written-append (body false pairs) (end ∷ rest) in
+    let whole = ap written is.elements ∙ written_append (body false pairs) (end ∷ rest) in
     let last = written_cons end rest in
     let first = written_cons (number (length pairs)) (flat pairs) in
     let apart = flat_parts pairs in
@@ -185,7 +185,7 @@ all_weigh key master list before (e ∷ es) rest b some short =
     let here = entry_weighs key master list e b.0 b.1 some short in
     let more = all_weigh key master b.0 (Some e.id) es rest b.3 some (omega (arith, short, here.1)) in (
       omega (arith, here.0),
-      all-weaker (λ (f : Stored). 6 + cost f.pairs ≤ fields_cost master + written b.0) (λ (f : Stored). 6 + cost f.pairs ≤ fields_cost master + written list) es (λ f h. omega (arith, h, here.1)) more,
+      all_weaker (λ (f : Stored). 6 + cost f.pairs ≤ fields_cost master + written b.0) (λ (f : Stored). 6 + cost f.pairs ≤ fields_cost master + written list) es (λ f h. omega (arith, h, here.1)) more,
     )
 
 -- an entry has a pair at least
@@ -208,12 +208,12 @@ region_bytes : (pack : List ℕ) → Bytes pack → Bytes (region pack)
 region_bytes pack all =
     let B : ℕ → Type 0 = λ b. b < 256 in
     let end : ℕ = length pack - 1 - 6 in
-    let tail = all-back B (take 6 pack) (drop 6 pack) (subst Bytes (sym (take-append-drop 6 pack)) all) in
-    all-front B (take end (drop 6 pack)) (drop end (drop 6 pack)) (subst Bytes (sym (take-append-drop end (drop 6 pack))) tail)
+    let tail = all_back B (take 6 pack) (drop 6 pack) (subst Bytes (sym (take-append-drop 6 pack)) all) in
+    all_front B (take end (drop 6 pack)) (drop end (drop 6 pack)) (subst Bytes (sym (take-append-drop end (drop 6 pack))) tail)
 
 pack_shortest : (pack : List ℕ) → IsPack pack → Bytes pack → 7 + written (texts pack) ≤ length pack
 pack_shortest pack p all =
-    omega (arith, length-pack pack p, written_shortest (spellings_of pack) p.each (subst Bytes p.all_entries (region_bytes pack all)))
+    omega (arith, length_pack pack p, written_shortest (spellings_of pack) p.each (subst Bytes p.all_entries (region_bytes pack all)))
 
 lifted : (limit size : ℕ) (es : List Stored) → AllByRecursion (λ e. IsId e.id) es → AllByRecursion (λ e. 6 + cost e.pairs ≤ limit) es → 13 + limit ≤ size
     → AllByRecursion (λ e. alone_len e.id e.pairs ≤ size) es
@@ -232,7 +232,7 @@ alone_short key pack p all n short =
     let whole = ap written n.head.elements ∙ written_cons live (deleted ∷ many ∷ rest) in
     let two = written_cons deleted (many ∷ rest) in
     let three = written_cons many rest in
-    let four = written-append n.master (number 0 ∷ n.behind) in
+    let four = written_append n.master (number 0 ∷ n.behind) in
     let five = written_cons (number 0) n.behind in
     lifted (fields_cost n.master + written n.behind) (length pack) (entries_of key list) (node_ids key list n)
     (all_weigh key n.master n.behind None (entries_of key list) [] n.all_entries n.head.some (omega (arith, short, shortest, whole, two, three, four, five)))

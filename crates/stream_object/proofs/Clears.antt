@@ -6,8 +6,8 @@ use Rattle.std.proofs.lemmas.List.{append-nil, length-map}
 use Rattle.blocks.specs.declared.BlockRef.{BlockRef}
 use Rattle.blocks.specs.Blocks.{Blocks, times, IsIn, Changes, Owned}
 use Rattle.blocks.proofs.Times.{times-append}
-use Rattle.blocks.proofs.Change.{one, one_if, live-once, Changes-same, Changes-then, Owned-others}
-use Rattle.blocks.proofs.Refs.{ref_eq-refl}
+use Rattle.blocks.proofs.Change.{one, one_if, live_once, changes_same, changes_then, owned_others}
+use Rattle.blocks.proofs.Refs.{ref_eq_refl}
 use Rattle.stream_node.specs.declared.id.Id.{Id}
 use Rattle.stream_node.specs.Ids.{id_number, key_id}
 use Rattle.rax_packed.specs.declared.tree.PackedTree.{PackedTree}
@@ -26,10 +26,10 @@ use Rattle.stream_object.specs.Tail.{IsKept}
 use Rattle.stream_object.proofs.Parts.{parts_are, its_own, refs_are, parts_stay}
 
 pub exchanges_none : (m : Blocks) (tree : PackedTree) (ps : List Part) → HasParts m tree ps → Exchanges m m tree tree ps
-exchanges_none m tree ps h = record { parts = h; changes = subst (λ rs. Changes m m rs rs) (sym (refs_are m tree ps h)) (Changes-same m (rax.refs_of m tree ++ refs_of ps) h.owned) }
+exchanges_none m tree ps h = record { parts = h; changes = subst (λ rs. Changes m m rs rs) (sym (refs_are m tree ps h)) (changes_same m (rax.refs_of m tree ++ refs_of ps) h.owned) }
 
 pub exchanges_then : (a b c : Blocks) (old mid new : PackedTree) (ps qs : List Part) → Exchanges a b old mid ps → Exchanges b c mid new qs → Exchanges a c old new qs
-exchanges_then a b c old mid new ps qs x y = record { parts = y.parts; changes = Changes-then a b c (all_refs a old) (all_refs b mid) (all_refs c new) x.changes y.changes }
+exchanges_then a b c old mid new ps qs x y = record { parts = y.parts; changes = changes_then a b c (all_refs a old) (all_refs b mid) (all_refs c new) x.changes y.changes }
 
 -- no key is below the least id
 pub none_below : (low : Id) → low.ms ≡ 0 → low.seq ≡ 0 → (ps : List Part) → AllByRecursion (Misses true low) ps → ps ≡ []
@@ -41,7 +41,7 @@ pub all_released : (m mid after : Blocks) (old new : PackedTree) → Exchanges m
 all_released m mid after old new x last =
     let same : all_refs mid new ≡ rax.refs_of mid new ++ [] = refs_are mid new [] x.parts in
     let more : Changes m mid (all_refs m old) (rax.refs_of mid new) = subst (Changes m mid (all_refs m old)) (same ∙ append-nil (rax.refs_of mid new)) x.changes in
-    Changes-then m mid after (all_refs m old) (rax.refs_of mid new) [] more last
+    changes_then m mid after (all_refs m old) (rax.refs_of mid new) [] more last
 
 pub fewer_parts : (m : Blocks) (tree : PackedTree) (ps before after : List Part) (p : Part) → HasParts m tree (before ++ after) → ps ≡ before ++ p ∷ after → length (parts_of m tree) < length ps
 fewer_parts m tree ps before after p h place = omega (arith, ap length (parts_are m tree (before ++ after) h), ap length place, length-append before after, length-append before (p ∷ after))
@@ -59,7 +59,7 @@ module _ (a b : Blocks) (s : Log) (same : (r : BlockRef) → IsIn r (refs a s) �
   read_same : (es : List Entry) → ((r : BlockRef) → IsIn r (map (λ (e : Entry). e.value) es) → b r ≡ a r) → map (part_of b) es ≡ map (part_of a) es
   read_same [] h = refl
   read_same (e ∷ es) h =
-      let counted : one e.value e.value ≡ 1 = ap one_if (ref_eq-refl e.value) in
+      let counted : one e.value e.value ≡ 1 = ap one_if (ref_eq_refl e.value) in
       let here : b e.value ≡ a e.value = h e.value (omega (arith, counted)) in
       λ i. record { key = key_id e.key; at = e.value; bytes = ap (λ (o : Option (List ℕ)). pack_in (unwrap_or o [])) here i } ∷ read_same es (λ r isin. h r (omega (arith, isin))) i
 
@@ -103,7 +103,7 @@ module _ (a b : Blocks) (s : Log) (same : (r : BlockRef) → IsIn r (refs a s) �
 
 beside : (a b : Blocks) (own old new : List BlockRef) → Owned (own ++ old) a → Changes a b old new → (r : BlockRef) → IsIn r own → b r ≡ a r
 beside a b own old new o p r isin =
-    Owned-others a b old new (own ++ old) o p r (omega (arith, isin, times-append r own old)) (omega (arith, isin, o r, times-append r own old, live-once a r))
+    owned_others a b old new (own ++ old) o p r (omega (arith, isin, times-append r own old)) (omega (arith, isin, o r, times-append r own old, live_once a r))
 
 marked : (m : Blocks) (s : Log) → length (all_marks m s) ≡ length (refs m s)
 unfolding all_refs

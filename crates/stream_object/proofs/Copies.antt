@@ -12,9 +12,9 @@ use Rattle.stream_node.specs.declared.id.Id.{Id}
 use Rattle.stream_node.specs.Entry.{Stored}
 use Rattle.stream_node.specs.Entries.{entries_of}
 use Rattle.stream_node.specs.Ids.{IsId, id_number}
-use Rattle.stream_node.proofs.Ids.{cmp-less}
+use Rattle.stream_node.proofs.Ids.{cmp_less}
 use Rattle.rax_packed.specs.declared.tree.PackedTree.{PackedTree}
-use Rattle.rax_packed.proofs.Entries.{all-back, all-weaker}
+use Rattle.rax_packed.proofs.Entries.{all_back, all_weaker}
 use Rattle.stream_object.specs.declared.stream.Stream.{Stream as Log}
 use Rattle.stream_object.specs.Copied.{AreSame}
 use Rattle.stream_object.specs.Found.{IsNear, Misses, Comes, Exchanges}
@@ -54,7 +54,7 @@ same_upto id (x ∷ ps) (y ∷ qs) same upto =
 
 ends_before : (before after : List Part) (p : Part) → Rising (before ++ p ∷ after) → AllByRecursion (λ q. EndsBefore q p) before
 ends_before [] after p r = tt
-ends_before (q ∷ before) after p r = ((all-back (EndsBefore q) before (p ∷ after) r.0).0, ends_before before after p r.1)
+ends_before (q ∷ before) after p r = ((all_back (EndsBefore q) before (p ∷ after) r.0).0, ends_before before after p r.1)
 
 same_ends : (ps qs : List Part) (p q : Part) → AreSame ps qs → q.key ≡ p.key → AllByRecursion (λ x. EndsBefore x p) ps → AllByRecursion (λ x. EndsBefore x q) qs
 same_ends [] [] p q same key ends = tt
@@ -71,13 +71,13 @@ abbrev pub is_behind : Id → Part → Bool
 is_behind at p = is_lt (nat_cmp (id_number p.key) (id_number at))
 
 behind_yes : (at : Id) (p : Part) → id_number p.key < id_number at → is_behind at p ≡ true
-behind_yes at p less = ap is_lt (cmp-less (id_number p.key) (id_number at) less)
+behind_yes at p less = ap is_lt (cmp_less (id_number p.key) (id_number at) less)
 
 behind_no : (at : Id) (p : Part) → id_number at ≤ id_number p.key → is_behind at p ≡ false
 behind_no at p upto = not_less (id_number p.key) (id_number at) upto
 
 pub behind_all : (at : Id) (ps : List Part) → AllByRecursion (Misses true at) ps → filter (is_behind at) ps ≡ ps
-behind_all at ps miss = filter_all (is_behind at) ps (all-weaker (Misses true at) (λ p. is_behind at p ≡ true) ps (λ p less. behind_yes at p less) miss)
+behind_all at ps miss = filter_all (is_behind at) ps (all_weaker (Misses true at) (λ p. is_behind at p ≡ true) ps (λ p less. behind_yes at p less) miss)
 
 pub behind_none : (at : Id) → at.ms ≡ 0 → at.seq ≡ 0 → (ps : List Part) → filter (is_behind at) ps ≡ []
 behind_none at a b ps = filter_none (is_behind at) ps (each ps)
@@ -99,7 +99,7 @@ module _ (m : Blocks) (s : Log) (is : IsStream m s) (at : Id) (p : Part) (n : Is
       ∙
       (λ i. behind_all at n.before n.passes i ++ filter_none (is_behind at) (p ∷ n.after) (
         behind_no at p n.reaches,
-        all-weaker (λ (q : Part). id_number p.key < id_number q.key) (λ q. is_behind at q ≡ false) n.after
+        all_weaker (λ (q : Part). id_number p.key < id_number q.key) (λ q. is_behind at q ≡ false) n.after
             (λ q more. behind_no at q (omega (arith, more, n.reaches))) (keys_after m n.before n.after p all_parts rising),
       ) i)
       ∙ append-nil n.before
@@ -109,17 +109,17 @@ module _ (m : Blocks) (s : Log) (is : IsStream m s) (at : Id) (p : Part) (n : Is
       ap (filter (is_behind next)) n.place ∙ filter-append (is_behind next) n.before (p ∷ n.after)
       ∙
       (λ i. filter_all (is_behind next) n.before
-      (all-weaker (λ (q : Part). id_number q.key < id_number p.key) (λ q. is_behind next q ≡ true) n.before (λ q less. behind_yes next q (omega (arith, less, follows)))
+      (all_weaker (λ (q : Part). id_number q.key < id_number p.key) (λ q. is_behind next q ≡ true) n.before (λ q less. behind_yes next q (omega (arith, less, follows)))
       (keys_before m n.before n.after p all_parts rising)) i ++ filter (is_behind next) (p ∷ n.after))
       ∙ ap (λ qs. n.before ++ qs) (cond-true (is_behind next p) (p ∷ filter (is_behind next) n.after) (filter (is_behind next) n.after) (behind_yes next p (omega (arith, follows)))
       ∙ ap (λ qs. p ∷ qs)
       (filter_none (is_behind next) n.after
-      (all-weaker (λ (q : Part). id_number p.key < id_number q.key) (λ q. is_behind next q ≡ false) n.after (λ q more. behind_no next q (omega (arith, more, follows)))
+      (all_weaker (λ (q : Part). id_number p.key < id_number q.key) (λ q. is_behind next q ≡ false) n.after (λ q more. behind_no next q (omega (arith, more, follows)))
       (keys_after m n.before n.after p all_parts rising))))
 
   -- the greatest key is that of the last node
   pub last_place : id_number p.key + 1 ≡ 2 ^ 128 → nodes m s ≡ n.before ++ p ∷ []
-  last_place end = n.place ∙ ap (λ qs. n.before ++ p ∷ qs) (empty n.after (all-back (IsPart m) n.before (p ∷ n.after) all_parts).1 (keys_after m n.before n.after p all_parts rising))
+  last_place end = n.place ∙ ap (λ qs. n.before ++ p ∷ qs) (empty n.after (all_back (IsPart m) n.before (p ∷ n.after) all_parts).1 (keys_after m n.before n.after p all_parts rising))
     where
       empty : (qs : List Part) → AllByRecursion (IsPart m) qs → AllByRecursion (λ q. id_number p.key < id_number q.key) qs → qs ≡ []
       empty [] each more = refl
@@ -151,7 +151,7 @@ module _ (m mid : Blocks) (s : Log) (is : IsStream m s) (old new : PackedTree) (
     before_same = subst (λ ps. AreSame ps qs) (behind_here m s is at p n) same
 
     mine : IsPart m p
-    mine = (all-back (IsPart m) n.before (p ∷ n.after) (all_parts m s is at p n)).0
+    mine = (all_back (IsPart m) n.before (p ∷ n.after) (all_parts m s is at p n)).0
 
     is_node : IsNodeOf key bytes
     is_node = subst (λ b. IsNodeOf key b) (sym is_bytes) (subst (λ (k : Id). IsNodeOf k p.bytes) (sym is_key) mine.is_node)

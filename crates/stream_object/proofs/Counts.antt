@@ -20,7 +20,7 @@ use Rattle.rax_packed.specs.Packed.{order}
 use Rattle.rax_packed.specs.Trees.{Entry}
 use Rattle.rax_packed.proofs.Costs.{by_names}
 use Rattle.rax_packed.proofs.Depends.{packed_laws_hold}
-use Rattle.rax_packed.proofs.Entries.{all-weaker}
+use Rattle.rax_packed.proofs.Entries.{all_weaker}
 use Rattle.rax_packed.proofs.Passes.{pass_ended}
 use Rattle.stream_object.specs.Parts.{Part, IsPart, EndsBefore, Rising, entry_of, parts_of, HasParts}
 use Rattle.stream_object.specs.Relocation.{IsBounded, node_mark, entry_mark, tree_marks}
@@ -123,7 +123,7 @@ module _ (from : ℕ) (key : List ℕ) where
   ends : (low left : ℕ) (c : Cost) (cs : List Cost) → low ≤ mark c → left < 18 → AllByRecursion (λ d. mark c < mark d) cs → Counts from low left (c ∷ cs) (record { left = left; next = Some c.key })
   ends low left c cs upto full rises =
       let none : blocks_passed from (Some c.key) (c ∷ cs) ≡ 0 = blocks_none from c.key (c ∷ cs)
-      (omega arith, all-weaker (λ d. mark c < mark d) (λ d. mark c ≤ mark d) cs (λ d less. omega arith) rises) in
+      (omega arith, all_weaker (λ d. mark c < mark d) (λ d. mark c ≤ mark d) cs (λ d less. omega arith) rises) in
       record { all = omega (arith, none); on = λ k is. (let same : c.key ≡ k = cc in (subst (λ j. low ≤ number j) same upto, full, λ some. absurd (omega arith))) }
 
   counts_all : (low left : ℕ) (cs : List Cost) → AllByRecursion (IsKnown from key) cs → AllByRecursion (λ c. low ≤ mark c) cs → Rise cs → Counts from low left cs (goes left cs)
@@ -150,9 +150,9 @@ module _ (from : ℕ) (key : List ℕ) where
 
 -- The keys of a stream's tree.
 
-sum_by-map : {X Y : Type 0} (f : Y → ℕ) (g : X → Y) (xs : List X) → sum_by f (map g xs) ≡ sum_by (λ x. f (g x)) xs
-sum_by-map f g [] = refl
-sum_by-map f g (x ∷ xs) = omega (arith, sum_by-cons f (g x) (map g xs), sum_by-cons (λ x. f (g x)) x xs, sum_by-map f g xs)
+sum_by_map : {X Y : Type 0} (f : Y → ℕ) (g : X → Y) (xs : List X) → sum_by f (map g xs) ≡ sum_by (λ x. f (g x)) xs
+sum_by_map f g [] = refl
+sum_by_map f g (x ∷ xs) = omega (arith, sum_by-cons f (g x) (map g xs), sum_by-cons (λ x. f (g x)) x xs, sum_by_map f g xs)
 
 -- marks that rise among numbers
 abbrev Up : List ℕ → Type 0
@@ -163,7 +163,7 @@ parts_up : (m : Blocks) (ps : List Part) → AllByRecursion (IsPart m) ps → Ri
 parts_up m [] each rising = tt
 parts_up m (p ∷ ps) each rising = (
   all_map (λ k. id_number p.key < k) (λ (q : Part). id_number q.key) ps
-      (all-weaker (EndsBefore p) (λ q. id_number p.key < id_number q.key) ps (λ q ends. keys_rise m p q each.0 ends) rising.0),
+      (all_weaker (EndsBefore p) (λ q. id_number p.key < id_number q.key) ps (λ q ends. keys_rise m p q each.0 ends) rising.0),
   parts_up m ps each.1 rising.1,
 )
 
@@ -204,7 +204,7 @@ module _ (m : Blocks) (tree : PackedTree) (h : HasParts m tree (parts_of m tree)
   unfolding number
   known at is =
       let stands : List ℕ → Type 0 = λ k. order k (id_key at) ≡ nat_cmp (number k) (id_number at) in
-      let each = all-weaker (IsPart m) (λ (p : Part). stands (id_key p.key)) (parts_of m tree)
+      let each = all_weaker (IsPart m) (λ (p : Part). stands (id_key p.key)) (parts_of m tree)
       (λ p part. id_laws.bytes p.key at part.id is ∙ ap (λ n. nat_cmp n (id_number at)) (sym (ap id_number (id_laws.back p.key part.id)))) h.each in
       let entries = subst (AllByRecursion (λ (e : Entry). stands e.key)) (sym h.named) (all_map (λ (e : Entry). stands e.key) entry_of (parts_of m tree) each) in
       all_both (λ (c : Cost). stands c.key) (λ (c : Cost). c.blocks ≤ 18) (IsKnown (id_number at) (id_key at)) (costs_of m tree) (λ c order few. (order, few))
@@ -219,8 +219,8 @@ module _ (m : Blocks) (tree : PackedTree) (h : HasParts m tree (parts_of m tree)
         arith,
         packed_laws_hold.blocks m tree h.stands (λ k. is_passed from (next_mark next) (number k)),
         count_append test (map node_mark (rax.marks_of m tree)) (map entry_mark (rax.entries_of m tree)),
-        sum_by-map (λ n. cond (is_passed from (next_mark next) n) 1 0) node_mark (rax.marks_of m tree),
-        sum_by-map (λ n. cond (is_passed from (next_mark next) n) 1 0) entry_mark (rax.entries_of m tree),
+        sum_by_map (λ n. cond (is_passed from (next_mark next) n) 1 0) node_mark (rax.marks_of m tree),
+        sum_by_map (λ n. cond (is_passed from (next_mark next) n) 1 0) entry_mark (rax.entries_of m tree),
       )
 
   module _ (at : Id) (is : IsId at) (room : ℕ) (enough : 32 ≤ room) where

@@ -4,9 +4,9 @@ use Rattle.std.proofs.lemmas.List.{append-nil, map-append}
 use Rattle.std.specs.List.{AllByRecursion}
 use Rattle.blocks.specs.declared.BlockRef.{BlockRef}
 use Rattle.blocks.specs.Blocks.{Blocks, with_block, times, IsIn, Changes, Owned}
-use Rattle.blocks.proofs.Refs.{ref_eq-refl, with_block-same}
+use Rattle.blocks.proofs.Refs.{ref_eq_refl, with_block_same}
 use Rattle.blocks.proofs.Times.{times-append}
-use Rattle.blocks.proofs.Change.{one, one_if, live-once, live-is, Counts-ended, Counts-written, Changes-counted, Changes-beside, Changes-owned, Changes-then, Owned-others}
+use Rattle.blocks.proofs.Change.{one, one_if, live_once, live_is_in_change, counts_ended, counts_written, changes_counted, changes_beside, changes_owned, changes_then, owned_others}
 use Rattle.stream_node.specs.declared.id.Id.{Id}
 use Rattle.stream_node.specs.Ids.{IsId, id_key}
 use Rattle.rax_packed.specs.declared.tree.PackedTree.{PackedTree}
@@ -14,20 +14,20 @@ use Rattle.rax_packed.specs.Laws.{Stays}
 use Rattle.rax_packed.specs.Packed.{with_entry, without, value_at}
 use Rattle.rax_packed.specs.Maps as rax
 use Rattle.rax_packed.proofs.Depends.{packed_laws_hold}
-use Rattle.rax_packed.proofs.Entries.{all-front, all-back}
+use Rattle.rax_packed.proofs.Entries.{all_front, all_back}
 use Rattle.stream_object.specs.Parts.{Part, part, IsNodeOf, IsPart, Rising, entry_of, refs_of, HasParts}
 use Rattle.stream_object.specs.Block.{Holds, IsPut}
 use Rattle.stream_object.specs.Found.{Stands, Exchanges}
 use Rattle.stream_object.proofs.Holdings.{pack_front}
-use Rattle.stream_object.proofs.Parts.{rising_without, exchanged, times-refs, value_there, with_there, without_there, with_last}
+use Rattle.stream_object.proofs.Parts.{rising_without, exchanged, times_refs, value_there, with_there, without_there, with_last}
 
 -- what others own stays
 pub outside : (a b : Blocks) (xs ys zs : List BlockRef) → Owned (xs ++ zs) a → Changes a b xs ys → (r : BlockRef) → IsIn r zs → b r ≡ a r
 outside a b xs ys zs own c r isin =
-    Owned-others a b xs ys (xs ++ zs) own c r (omega (arith, isin, times-append r xs zs)) (omega (arith, isin, own r, times-append r xs zs, live-once a r))
+    owned_others a b xs ys (xs ++ zs) own c r (omega (arith, isin, times-append r xs zs)) (omega (arith, isin, own r, times-append r xs zs, live_once a r))
 
 pub counts_itself : (r : BlockRef) → one r r ≡ 1
-counts_itself r = ap one_if (ref_eq-refl r)
+counts_itself r = ap one_if (ref_eq_refl r)
 
 -- the tree stays where others change their blocks
 pub tree_stays : (a b : Blocks) (tree : PackedTree) (xs ys : List BlockRef) → Owned (rax.refs_of a tree ++ xs) a → Changes a b xs ys → Stays a b tree
@@ -35,15 +35,15 @@ tree_stays a b tree xs ys own c = packed_laws_hold.others a b tree xs ys own c
 
 -- a block is given back that was owned beside the tree's and some others
 pub was_live : (m mid : Blocks) (tree : PackedTree) (old others : List BlockRef) (was : BlockRef) → Changes m mid old (was ∷ (rax.refs_of mid tree ++ others)) → IsSome (mid was)
-was_live m mid tree old others was c = live-is mid was (omega (arith, Changes-owned m mid old (was ∷ (rax.refs_of mid tree ++ others)) c was, counts_itself was))
+was_live m mid tree old others was c = live_is_in_change mid was (omega (arith, changes_owned m mid old (was ∷ (rax.refs_of mid tree ++ others)) c was, counts_itself was))
 
 module _ (m mid after : Blocks) (tree : PackedTree) (old others : List BlockRef) (was : BlockRef) (c : Changes m mid old (was ∷ (rax.refs_of mid tree ++ others)))
     (is : after ≡ with_block mid was None) where
   own_mid : Owned (was ∷ (rax.refs_of mid tree ++ others)) mid
-  own_mid = Changes-owned m mid old (was ∷ (rax.refs_of mid tree ++ others)) c
+  own_mid = changes_owned m mid old (was ∷ (rax.refs_of mid tree ++ others)) c
 
   only : Changes mid after (was ∷ []) []
-  only = Changes-counted mid after (was ∷ []) [] (λ r. omega (arith, own_mid r)) (Counts-ended mid after was (was ∷ []) [] (was_live m mid tree old others was c) is (λ r. omega arith))
+  only = changes_counted mid after (was ∷ []) [] (λ r. omega (arith, own_mid r)) (counts_ended mid after was (was ∷ []) [] (was_live m mid tree old others was c) is (λ r. omega arith))
 
   still : Stays mid after tree
   still = tree_stays mid after tree (was ∷ []) [] (λ r. omega (arith, own_mid r, times-append r (rax.refs_of mid tree) (was ∷ []), times-append r (rax.refs_of mid tree) others)) only
@@ -60,20 +60,20 @@ module _ (m mid after : Blocks) (tree : PackedTree) (old others : List BlockRef)
   pub ended_changes : Changes m after old (rax.refs_of after tree ++ others)
   ended_changes =
       let last : Changes mid after (was ∷ (rax.refs_of mid tree ++ others)) (rax.refs_of mid tree ++ others) =
-      Changes-beside mid after (was ∷ []) [] (was ∷ (rax.refs_of mid tree ++ others)) (rax.refs_of mid tree ++ others) only own_mid (λ r. times r (rax.refs_of mid tree ++ others))
+      changes_beside mid after (was ∷ []) [] (was ∷ (rax.refs_of mid tree ++ others)) (rax.refs_of mid tree ++ others) only own_mid (λ r. times r (rax.refs_of mid tree ++ others))
       (λ r. omega arith) (λ r. omega arith) in
-      subst (λ rs. Changes m after old (rs ++ others)) (sym still.refs_are) (Changes-then m mid after old (was ∷ (rax.refs_of mid tree ++ others)) (rax.refs_of mid tree ++ others) c last)
+      subst (λ rs. Changes m after old (rs ++ others)) (sym still.refs_are) (changes_then m mid after old (was ∷ (rax.refs_of mid tree ++ others)) (rax.refs_of mid tree ++ others) c last)
 
 -- the tree changes beside some others' blocks
 pub beside_tree : (a b : Blocks) (old new : PackedTree) (xs : List BlockRef) → Owned (rax.refs_of a old ++ xs) a → Changes a b (rax.refs_of a old) (rax.refs_of b new)
     → Changes a b (rax.refs_of a old ++ xs) (rax.refs_of b new ++ xs)
 beside_tree a b old new xs own c =
-    Changes-beside a b (rax.refs_of a old) (rax.refs_of b new) (rax.refs_of a old ++ xs) (rax.refs_of b new ++ xs) c own (λ r. times r xs) (λ r. times-append r (rax.refs_of a old) xs)
+    changes_beside a b (rax.refs_of a old) (rax.refs_of b new) (rax.refs_of a old ++ xs) (rax.refs_of b new ++ xs) c own (λ r. times r xs) (λ r. times-append r (rax.refs_of a old) xs)
     (λ r. times-append r (rax.refs_of b new) xs)
 
 -- the same references in another order
 reordered : (a b : Blocks) (xs ys us vs : List BlockRef) → Owned xs a → Changes a b xs ys → ((r : BlockRef) → times r us ≡ times r xs) → ((r : BlockRef) → times r vs ≡ times r ys) → Changes a b us vs
-reordered a b xs ys us vs own c old new = Changes-beside a b xs ys us vs c (λ r. omega (arith, own r, old r)) (λ r. 0) (λ r. omega (arith, old r)) (λ r. omega (arith, new r))
+reordered a b xs ys us vs own c old new = changes_beside a b xs ys us vs c (λ r. omega (arith, own r, old r)) (λ r. 0) (λ r. omega (arith, old r)) (λ r. omega (arith, new r))
 
 -- a block is placed beside the tree
 module _ (m mid : Blocks) (tree : PackedTree) (xs : List BlockRef) (at : BlockRef) (bytes : List ℕ) (own : Owned (rax.refs_of m tree ++ xs) m) (sound : rax.IsSound m tree)
@@ -88,12 +88,12 @@ module _ (m mid : Blocks) (tree : PackedTree) (xs : List BlockRef) (at : BlockRe
   placed_entries = before_tree.entries_are
 
   pub placed_block : mid at ≡ Some bytes
-  placed_block = ap (λ (b : Blocks). b at) is ∙ with_block-same m at (Some bytes)
+  placed_block = ap (λ (b : Blocks). b at) is ∙ with_block_same m at (Some bytes)
 
   pub placed_changes : Changes m mid (rax.refs_of m tree ++ xs) (rax.refs_of mid tree ++ (at ∷ xs))
   placed_changes =
       subst (λ rs. Changes m mid (rax.refs_of m tree ++ xs) (rs ++ (at ∷ xs))) (sym before_tree.refs_are)
-      (Changes-beside m mid [] (at ∷ []) (rax.refs_of m tree ++ xs) (rax.refs_of m tree ++ (at ∷ xs)) c own (λ r. times r (rax.refs_of m tree ++ xs)) (λ r. omega arith)
+      (changes_beside m mid [] (at ∷ []) (rax.refs_of m tree ++ xs) (rax.refs_of m tree ++ (at ∷ xs)) c own (λ r. times r (rax.refs_of m tree ++ xs)) (λ r. omega arith)
       (λ r. omega (arith, times-append r (rax.refs_of m tree) (at ∷ xs), times-append r (rax.refs_of m tree) xs)))
 
 -- a node comes behind all others
@@ -114,9 +114,9 @@ module _ (m mid after : Blocks) (old new : PackedTree) (ps : List Part) (key : I
   pub comes : rax.IsSound after new → rax.entries_of after new ≡ with_entry (rax.entries_of mid old) (id_key key) at → Changes mid after (rax.refs_of mid old) (rax.refs_of after new)
       → IsNodeOf key bytes → Rising (ps ++ part key at bytes ∷ []) → Exchanges m after old new (ps ++ part key at bytes ∷ [])
   comes sound inserted changes is_node rising =
-      let own = Changes-owned m mid (rax.refs_of m old ++ []) (rax.refs_of mid old ++ (at ∷ [])) first in
+      let own = changes_owned m mid (rax.refs_of m old ++ []) (rax.refs_of mid old ++ (at ∷ [])) first in
       let second = beside_tree mid after old new (at ∷ []) own changes in
-      let core = Changes-then m mid after (rax.refs_of m old ++ []) (rax.refs_of mid old ++ (at ∷ [])) (rax.refs_of after new ++ (at ∷ [])) first second in
+      let core = changes_then m mid after (rax.refs_of m old ++ []) (rax.refs_of mid old ++ (at ∷ [])) (rax.refs_of after new ++ (at ∷ [])) first second in
       let there : after at ≡ Some block = outside mid after (rax.refs_of mid old) (rax.refs_of after new) (at ∷ []) own changes at (omega (arith, counts_itself at))
       ∙ placed_block m mid old [] at block own_tree h.stands is.put c in
       let held : Holds after at bytes = record { block = block; there = there; begins = pack_front bytes is.spare is_node.pack } in
@@ -133,10 +133,10 @@ module _ (m : Blocks) (old : PackedTree) (ps : List Part) (key : Id) (was : Bloc
   parts = subst (HasParts m old) s.place h
 
   front : AllByRecursion (IsPart m) s.before
-  front = all-front (IsPart m) s.before (part key was s.bytes ∷ s.after) parts.each
+  front = all_front (IsPart m) s.before (part key was s.bytes ∷ s.after) parts.each
 
   back : IsPart m (part key was s.bytes) × AllByRecursion (IsPart m) s.after
-  back = all-back (IsPart m) s.before (part key was s.bytes ∷ s.after) parts.each
+  back = all_back (IsPart m) s.before (part key was s.bytes ∷ s.after) parts.each
 
   pub stands_id : IsId key
   stands_id = back.0.id
@@ -157,7 +157,7 @@ module _ (m : Blocks) (old : PackedTree) (ps : List Part) (key : Id) (was : Bloc
         parts.owned r,
         times-append r (rax.refs_of m old) (was ∷ []),
         times-append r (rax.refs_of m old) (refs_of (s.before ++ part key was s.bytes ∷ s.after)),
-        times-refs r s.before (part key was s.bytes ∷ s.after),
+        times_refs r s.before (part key was s.bytes ∷ s.after),
       )
 
   -- it goes
@@ -197,12 +197,12 @@ module _ (m : Blocks) (old : PackedTree) (ps : List Part) (key : Id) (was : Bloc
     module _ (sound : rax.IsSound later new) (set : rax.entries_of later new ≡ with_entry (rax.entries_of mid old) (id_key key) at)
         (change : Changes mid later (rax.refs_of mid old) (rax.refs_of later new)) where
       own_placed : Owned (rax.refs_of mid old ++ (at ∷ (was ∷ []))) mid
-      own_placed = Changes-owned m mid (rax.refs_of m old ++ (was ∷ [])) (rax.refs_of mid old ++ (at ∷ (was ∷ []))) placing
+      own_placed = changes_owned m mid (rax.refs_of m old ++ (was ∷ [])) (rax.refs_of mid old ++ (at ∷ (was ∷ []))) placing
 
       setting : Changes m later (rax.refs_of m old ++ (was ∷ [])) (was ∷ (rax.refs_of later new ++ (at ∷ [])))
       setting =
           reordered m later (rax.refs_of m old ++ (was ∷ [])) (rax.refs_of later new ++ (at ∷ (was ∷ []))) (rax.refs_of m old ++ (was ∷ [])) (was ∷ (rax.refs_of later new ++ (at ∷ []))) own_was
-          (Changes-then m mid later (rax.refs_of m old ++ (was ∷ [])) (rax.refs_of mid old ++ (at ∷ (was ∷ []))) (rax.refs_of later new ++ (at ∷ (was ∷ []))) placing
+          (changes_then m mid later (rax.refs_of m old ++ (was ∷ [])) (rax.refs_of mid old ++ (at ∷ (was ∷ []))) (rax.refs_of later new ++ (at ∷ (was ∷ []))) placing
           (beside_tree mid later old new (at ∷ (was ∷ [])) own_placed change))
           (λ r. refl) (λ r. omega (arith, times-append r (rax.refs_of later new) (at ∷ []), times-append r (rax.refs_of later new) (at ∷ (was ∷ []))))
 
@@ -229,8 +229,8 @@ module _ (m : Blocks) (old : PackedTree) (ps : List Part) (key : Id) (was : Bloc
   module _ (after : Blocks) (bytes : List ℕ) (is : IsPut m after was bytes) where
     written : Changes m after (was ∷ []) (was ∷ [])
     written =
-        Changes-counted m after (was ∷ []) (was ∷ []) (λ r. omega (arith, own_was r, times-append r (rax.refs_of m old) (was ∷ [])))
-        (Counts-written m after was (bytes ++ is.spare) (was ∷ []) (was ∷ []) (ap is_some stands_block.there) is.put (omega (arith, counts_itself was)) (λ r. refl))
+        changes_counted m after (was ∷ []) (was ∷ []) (λ r. omega (arith, own_was r, times-append r (rax.refs_of m old) (was ∷ [])))
+        (counts_written m after was (bytes ++ is.spare) (was ∷ []) (was ∷ []) (ap is_some stands_block.there) is.put (omega (arith, counts_itself was)) (λ r. refl))
 
     settled : Stays m after old
     settled = tree_stays m after old (was ∷ []) (was ∷ []) own_was written
@@ -243,12 +243,12 @@ module _ (m : Blocks) (old : PackedTree) (ps : List Part) (key : Id) (was : Bloc
     over : Changes m after (rax.refs_of m old ++ (was ∷ [])) (rax.refs_of after old ++ (was ∷ []))
     over =
         subst (λ rs. Changes m after (rax.refs_of m old ++ (was ∷ [])) (rs ++ (was ∷ []))) (sym settled.refs_are)
-        (Changes-beside m after (was ∷ []) (was ∷ []) (rax.refs_of m old ++ (was ∷ [])) (rax.refs_of m old ++ (was ∷ [])) written own_was (λ r. times r (rax.refs_of m old))
+        (changes_beside m after (was ∷ []) (was ∷ []) (rax.refs_of m old ++ (was ∷ [])) (rax.refs_of m old ++ (was ∷ [])) written own_was (λ r. times r (rax.refs_of m old))
         (λ r. omega (arith, times-append r (rax.refs_of m old) (was ∷ []))) (λ r. omega (arith, times-append r (rax.refs_of m old) (was ∷ []))))
 
     pub rewritten : IsNodeOf key bytes → Rising (s.before ++ part key was bytes ∷ s.after) → Exchanges m after old old (s.before ++ part key was bytes ∷ s.after)
     rewritten is_node rising =
-        let there : after was ≡ Some (bytes ++ is.spare) = ap (λ (b : Blocks). b was) is.put ∙ with_block-same m was (Some (bytes ++ is.spare)) in
+        let there : after was ≡ Some (bytes ++ is.spare) = ap (λ (b : Blocks). b was) is.put ∙ with_block_same m was (Some (bytes ++ is.spare)) in
         let held : Holds after was bytes = record { block = bytes ++ is.spare; there = there; begins = pack_front bytes is.spare is_node.pack } in
         exchanged m after old old s.before (part key was s.bytes ∷ []) (part key was bytes ∷ []) s.after parts over (settled.sound h.stands) named
         (record { id = stands_id; block = held; is_node = is_node }, tt) rising

@@ -15,7 +15,7 @@ use Rattle.stream_node.specs.Ids.{IsId, id_number}
 use Rattle.stream_node.specs.Room.{pair_bytes, alone_len}
 use Rattle.stream_node.proofs.Rooms.{room_enough}
 use Rattle.rax_packed.specs.declared.tree.PackedTree.{PackedTree}
-use Rattle.rax_packed.proofs.Entries.{all-append, all-front, all-back, all-weaker}
+use Rattle.rax_packed.proofs.Entries.{all-append, all_front, all_back, all_weaker}
 use Rattle.stream_object.specs.declared.stream.Stream.{Stream as Log}
 use Rattle.stream_object.specs.declared.tail.Tail.{Tail}
 use Rattle.stream_object.specs.Parts.{Part, part, stored_in, plain, live_of, live_in, entries_in, IsPart, EndsBefore, Rising, parts_of, all_refs, HasParts}
@@ -24,7 +24,7 @@ use Rattle.stream_object.specs.Node.{put, IsGrown}
 use Rattle.stream_object.specs.Streams.{nodes, entries, refs, AreUpto, AreBelow, IsStream, IsChanged, IsAddable, Grows, stream_of, appended, added}
 use Rattle.stream_object.specs.Tail.{IsTail, IsKept}
 use Rattle.stream_object.proofs.Parts.{parts_are, its_own}
-use Rattle.stream_object.proofs.Marking.{live-append, live-one}
+use Rattle.stream_object.proofs.Marking.{live_append, live_one_in_marking}
 
 -- a node behind all others
 pub rising_push : (ps : List Part) (q : Part) → Rising ps → AllByRecursion (λ p. EndsBefore p q) ps → Rising (ps ++ q ∷ [])
@@ -36,17 +36,17 @@ pub rising_again : (before after : List Part) (p q : Part) → q.key ≡ p.key �
 rising_again [] after p q same ends r = (ends, r.1)
 rising_again (x ∷ before) after p q same ends r =
     let all = r.0 in
-    let back = all-back (EndsBefore x) before (p ∷ after) all in
+    let back = all_back (EndsBefore x) before (p ∷ after) all in
     let here = subst (λ (k : Id). AllByRecursion (λ (e : Stored). id_number e.id < id_number k) (stored_in x)) (sym same) back.0 in
-    (all-append (EndsBefore x) before (q ∷ after) (all-front (EndsBefore x) before (p ∷ after) all) (here, back.1), rising_again before after p q same ends r.1)
+    (all-append (EndsBefore x) before (q ∷ after) (all_front (EndsBefore x) before (p ∷ after) all) (here, back.1), rising_again before after p q same ends r.1)
 
-pub entries-append : (xs ys : List Part) → entries_in (xs ++ ys) ≡ entries_in xs ++ entries_in ys
-entries-append xs ys = flat_map-append live_in xs ys
+pub entries_append : (xs ys : List Part) → entries_in (xs ++ ys) ≡ entries_in xs ++ entries_in ys
+entries_append xs ys = flat_map-append live_in xs ys
 
 -- below is up to
 below_upto : (id : Id) (ps : List Part) → AreBelow id ps → AreUpto id ps
 below_upto id [] h = tt
-below_upto id (p ∷ ps) h = (all-weaker (λ (e : Stored). id_number e.id < id_number id) (λ e. id_number e.id ≤ id_number id) (stored_in p) (λ e less. omega arith) h.0, below_upto id ps h.1)
+below_upto id (p ∷ ps) h = (all_weaker (λ (e : Stored). id_number e.id < id_number id) (λ e. id_number e.id ≤ id_number id) (stored_in p) (λ e less. omega arith) h.0, below_upto id ps h.1)
 
 module _ (m after : Blocks) (old new : PackedTree) (id : Id) (pairs : List Pair) (bytes : List ℕ) where
   pub comes_grows : (at : BlockRef) → HasParts m old (parts_of m old) → AreBelow id (parts_of m old) → IsGrown id [] bytes id pairs → Comes m after old new id bytes at
@@ -55,11 +55,11 @@ module _ (m after : Blocks) (old new : PackedTree) (id : Id) (pairs : List Pair)
       let ps = parts_of m old in
       let q = part id at bytes in
       let now = comes g.is_node (rising_push ps q h.rising below) in
-      let one : live_in q ≡ plain (put id pairs) ∷ [] = ap live_of g.entries_are ∙ live-one (put id pairs) refl in
+      let one : live_in q ≡ plain (put id pairs) ∷ [] = ap live_of g.entries_are ∙ live_one_in_marking (put id pairs) refl in
       record {
         parts = ps ++ q ∷ [];
         exchanges = now;
-        entries_are = entries-append ps (q ∷ []) ∙ ap (λ xs. entries_in ps ++ xs) (append-nil (live_in q) ∙ one);
+        entries_are = entries_append ps (q ∷ []) ∙ ap (λ xs. entries_in ps ++ xs) (append-nil (live_in q) ∙ one);
         upto = all-append (λ (p : Part). AllByRecursion (λ e. id_number e.id ≤ id_number id) (stored_in p)) ps (q ∷ []) (below_upto id ps below)
             (subst (AllByRecursion (λ e. id_number e.id ≤ id_number id)) (sym g.entries_are) (omega arith, tt), tt);
         ends = (bytes, record { before = ps; place = refl });
@@ -75,20 +75,20 @@ module _ (m after : Blocks) (old new : PackedTree) (id : Id) (pairs : List Pair)
       let under = subst (AreBelow id) place below in
       let q = part key new_at bytes in
       let now = becomes s g.is_node (rising_again before [] p q refl tt rising) in
-      let more : live_in q ≡ live_in p ++ plain (put id pairs) ∷ [] = ap live_of g.entries_are ∙ live-append (stored_in p) (put id pairs ∷ [])
-      ∙ ap (λ xs. live_in p ++ xs) (live-one (put id pairs) refl) in
-      let front = all-front (λ (x : Part). AllByRecursion (λ e. id_number e.id < id_number id) (stored_in x)) before (p ∷ []) under in
-      let back = all-back (λ (x : Part). AllByRecursion (λ e. id_number e.id < id_number id) (stored_in x)) before (p ∷ []) under in
+      let more : live_in q ≡ live_in p ++ plain (put id pairs) ∷ [] = ap live_of g.entries_are ∙ live_append (stored_in p) (put id pairs ∷ [])
+      ∙ ap (λ xs. live_in p ++ xs) (live_one_in_marking (put id pairs) refl) in
+      let front = all_front (λ (x : Part). AllByRecursion (λ e. id_number e.id < id_number id) (stored_in x)) before (p ∷ []) under in
+      let back = all_back (λ (x : Part). AllByRecursion (λ e. id_number e.id < id_number id) (stored_in x)) before (p ∷ []) under in
       record {
         parts = before ++ q ∷ [];
         exchanges = now;
         entries_are =
-            entries-append before (q ∷ []) ∙ ap (λ xs. entries_in before ++ xs) (append-nil (live_in q) ∙ more) ∙ sym (append_assoc (entries_in before) (live_in p) (plain (put id pairs) ∷ []))
-            ∙ ap (λ xs. xs ++ plain (put id pairs) ∷ []) (sym (ap entries_in place ∙ entries-append before (p ∷ []) ∙ ap (λ xs. entries_in before ++ xs) (append-nil (live_in p))));
+            entries_append before (q ∷ []) ∙ ap (λ xs. entries_in before ++ xs) (append-nil (live_in q) ∙ more) ∙ sym (append_assoc (entries_in before) (live_in p) (plain (put id pairs) ∷ []))
+            ∙ ap (λ xs. xs ++ plain (put id pairs) ∷ []) (sym (ap entries_in place ∙ entries_append before (p ∷ []) ∙ ap (λ xs. entries_in before ++ xs) (append-nil (live_in p))));
         upto = all-append (λ (x : Part). AllByRecursion (λ e. id_number e.id ≤ id_number id) (stored_in x)) before (q ∷ []) (below_upto id before front) (
           subst (AllByRecursion (λ e. id_number e.id ≤ id_number id)) (sym g.entries_are)
               (all-append (λ e. id_number e.id ≤ id_number id) (stored_in p) (put id pairs ∷ [])
-              (all-weaker (λ (e : Stored). id_number e.id < id_number id) (λ e. id_number e.id ≤ id_number id) (stored_in p) (λ e less. omega arith) back.0) (omega arith, tt)),
+              (all_weaker (λ (e : Stored). id_number e.id < id_number id) (λ e. id_number e.id ≤ id_number id) (stored_in p) (λ e less. omega arith) back.0) (omega arith, tt)),
           tt,
         );
         ends = (bytes, record { before = before; place = refl });
@@ -103,16 +103,16 @@ pub last_place : (m : Blocks) (tree : PackedTree) (top : Id) (p : Part) → top.
     → (n : IsNear false (parts_of m tree) top p) → parts_of m tree ≡ n.before ++ p ∷ []
 last_place m tree top p a b h n =
     let each = subst (AllByRecursion (IsPart m)) n.place h.each in
-    let after = none_beyond m top a b n.after (all-back (IsPart m) n.before (p ∷ n.after) each).1 n.passes in
+    let after = none_beyond m top a b n.after (all_back (IsPart m) n.before (p ∷ n.after) each).1 n.passes in
     n.place ∙ ap (λ xs. n.before ++ p ∷ xs) after
 
 -- what holds of the node that was found
 pub near_part : (m : Blocks) (tree : PackedTree) (ps before after : List Part) (p : Part) → HasParts m tree ps → ps ≡ before ++ p ∷ after → IsPart m p
-near_part m tree ps before after p h place = (all-back (IsPart m) before (p ∷ after) (subst (AllByRecursion (IsPart m)) place h.each)).0
+near_part m tree ps before after p h place = (all_back (IsPart m) before (p ∷ after) (subst (AllByRecursion (IsPart m)) place h.each)).0
 
 pub near_below : (id : Id) (ps before after : List Part) (p : Part) → AreBelow id ps → ps ≡ before ++ p ∷ after → AllByRecursion (λ e. id_number e.id < id_number id) (stored_in p)
 near_below id ps before after p below place =
-    (all-back (λ (x : Part). AllByRecursion (λ e. id_number e.id < id_number id) (stored_in x)) before (p ∷ after) (subst (AreBelow id) place below)).0
+    (all_back (λ (x : Part). AllByRecursion (λ e. id_number e.id < id_number id) (stored_in x)) before (p ∷ after) (subst (AreBelow id) place below)).0
 
 -- the stream of such nodes
 module _ (m after : Blocks) (old new : Log) (id : Id) (pairs : List Pair) (tail : Tail) (is : IsStream m old) (fits : IsId id) (g : Grows m after old.tree new.tree id pairs tail)
@@ -167,7 +167,7 @@ counted_added m after old mid new id pairs c same tree len last deleted groups t
 pub all_below : (last id : Id) → id_number last < id_number id → (ps : List Part) → AreUpto last ps → AreBelow id ps
 all_below last id less [] h = tt
 all_below last id less (p ∷ ps) h =
-    (all-weaker (λ (e : Stored). id_number e.id ≤ id_number last) (λ e. id_number e.id < id_number id) (stored_in p) (λ e upto. omega (arith, less)) h.0, all_below last id less ps h.1)
+    (all_weaker (λ (e : Stored). id_number e.id ≤ id_number last) (λ e. id_number e.id < id_number id) (stored_in p) (λ e upto. omega (arith, less)) h.0, all_below last id less ps h.1)
 
 -- an entry that may be added is short enough alone
 told : (pairs : List Pair) → sum_by pair_bytes pairs ≡ sum_by (λ (p : Pair). length p.0 + length p.1) pairs + 20 * length pairs

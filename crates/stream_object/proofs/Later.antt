@@ -9,7 +9,7 @@ use Rattle.std.proofs.lemmas.Bool.{cases_lt}
 use Rattle.stream_groups.specs.Groups.{Group, Groups, id_cmp, last_of, changed, changed_from, delivered}
 use Rattle.stream_node.specs.declared.id.Id.{Id}
 use Rattle.stream_node.specs.Ids.{IsId, id_number}
-use Rattle.stream_node.proofs.Ids.{cmp-less, cmp-equal, cmp-greater}
+use Rattle.stream_node.proofs.Ids.{cmp_less, cmp_equal, cmp_greater}
 use Rattle.plain_world.specs.Streams.{Stream, StreamEntry}
 use Rattle.stream_object.specs.declared.owned.Owned.{Owned}
 use Rattle.stream_object.specs.Streams.{pair_of}
@@ -28,7 +28,7 @@ below_end : (id : Id) → IsId id → id_number id < 2 ^ 128
 below_end id fits = omega (arith, fits.ms, fits.seq)
 
 pub not_less : (a b : ℕ) → b ≤ a → is_lt (nat_cmp a b) ≡ false
-not_less a b h = elim (cases_lt b a) [ inl more ↦ ap is_lt (cmp-greater a b more) | inr also ↦ ap is_lt (cmp-equal a b (omega arith)) ]
+not_less a b h = elim (cases_lt b a) [ inl more ↦ ap is_lt (cmp_greater a b more) | inr also ↦ ap is_lt (cmp_equal a b (omega arith)) ]
 
 module _ (last : Id) (fits : IsId last) where
   -- the entries above an id are those from the next one on
@@ -40,9 +40,9 @@ module _ (last : Id) (fits : IsId last) where
         elim (cases_lt (id_number last) (id_number (id_of e))) [
           | inl more ↦
               (λ i. not ((ap is_lt (pair_cmp (id_of e) from x ff) ∙ not_less (id_number (id_of e)) (id_number from) (omega (arith, next, more))) i) && not (upper i))
-              ∙ sym (ap is_lt (pair_cmp last (id_of e) fits x ∙ cmp-less (id_number last) (id_number (id_of e)) more))
+              ∙ sym (ap is_lt (pair_cmp last (id_of e) fits x ∙ cmp_less (id_number last) (id_number (id_of e)) more))
           | inr upto ↦
-              (λ i. not ((ap is_lt (pair_cmp (id_of e) from x ff ∙ cmp-less (id_number (id_of e)) (id_number from) (omega (arith, next, upto)))) i) && not (upper i))
+              (λ i. not ((ap is_lt (pair_cmp (id_of e) from x ff ∙ cmp_less (id_number (id_of e)) (id_number from) (omega (arith, next, upto)))) i) && not (upper i))
               ∙ sym (ap is_lt (pair_cmp last (id_of e) fits x) ∙ not_less (id_number last) (id_number (id_of e)) upto)
         ]
 

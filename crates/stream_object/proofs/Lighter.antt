@@ -21,7 +21,7 @@ use Rattle.stream_node.proofs.Markings.{found, place_is, element_at}
 use Rattle.stream_node.proofs.ReadBack.{count_back}
 use Rattle.stream_node.proofs.Same.{fits_count, few_flags}
 use Rattle.stream_node.proofs.Sizes.{few_texts}
-use Rattle.stream_node.proofs.Written.{length-pack}
+use Rattle.stream_node.proofs.Written.{length_pack}
 use Rattle.stream_object.proofs.Shortest.{no_bytes}
 
 pub some_back : (n : ℕ) → 1 ≤ length (back_length n)
@@ -87,7 +87,7 @@ mark_lighter key pack index p can few short =
     let j = set_heavy first 1 (spelling (number b)) two i in
     omega (
       arith,
-      length-pack pack p,
+      length_pack pack p,
       set_lighter ss 0 (spelling (number a)) one h,
       set_lighter first 1 (spelling (number b)) two i,
       set_lighter second (flags_at list index)

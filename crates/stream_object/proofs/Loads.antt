@@ -4,7 +4,7 @@ use Rattle.std.specs.Prelude.{◌↔◌, Bool, IsTrue, Some, None, Result, Ok, E
 use Rattle.std.specs.List.{AllByRecursion}
 use Rattle.std.proofs.lemmas.List.{append-nil, take_at}
 use Rattle.blocks.specs.Blocks.{Blocks, Changes}
-use Rattle.blocks.proofs.Change.{Changes-same, Changes-then}
+use Rattle.blocks.proofs.Change.{changes_same, changes_then}
 use Rattle.stream_node.specs.declared.id.Id.{Id}
 use Rattle.stream_node.specs.declared.entry.Entry.{Entry}
 use Rattle.stream_node.specs.Entries.{IsNode, entries_of}
@@ -14,7 +14,7 @@ use Rattle.stream_node.specs.Node.{Begins}
 use Rattle.stream_node.specs.View.{stored}
 use Rattle.stream_node.proofs.Ids.{id_laws}
 use Rattle.stream_node.proofs.Same.{same_id}
-use Rattle.rax_packed.proofs.Entries.{all-back, all-weaker}
+use Rattle.rax_packed.proofs.Entries.{all_back, all_weaker}
 use Rattle.plain_world.specs.Streams.{Stream}
 use Rattle.stream_object.specs.declared.stream.Stream.{Stream as Log}
 use Rattle.stream_object.specs.Loading.{AreAbove, last_of, loaded}
@@ -23,7 +23,7 @@ use Rattle.stream_object.specs.Parts.{Part, stored_in, plain, live_of}
 use Rattle.stream_object.specs.Streams.{AreBelow, AreUpto, IsStream, IsChanged, appended, entries, nodes, pair_of, refs, stream_of}
 use Rattle.stream_object.proofs.Grows.{all_below}
 use Rattle.stream_object.proofs.Losing.{Sorted, sorted_split}
-use Rattle.stream_object.proofs.Marking.{live-append, live-one, live-none, node_ids}
+use Rattle.stream_object.proofs.Marking.{live_append, live_one_in_marking, live_none_in_marking, node_ids}
 use Rattle.stream_object.proofs.Parts.{refs_are}
 
 pub last-append : (last : ℕ × ℕ) (es : List Stored) (e : Stored) → last_of last (es ++ e ∷ []) ≡ pair_of e.id
@@ -38,7 +38,7 @@ on_ok (Err e) f p = tt
 loaded_more : (s : Stream) (es : List Stored) (e : Stored) → loaded (loaded s es) (e ∷ []) ≡ loaded s (es ++ e ∷ [])
 loaded_more s es e =
     let seen : (s.entries ++ live_of es) ++ live_of (e ∷ []) ≡ s.entries ++ live_of (es ++ e ∷ []) =
-    append_assoc s.entries (live_of es) (live_of (e ∷ [])) ∙ ap (λ xs. s.entries ++ xs) (sym (live-append es (e ∷ []))) in
+    append_assoc s.entries (live_of es) (live_of (e ∷ [])) ∙ ap (λ xs. s.entries ++ xs) (sym (live_append es (e ∷ []))) in
     λ i. record s { entries = seen i; last = sym (last-append s.last es e) i }
 
 loaded_no : (s : Stream) → loaded s [] ≡ s
@@ -49,7 +49,7 @@ pub loaded_none : (m : Blocks) (s : Log) → IsStream m s → IsChanged m m s s 
 loaded_none m s is = record {
   is_stream = is;
   value_is = sym (loaded_no (stream_of m s));
-  changes = subst (λ rs. Changes m m rs rs) (sym (refs_are m s.tree (nodes m s) is.parts)) (Changes-same m _ is.parts.owned);
+  changes = subst (λ rs. Changes m m rs rs) (sym (refs_are m s.tree (nodes m s) is.parts)) (changes_same m _ is.parts.owned);
 }
 
 pub loaded_then : (a b c : Blocks) (old mid new : Log) (es : List Stored) (e : Stored) → IsChanged a b old mid (loaded (stream_of a old) es)
@@ -57,7 +57,7 @@ pub loaded_then : (a b c : Blocks) (old mid new : Log) (es : List Stored) (e : S
 loaded_then a b c old mid new es e x y = record {
   is_stream = y.is_stream;
   value_is = y.value_is ∙ ap (λ s. loaded s (e ∷ [])) x.value_is ∙ loaded_more (stream_of a old) es e;
-  changes = Changes-then a b c (refs a old) (refs b mid) (refs c new) x.changes y.changes;
+  changes = changes_then a b c (refs a old) (refs b mid) (refs c new) x.changes y.changes;
 }
 
 -- an entry that is marked deleted
@@ -67,21 +67,21 @@ marked_loaded m old new e is fits below gone now =
     subst (λ s. IsChanged m m old s (loaded (stream_of m old) (e ∷ []))) (sym now) (record {
       is_stream = record { parts = is.parts; counted = is.counted; fits = fits; upto = upto (nodes m old) below; kept = is.kept };
       value_is = λ i. record (stream_of m old) { entries = seen i; last = pair_of e.id };
-      changes = subst (λ rs. Changes m m rs rs) (sym (refs_are m old.tree (nodes m old) is.parts)) (Changes-same m _ is.parts.owned);
+      changes = subst (λ rs. Changes m m rs rs) (sym (refs_are m old.tree (nodes m old) is.parts)) (changes_same m _ is.parts.owned);
     })
   where
     seen : entries m old ≡ entries m old ++ live_of (e ∷ [])
-    seen = sym (append-nil (entries m old)) ∙ ap (λ xs. entries m old ++ xs) (sym (live-none e gone))
+    seen = sym (append-nil (entries m old)) ∙ ap (λ xs. entries m old ++ xs) (sym (live_none_in_marking e gone))
 
     upto : (ps : List Part) → AreBelow e.id ps → AreUpto e.id ps
     upto [] h = tt
-    upto (p ∷ ps) h = (all-weaker (λ (x : Stored). id_number x.id < id_number e.id) (λ x. id_number x.id ≤ id_number e.id) (stored_in p) (λ x less. omega (arith, less)) h.0, upto ps h.1)
+    upto (p ∷ ps) h = (all_weaker (λ (x : Stored). id_number x.id < id_number e.id) (λ x. id_number x.id ≤ id_number e.id) (stored_in p) (λ x less. omega (arith, less)) h.0, upto ps h.1)
 
 -- an entry that is live
 pub live_loaded : (m after : Blocks) (old new : Log) (e : Stored) (id : Id) (pairs : List Pair) → e.deleted ≡ false → id ≡ e.id → pairs ≡ e.pairs
     → IsChanged m after old new (appended (stream_of m old) id pairs) → IsChanged m after old new (loaded (stream_of m old) (e ∷ []))
 live_loaded m after old new e id pairs live same are c =
-    let one : plain (put id pairs) ∷ [] ≡ live_of (e ∷ []) = (λ i. plain (put (same i) (are i)) ∷ []) ∙ sym (live-one e live) in
+    let one : plain (put id pairs) ∷ [] ≡ live_of (e ∷ []) = (λ i. plain (put (same i) (are i)) ∷ []) ∙ sym (live_one_in_marking e live) in
     record {
       is_stream = c.is_stream;
       value_is = c.value_is ∙ (λ i. record (stream_of m old) { entries = entries m old ++ one i; last = pair_of (same i) });
@@ -100,7 +100,7 @@ above_more m s id is last (e ∷ es) h = (all_below s.last e.id (omega (arith, h
 
 -- of the entries of a node, those behind one of them
 pub behind_one : (P : Stored → Type 0) (xs : List Entry) (x : Entry) (left rest all : List Stored) → map stored xs ++ left ≡ all → left ≡ stored x ∷ rest → AllByRecursion P all → P (stored x)
-behind_one P xs x left rest all is next each = (all-back P (map stored xs) (stored x ∷ rest) (subst (AllByRecursion P) (sym is ∙ ap (λ ys. map stored xs ++ ys) next) each)).0
+behind_one P xs x left rest all is next each = (all_back P (map stored xs) (stored x ∷ rest) (subst (AllByRecursion P) (sym is ∙ ap (λ ys. map stored xs ++ ys) next) each)).0
 
 pub behind_above : (xs : List Entry) (x : Entry) (left rest all : List Stored) → map stored xs ++ left ≡ all → left ≡ stored x ∷ rest → Sorted all
     → AllByRecursion (λ e. id_number (stored x).id < id_number e.id) rest
@@ -165,7 +165,7 @@ followed key list last e es id b n is same test =
 pub upto_later : (id last : Id) (ps : List Part) → id_number last ≤ id_number id → AreUpto last ps → AreUpto id ps
 upto_later id last [] less h = tt
 upto_later id last (p ∷ ps) less h = (
-  all-weaker (λ (e : Stored). id_number e.id ≤ id_number last) (λ e. id_number e.id ≤ id_number id) (stored_in p) (λ e upto. omega (arith, upto, less)) h.0,
+  all_weaker (λ (e : Stored). id_number e.id ≤ id_number last) (λ e. id_number e.id ≤ id_number id) (stored_in p) (λ e upto. omega (arith, upto, less)) h.0,
   upto_later id last ps less
       h.1,
 )

@@ -9,7 +9,7 @@ use Rattle.std.proofs.lemmas.List.{append_assoc}
 use Rattle.std.proofs.lemmas.List.Elements.{filter-append}
 use Rattle.blocks.specs.declared.BlockRef.{BlockRef}
 use Rattle.blocks.specs.Blocks.{Blocks, Changes}
-use Rattle.blocks.proofs.Change.{Changes-same}
+use Rattle.blocks.proofs.Change.{changes_same}
 use Rattle.listpack.specs.Pack.{texts}
 use Rattle.stream_groups.specs.Groups.{id_cmp}
 use Rattle.stream_node.specs.declared.id.Id.{Id}
@@ -17,9 +17,9 @@ use Rattle.stream_node.specs.Entry.{Stored, IsBelow}
 use Rattle.stream_node.specs.Node.{Begins, IsAfter}
 use Rattle.stream_node.specs.Entries.{IsNode, entries_of}
 use Rattle.stream_node.specs.Ids.{IsId, id_number}
-use Rattle.stream_node.proofs.Ids.{id_laws, parts_cmp, cmp-less, cmp-equal, cmp-greater}
+use Rattle.stream_node.proofs.Ids.{id_laws, parts_cmp, cmp_less, cmp_equal, cmp_greater}
 use Rattle.rax_packed.specs.declared.tree.PackedTree.{PackedTree}
-use Rattle.rax_packed.proofs.Entries.{all-append, all-front, all-back, all-weaker}
+use Rattle.rax_packed.proofs.Entries.{all-append, all_front, all_back, all_weaker}
 use Rattle.plain_world.specs.Streams.{StreamEntry}
 use Rattle.stream_object.specs.declared.stream.Stream.{Stream as Log}
 use Rattle.stream_object.specs.Parts.{Part, part, stored_in, plain, is_live, live_of, live_in, entries_in, IsNodeOf, IsPart, EndsBefore, Rising, parts_of, HasParts}
@@ -29,10 +29,10 @@ use Rattle.stream_object.specs.Tail.{IsKept}
 use Rattle.stream_object.specs.Block.{Holds}
 use Rattle.stream_object.specs.Streams.{nodes, entries, AreUpto, IsStream, IsChanged, stream_of, has_id, greater, without, TakesOut}
 use Rattle.stream_object.proofs.Parts.{parts_are, its_own, refs_are, rising_back}
-use Rattle.stream_object.proofs.Marking.{live-append, live-one, live_around, live_marked, node_ids}
+use Rattle.stream_object.proofs.Marking.{live_append, live_one_in_marking, live_around, live_marked, node_ids}
 use Rattle.stream_object.proofs.Exchanging.{stands_block}
 use Rattle.stream_object.proofs.Holdings.{holds_one}
-use Rattle.stream_object.proofs.Grows.{rising_again, entries-append}
+use Rattle.stream_object.proofs.Grows.{rising_again, entries_append}
 use Rattle.stream_object.proofs.Tails.{IsLeft, kept_beside}
 
 -- the order of ids as pairs is that of their numbers
@@ -41,23 +41,23 @@ pair_cmp a b x y = sym (parts_cmp a.ms b.ms a.seq b.seq (2 ^ 64) x.seq y.seq)
 
 -- which of two ids is the greater
 pub greater_second : (a b : Id) → IsBelow a b → greater (a.ms, a.seq) (b.ms, b.seq) ≡ (b.ms, b.seq)
-greater_second a b (inl less) = cond-true _ _ _ (ap (λ o. is_lt (ordering_then o (nat_cmp a.seq b.seq))) (cmp-less a.ms b.ms less))
-greater_second a b (inr same) = cond-true _ _ _ (ap (λ o. is_lt (ordering_then o (nat_cmp a.seq b.seq))) (cmp-equal a.ms b.ms same.0) ∙ ap is_lt (cmp-less a.seq b.seq same.1))
+greater_second a b (inl less) = cond-true _ _ _ (ap (λ o. is_lt (ordering_then o (nat_cmp a.seq b.seq))) (cmp_less a.ms b.ms less))
+greater_second a b (inr same) = cond-true _ _ _ (ap (λ o. is_lt (ordering_then o (nat_cmp a.seq b.seq))) (cmp_equal a.ms b.ms same.0) ∙ ap is_lt (cmp_less a.seq b.seq same.1))
 
 pub greater_first : (a b : Id) → (IsBelow a b → ⊥) → greater (a.ms, a.seq) (b.ms, b.seq) ≡ (a.ms, a.seq)
 greater_first a b none = elim (cases_lt a.ms b.ms) [
   | inl less ↦ absurd (none (inl less))
   | inr upto ↦ elim (cases_lt b.ms a.ms) [
-    | inl more ↦ cond-false _ _ _ (ap (λ o. is_lt (ordering_then o (nat_cmp a.seq b.seq))) (cmp-greater a.ms b.ms more))
+    | inl more ↦ cond-false _ _ _ (ap (λ o. is_lt (ordering_then o (nat_cmp a.seq b.seq))) (cmp_greater a.ms b.ms more))
     | inr also ↦ (let same : a.ms ≡ b.ms = omega arith in elim (cases_lt a.seq b.seq) [
       | inl less ↦ absurd (none (inr (same, less)))
-      | inr rest ↦ cond-false _ _ _ (ap (λ o. is_lt (ordering_then o (nat_cmp a.seq b.seq))) (cmp-equal a.ms b.ms same) ∙ upto_lt a.seq b.seq rest)
+      | inr rest ↦ cond-false _ _ _ (ap (λ o. is_lt (ordering_then o (nat_cmp a.seq b.seq))) (cmp_equal a.ms b.ms same) ∙ upto_lt a.seq b.seq rest)
     ])
   ]
 ]
   where
     upto_lt : (x y : ℕ) → y ≤ x → is_lt (nat_cmp x y) ≡ false
-    upto_lt x y h = elim (cases_lt y x) [ inl more ↦ ap is_lt (cmp-greater x y more) | inr also ↦ ap is_lt (cmp-equal x y (omega arith)) ]
+    upto_lt x y h = elim (cases_lt y x) [ inl more ↦ ap is_lt (cmp_greater x y more) | inr also ↦ ap is_lt (cmp_equal x y (omega arith)) ]
 
 -- entries of a node by rising ids
 abbrev pub Sorted : List Stored → Type 0
@@ -76,7 +76,7 @@ above_more : (before : Option Id) (e : Stored) (es : List Stored) → Fits befor
 above_more None e es fits id after all = tt
 above_more (Some b) e es fits id after all =
     let less : id_number b < id_number e.id = (id_laws.below b e.id fits id).0 after in
-    (less, all-weaker (λ (f : Stored). id_number e.id < id_number f.id) (λ f. id_number b < id_number f.id) es (λ f more. omega (arith, less)) all)
+    (less, all_weaker (λ (f : Stored). id_number e.id < id_number f.id) (λ f. id_number b < id_number f.id) es (λ f more. omega (arith, less)) all)
 
 begins_sorted : (key : Id) (master list : List (List ℕ)) (before : Option Id) (es : List Stored) (rest : List (List ℕ)) → Begins key master before list es rest → Fits before
     → AllByRecursion (λ e. IsId e.id) es → Sorted es × Above before es
@@ -94,7 +94,7 @@ pub sorted_split : (xs ys : List Stored) (e : Stored) → Sorted (xs ++ e ∷ ys
 sorted_split [] ys e s = (tt, s.0)
 sorted_split (x ∷ xs) ys e s =
     let more = sorted_split xs ys e s.1 in
-    (((all-back (λ f. id_number x.id < id_number f.id) xs (e ∷ ys) s.0).0, more.0), more.1)
+    (((all_back (λ f. id_number x.id < id_number f.id) xs (e ∷ ys) s.0).0, more.0), more.1)
 
 -- other ids
 module _ (id : Id) (fits : IsId id) where
@@ -102,13 +102,13 @@ module _ (id : Id) (fits : IsId id) where
   test e = has_id (id.ms, id.seq) e
 
   other_below : (e : Stored) → IsId e.id → id_number e.id < id_number id → test (plain e) ≡ false
-  other_below e x less = ap is_eq (pair_cmp e.id id x fits ∙ cmp-less (id_number e.id) (id_number id) less)
+  other_below e x less = ap is_eq (pair_cmp e.id id x fits ∙ cmp_less (id_number e.id) (id_number id) less)
 
   other_above : (e : Stored) → IsId e.id → id_number id < id_number e.id → test (plain e) ≡ false
-  other_above e x more = ap is_eq (pair_cmp e.id id x fits ∙ cmp-greater (id_number e.id) (id_number id) more)
+  other_above e x more = ap is_eq (pair_cmp e.id id x fits ∙ cmp_greater (id_number e.id) (id_number id) more)
 
   same_id : (e : Stored) → IsId e.id → e.id ≡ id → test (plain e) ≡ true
-  same_id e x same = ap is_eq (pair_cmp e.id id x fits ∙ cmp-equal (id_number e.id) (id_number id) (ap id_number same))
+  same_id e x same = ap is_eq (pair_cmp e.id id x fits ∙ cmp_equal (id_number e.id) (id_number id) (ap id_number same))
 
   other_id : (e : Stored) → IsId e.id → e.id ≢ id → test (plain e) ≡ false
   other_id e x other = elim (cases_apart (id_number e.id) (id_number id)) [
@@ -171,10 +171,10 @@ module _ (id : Id) (fits : IsId id) where
   parts_lower : (m : Blocks) (ps after : List Part) (p : Part) → AllByRecursion (IsPart m) ps → Rising (ps ++ p ∷ after) → id_number p.key ≤ id_number id → AreOther (entries_in ps)
   parts_lower m [] after p each r upto = tt
   parts_lower m (q ∷ ps) after p each r upto =
-      let ends = (all-back (EndsBefore q) ps (p ∷ after) r.0).0 in
+      let ends = (all_back (EndsBefore q) ps (p ∷ after) r.0).0 in
       all-append (λ e. test e ≡ false) (live_in q) (entries_in ps)
       (lower_other (stored_in q) (part_ids m q each.0)
-      (all-weaker (λ (e : Stored). id_number e.id < id_number p.key) (λ e. id_number e.id < id_number id) (stored_in q) (λ e less. omega (arith, upto)) ends))
+      (all_weaker (λ (e : Stored). id_number e.id < id_number p.key) (λ e. id_number e.id < id_number id) (stored_in q) (λ e less. omega (arith, upto)) ends))
       (parts_lower m ps after p each.1 r.1 upto)
 
   parts_higher : (m : Blocks) (ps : List Part) → AllByRecursion (IsPart m) ps → AllByRecursion (Misses false id) ps → AreOther (entries_in ps)
@@ -182,7 +182,7 @@ module _ (id : Id) (fits : IsId id) where
   parts_higher m (q ∷ ps) each more =
       all-append (λ e. test e ≡ false) (live_in q) (entries_in ps)
       (higher_other (stored_in q) (part_ids m q each.0)
-      (all-weaker (λ (e : Stored). id_number q.key ≤ id_number e.id) (λ e. id_number id < id_number e.id) (stored_in q) (λ e upto. omega (arith, more.0)) each.0.is_node.from))
+      (all_weaker (λ (e : Stored). id_number q.key ≤ id_number e.id) (λ e. id_number id < id_number e.id) (stored_in q) (λ e upto. omega (arith, more.0)) each.0.is_node.from))
       (parts_higher m ps each.1 more.1)
 
   -- the nodes around the one in which the id may stand
@@ -191,16 +191,16 @@ module _ (id : Id) (fits : IsId id) where
     around = subst (AllByRecursion (IsPart m)) n.place each
 
     front_other : AreOther (entries_in n.before)
-    front_other = parts_lower m n.before n.after p (all-front (IsPart m) n.before (p ∷ n.after) around) (subst Rising n.place rising) n.reaches
+    front_other = parts_lower m n.before n.after p (all_front (IsPart m) n.before (p ∷ n.after) around) (subst Rising n.place rising) n.reaches
 
     back_parts : IsPart m p × AllByRecursion (IsPart m) n.after
-    back_parts = all-back (IsPart m) n.before (p ∷ n.after) around
+    back_parts = all_back (IsPart m) n.before (p ∷ n.after) around
 
     back_other : AreOther (entries_in n.after)
     back_other = parts_higher m n.after back_parts.1 n.passes
 
     split : entries_in ps ≡ entries_in n.before ++ (live_in p ++ entries_in n.after)
-    split = ap entries_in n.place ∙ entries-append n.before (p ∷ n.after)
+    split = ap entries_in n.place ∙ entries_append n.before (p ∷ n.after)
 
     pub missing_here : Lacks id (stored_in p) → list_any test (entries_in ps) ≡ false
     missing_here none =
@@ -216,16 +216,16 @@ module _ (id : Id) (fits : IsId id) where
       ids = subst (AllByRecursion (λ x. IsId x.id)) a.place (part_ids m p back_parts.0)
 
       lower : AreOther (live_of a.before)
-      lower = lower_other a.before (all-front (λ x. IsId x.id) a.before (e ∷ a.after) ids) (subst (λ (i : Id). AllByRecursion (λ x. id_number x.id < id_number i) a.before) same sides.0)
+      lower = lower_other a.before (all_front (λ x. IsId x.id) a.before (e ∷ a.after) ids) (subst (λ (i : Id). AllByRecursion (λ x. id_number x.id < id_number i) a.before) same sides.0)
 
       mine : IsId e.id × AllByRecursion (λ x. IsId x.id) a.after
-      mine = all-back (λ x. IsId x.id) a.before (e ∷ a.after) ids
+      mine = all_back (λ x. IsId x.id) a.before (e ∷ a.after) ids
 
       higher : AreOther (live_of a.after)
       higher = higher_other a.after mine.1 (subst (λ (i : Id). AllByRecursion (λ x. id_number i < id_number x.id) a.after) same sides.1)
 
       here : live_in p ≡ live_of a.before ++ (plain e ∷ live_of a.after)
-      here = ap live_of a.place ∙ live-append a.before (e ∷ a.after) ∙ ap (λ xs. live_of a.before ++ xs) (live-append (e ∷ []) a.after ∙ ap (λ xs. xs ++ live_of a.after) (live-one e a.live))
+      here = ap live_of a.place ∙ live_append a.before (e ∷ a.after) ∙ ap (λ xs. live_of a.before ++ xs) (live_append (e ∷ []) a.after ∙ ap (λ xs. xs ++ live_of a.after) (live_one_in_marking e a.live))
 
       pub found_here : list_any test (entries_in ps) ≡ true
       found_here =
@@ -248,7 +248,7 @@ module _ (id : Id) (fits : IsId id) where
           one =
               ap keep here ∙ filter-append (λ x. not (test x)) (live_of a.before) (plain e ∷ live_of a.after)
               ∙ (λ i. kept_all (live_of a.before) lower i ++ cond-false _ (plain e ∷ keep (live_of a.after)) (keep (live_of a.after)) (ap not (same_id e mine.0 same)) i)
-              ∙ ap (λ xs. live_of a.before ++ xs) (kept_all (live_of a.after) higher) ∙ sym (live-append a.before a.after)
+              ∙ ap (λ xs. live_of a.before ++ xs) (kept_all (live_of a.after) higher) ∙ sym (live_append a.before a.after)
 
 -- what is left of the nodes when one entry has gone
 no_length : {X : Type 0} (xs : List X) → length xs ≡ 0 → xs ≡ []
@@ -267,10 +267,10 @@ module _ (m after : Blocks) (old new : PackedTree) (key : Id) (at : BlockRef) (s
       record {
         parts = s.before ++ s.after;
         exchanges = ex;
-        entries_are = entries-append s.before s.after ∙ ap (λ xs. entries_in s.before ++ (xs ++ entries_in s.after)) (sym none);
+        entries_are = entries_append s.before s.after ∙ ap (λ xs. entries_in s.before ++ (xs ++ entries_in s.after)) (sym none);
         upto = λ id all. (let split = subst (AreUpto id) s.place all in
             let U : Part → Type 0 = λ x. AllByRecursion (λ f. id_number f.id ≤ id_number id) (stored_in x) in
-            all-append U s.before s.after (all-front U s.before (part key at s.bytes ∷ s.after) split) (all-back U s.before (part key at s.bytes ∷ s.after) split).1);
+            all-append U s.before s.after (all_front U s.before (part key at s.bytes ∷ s.after) split) (all_back U s.before (part key at s.bytes ∷ s.after) split).1);
         front = s.before;
         stays = refl;
       }
@@ -289,11 +289,11 @@ module _ (m after : Blocks) (old new : PackedTree) (key : Id) (at : BlockRef) (s
       record {
         parts = s.before ++ q ∷ s.after;
         exchanges = next;
-        entries_are = entries-append s.before (q ∷ s.after) ∙ ap (λ xs. entries_in s.before ++ (xs ++ entries_in s.after)) (ap live_of now ∙ live_marked a.before a.after e);
+        entries_are = entries_append s.before (q ∷ s.after) ∙ ap (λ xs. entries_in s.before ++ (xs ++ entries_in s.after)) (ap live_of now ∙ live_marked a.before a.after e);
         upto = λ id all. (let split = subst (AreUpto id) s.place all in
             let U : Part → Type 0 = λ x. AllByRecursion (λ f. id_number f.id ≤ id_number id) (stored_in x) in
-            let back = all-back U s.before (was ∷ s.after) split in
-            all-append U s.before (q ∷ s.after) (all-front U s.before (was ∷ s.after) split) (same_ids (λ i. id_number i ≤ id_number id) (entries_of key (texts bytes)) now back.0, back.1));
+            let back = all_back U s.before (was ∷ s.after) split in
+            all-append U s.before (q ∷ s.after) (all_front U s.before (was ∷ s.after) split) (same_ids (λ i. id_number i ≤ id_number id) (entries_of key (texts bytes)) now back.0, back.1));
         front = s.before ++ q ∷ [];
         stays = sym (append_assoc s.before (q ∷ []) s.after);
       }
@@ -302,8 +302,8 @@ module _ (m after : Blocks) (old new : PackedTree) (key : Id) (at : BlockRef) (s
           → AllByRecursion (λ f. P f.id) (entries_of key (texts s.bytes)) → AllByRecursion (λ f. P f.id) es
       same_ids P es is all =
           let split = subst (AllByRecursion (λ (f : Stored). P f.id)) a.place all in
-          let front = all-front (λ (f : Stored). P f.id) a.before (e ∷ a.after) split in
-          let back = all-back (λ (f : Stored). P f.id) a.before (e ∷ a.after) split in
+          let front = all_front (λ (f : Stored). P f.id) a.before (e ∷ a.after) split in
+          let back = all_back (λ (f : Stored). P f.id) a.before (e ∷ a.after) split in
           subst (AllByRecursion (λ (f : Stored). P f.id)) (sym is)
           (all-append (λ (f : Stored). P f.id) a.before (record { id = e.id; deleted = true; pairs = e.pairs } ∷ a.after) front (back.0, back.1))
 
@@ -324,7 +324,7 @@ some_there m s id fits is p n index e a =
     omega (
       arith,
       ap (λ es. length (live_of es)) a.place ∙ live_around a.before a.after e a.live,
-      ap length (ap entries_in n.place ∙ entries-append n.before (p ∷ n.after)),
+      ap length (ap entries_in n.place ∙ entries_append n.before (p ∷ n.after)),
       length-append (entries_in n.before) (live_in p ++ entries_in n.after),
       length-append (live_in p) (entries_in n.after),
     )
@@ -345,7 +345,7 @@ module _ (m after : Blocks) (old new : Log) (id : Id) (fits : IsId id) (is : IsS
         arith,
         more,
         ap length (ap entries_in now ∙ t.entries_are),
-        ap length (ap entries_in n.place ∙ entries-append n.before (p ∷ n.after)),
+        ap length (ap entries_in n.place ∙ entries_append n.before (p ∷ n.after)),
         length-append (entries_in n.before) (live_of (a.before ++ a.after) ++ entries_in n.after),
         length-append (live_of (a.before ++ a.after)) (entries_in n.after),
         length-append (entries_in n.before) (live_in p ++ entries_in n.after),
@@ -372,7 +372,7 @@ pub unchanged : (m : Blocks) (s : Log) (id : Id) → IsStream m s → list_any (
 unchanged m s id is none = record {
   is_stream = is;
   value_is = sym (cond-false _ _ _ none);
-  changes = subst (λ rs. Changes m m rs rs) (sym (refs_are m s.tree (nodes m s) is.parts)) (Changes-same m _ is.parts.owned);
+  changes = subst (λ rs. Changes m m rs rs) (sym (refs_are m s.tree (nodes m s) is.parts)) (changes_same m _ is.parts.owned);
 }
 
 pub nowhere : (m : Blocks) (id : Id) (fits : IsId id) (ps : List Part) → AllByRecursion (IsPart m) ps → AllByRecursion (Misses false id) ps → list_any (has_id (id.ms, id.seq)) (entries_in ps) ≡ false

@@ -19,8 +19,8 @@ use Rattle.stream_node.specs.Room.{alone_len}
 use Rattle.stream_node.specs.View.{stored}
 use Rattle.stream_node.proofs.Ids.{id_laws}
 use Rattle.stream_node.proofs.Rooms.{room_enough}
-use Rattle.stream_node.proofs.Written.{length-pack}
-use Rattle.rax_packed.proofs.Entries.{all-append, all-front, all-back}
+use Rattle.stream_node.proofs.Written.{length_pack}
+use Rattle.rax_packed.proofs.Entries.{all-append, all_front, all_back}
 use Rattle.stream_object.specs.declared.node.Live.{Live}
 use Rattle.stream_object.specs.Parts.{IsNodeOf, is_live, plain, live_of}
 use Rattle.stream_object.specs.Node.{put, IsGrown, IsAt, IsLive, Lacks, Marks}
@@ -54,15 +54,15 @@ pub above_held : (key id : Id) (bytes : List ℕ) → IsId id → IsNodeOf key b
 above_held key id bytes fits n less =
     subst (λ es. IsAfter (last_id None es) id) (sym (held_is key (texts bytes) n.node)) (after_all id fits (entries_of key (texts bytes)) None (node_ids key (texts bytes) n.node) less tt)
 
-pub live-append : (xs ys : List Stored) → live_of (xs ++ ys) ≡ live_of xs ++ live_of ys
-live-append xs ys = ap (map plain) (filter-append is_live xs ys) ∙ map-append plain (filter is_live xs) (filter is_live ys)
+pub live_append : (xs ys : List Stored) → live_of (xs ++ ys) ≡ live_of xs ++ live_of ys
+live_append xs ys = ap (map plain) (filter-append is_live xs ys) ∙ map-append plain (filter is_live xs) (filter is_live ys)
 
 -- one live entry, or one that is deleted
-pub live-one : (e : Stored) → e.deleted ≡ false → live_of (e ∷ []) ≡ plain e ∷ []
-live-one e h = ap (map plain) (cond-true _ (e ∷ []) [] (ap not h))
+pub live_one_in_marking : (e : Stored) → e.deleted ≡ false → live_of (e ∷ []) ≡ plain e ∷ []
+live_one_in_marking e h = ap (map plain) (cond-true _ (e ∷ []) [] (ap not h))
 
-pub live-none : (e : Stored) → e.deleted ≡ true → live_of (e ∷ []) ≡ []
-live-none e h = ap (map plain) (cond-false _ (e ∷ []) [] (ap not h))
+pub live_none_in_marking : (e : Stored) → e.deleted ≡ true → live_of (e ∷ []) ≡ []
+live_none_in_marking e h = ap (map plain) (cond-false _ (e ∷ []) [] (ap not h))
 
 -- an entry put in
 module _ (key id : Id) (old new : List ℕ) (pairs : List Pair) (es : List Stored) (app : IsAppended key old new id pairs) (was : held key (texts old) ≡ es)
@@ -75,7 +75,7 @@ module _ (key id : Id) (old new : List ℕ) (pairs : List Pair) (es : List Store
     is_node = record {
       pack = app.pack;
       node = app.node;
-      some = subst (λ xs. 0 < length (live_of xs)) (sym entries_now) (omega (arith, ap length (live-append es (put id pairs ∷ [])), length-append (live_of es) (plain (put id pairs) ∷ [])));
+      some = subst (λ xs. 0 < length (live_of xs)) (sym entries_now) (omega (arith, ap length (live_append es (put id pairs ∷ [])), length-append (live_of es) (plain (put id pairs) ∷ [])));
       few = omega (arith, few, ap length entries_now, length-append es (put id pairs ∷ []));
       short = short;
       from = subst (AllByRecursion (λ e. id_number key ≤ id_number e.id)) (sym entries_now) (all-append (λ e. id_number key ≤ id_number e.id) es (put id pairs ∷ []) from (low, tt));
@@ -97,7 +97,7 @@ none_held bytes none = ap (map text_of) none
 pub begun_grown : (id : Id) (old new : List ℕ) (pairs : List Pair) → spellings_of old ≡ [] → IsAppended id old new id pairs → alone_len id pairs ≤ 536870000 → IsGrown id [] new id pairs
 begun_grown id old new pairs none app short =
     let empty : texts old ≡ [] = none_held old none in
-    let size : length new ≡ alone_len id pairs = length-pack new app.pack ∙ ap pack_len app.spelled ∙ room_enough.first id old pairs empty in
+    let size : length new ≡ alone_len id pairs = length_pack new app.pack ∙ ap pack_len app.spelled ∙ room_enough.first id old pairs empty in
     grown id id old new pairs [] app (ap (held id) empty) tt (omega arith) (omega arith) (omega (arith, size, short))
 
 pub begun_room : (id : Id) (old : List ℕ) (pairs : List Pair) → spellings_of old ≡ [] → alone_len id pairs ≤ 536870000 → pack_len (appended id old id pairs) < 2 ^ 32
@@ -134,10 +134,10 @@ pub live_around : (xs ys : List Stored) (e : Stored) → e.deleted ≡ false →
 live_around xs ys e h =
     omega (
       arith,
-      ap length (live-append xs (e ∷ ys)),
-      ap length (live-append (e ∷ []) ys),
-      ap length (live-append xs ys),
-      ap length (live-one e h),
+      ap length (live_append xs (e ∷ ys)),
+      ap length (live_append (e ∷ []) ys),
+      ap length (live_append xs ys),
+      ap length (live_one_in_marking e h),
       length-append (live_of xs) (live_of (e ∷ ys)),
       length-append (live_of (e ∷ [])) (live_of ys),
       length-append (live_of xs) (live_of ys),
@@ -146,7 +146,7 @@ live_around xs ys e h =
 pub live_marked : (xs ys : List Stored) (e : Stored) → live_of (xs ++ record { id = e.id; deleted = true; pairs = e.pairs } ∷ ys) ≡ live_of (xs ++ ys)
 live_marked xs ys e =
     let gone : Stored = record { id = e.id; deleted = true; pairs = e.pairs } in
-    live-append xs (gone ∷ ys) ∙ ap (λ zs. live_of xs ++ zs) (live-append (gone ∷ []) ys ∙ ap (λ zs. zs ++ live_of ys) (live-none gone refl)) ∙ sym (live-append xs ys)
+    live_append xs (gone ∷ ys) ∙ ap (λ zs. live_of xs ++ zs) (live_append (gone ∷ []) ys ∙ ap (λ zs. zs ++ live_of ys) (live_none_in_marking gone refl)) ∙ sym (live_append xs ys)
 
 pub is_marked : (old new : List ℕ) (index : ℕ) → IsMarked old new index → (key : Id) → Marks key old new index
 is_marked old new index m key e at n many =
@@ -155,11 +155,11 @@ is_marked old new index m key e at n many =
     let can = can_mark key old index e n at in
     let now : entries_of key (texts new) ≡ at.before ++ gone ∷ at.after = m.entries key n.node ∙ ap (mark_at es) (sym at.count) ∙ ap (λ xs. mark_at xs (length at.before)) at.place
     ∙ mark_there at.before at.after e in
-    let size : length new ≤ length old = omega (arith, length-pack new m.pack, ap pack_len m.spelled, mark_lighter key old index n.pack can n.few (omega (arith, n.short))) in
+    let size : length new ≤ length old = omega (arith, length_pack new m.pack, ap pack_len m.spelled, mark_lighter key old index n.pack can n.few (omega (arith, n.short))) in
     let left : length (live_of es) ≡ suc (length (live_of (at.before ++ at.after))) = ap (λ xs. length (live_of xs)) at.place ∙ live_around at.before at.after e at.live in
     let split = subst (AllByRecursion (λ x. id_number key ≤ id_number x.id)) at.place n.from in
-    let front = all-front (λ x. id_number key ≤ id_number x.id) at.before (e ∷ at.after) split in
-    let back = all-back (λ x. id_number key ≤ id_number x.id) at.before (e ∷ at.after) split in (
+    let front = all_front (λ x. id_number key ≤ id_number x.id) at.before (e ∷ at.after) split in
+    let back = all_back (λ x. id_number key ≤ id_number x.id) at.before (e ∷ at.after) split in (
       record {
         pack = m.pack;
         node = m.node key n.node;
@@ -176,17 +176,17 @@ pub walked : (xs : List Entry) (x : Entry) (left rest all : List Stored) → map
 walked xs x left rest all is next =
     ap (λ ys. ys ++ rest) (map-append stored xs (x ∷ [])) ∙ append_assoc (map stored xs) (stored x ∷ []) rest ∙ ap (λ ys. map stored xs ++ ys) (sym next) ∙ is
 
-pub length-stored : (xs : List Entry) → length (map stored xs) ≡ length xs
-length-stored [] = refl
-length-stored (x ∷ xs) = ap suc (length-stored xs)
+pub length_stored : (xs : List Entry) → length (map stored xs) ≡ length xs
+length_stored [] = refl
+length_stored (x ∷ xs) = ap suc (length_stored xs)
 
 pub walked_inside : (xs : List Entry) (x : Entry) (left rest all : List Stored) → map stored xs ++ left ≡ all → left ≡ stored x ∷ rest → length xs < length all
-walked_inside xs x left rest all is next = omega (arith, ap length is, ap length next, length-append (map stored xs) left, length-stored xs)
+walked_inside xs x left rest all is next = omega (arith, ap length is, ap length next, length-append (map stored xs) left, length_stored xs)
 
 pub walked_at : (xs : List Entry) (x : Entry) (left rest all : List Stored) (index : ℕ) → map stored xs ++ left ≡ all → left ≡ stored x ∷ rest → length xs ≡ index
     → (stored x).deleted ≡ false → IsAt all index (stored x)
 walked_at xs x left rest all index is next count live =
-    record { before = map stored xs; after = rest; place = sym is ∙ ap (λ ys. map stored xs ++ ys) next; count = length-stored xs ∙ count; live = live }
+    record { before = map stored xs; after = rest; place = sym is ∙ ap (λ ys. map stored xs ++ ys) next; count = length_stored xs ∙ count; live = live }
 
 pub lacks_more : (id : Id) (xs : List Entry) (x : Entry) → Lacks id (map stored xs) → ((stored x).deleted ≡ false → (stored x).id ≢ id) → Lacks id (map stored (xs ++ x ∷ []))
 lacks_more id xs x none other =
@@ -216,7 +216,7 @@ first_stays es x index now same f = (
 
 pub live_skips : (es : List Stored) (e : Stored) (live : Live) → IsLive es live → e.deleted ≡ true → IsLive (es ++ e ∷ []) live
 live_skips es e live is gone = record {
-  count = omega (arith, is.count, ap length (live-append es (e ∷ [])), ap length (live-none e gone), length-append (live_of es) (live_of (e ∷ [])));
+  count = omega (arith, is.count, ap length (live_append es (e ∷ [])), ap length (live_none_in_marking e gone), length-append (live_of es) (live_of (e ∷ [])));
   first = λ some. first_stays es e live.first live.first refl (is.first some);
 }
 
@@ -225,7 +225,7 @@ pub live_begins : (es : List Stored) (e : Stored) (live now : Live) (index : ℕ
 live_begins es e live now index is none at here' one first =
     let empty : live_of es ≡ [] = no_length (live_of es) (omega (arith, is.count, none)) in
     record {
-      count = omega (arith, one, ap length (live-append es (e ∷ [])), ap length (live-one e here'), length-append (live_of es) (live_of (e ∷ [])), ap length empty);
+      count = omega (arith, one, ap length (live_append es (e ∷ [])), ap length (live_one_in_marking e here'), length-append (live_of es) (live_of (e ∷ [])), ap length empty);
       first = λ some. (e, record { before = es; after = []; place = refl; count = at ∙ sym first; live = here' }, empty);
     }
   where
@@ -236,6 +236,6 @@ live_begins es e live now index is none at here' one first =
 pub live_grows : (es : List Stored) (e : Stored) (live now : Live) → IsLive es live → (live.count ≡ 0 → ⊥) → e.deleted ≡ false → now.count ≡ live.count + 1 → now.first ≡ live.first
     → IsLive (es ++ e ∷ []) now
 live_grows es e live now is some here' more first = record {
-  count = omega (arith, more, is.count, ap length (live-append es (e ∷ [])), ap length (live-one e here'), length-append (live_of es) (live_of (e ∷ [])));
+  count = omega (arith, more, is.count, ap length (live_append es (e ∷ [])), ap length (live_one_in_marking e here'), length-append (live_of es) (live_of (e ∷ [])));
   first = λ _. first_stays es e live.first now.first first (is.first (omega (arith, some)));
 }

@@ -12,10 +12,10 @@ use Rattle.blocks.specs.declared.BlockRef.{BlockRef}
 use Rattle.blocks.specs.Blocks.{Blocks, times, Changes, Owned}
 use Rattle.blocks.specs.Slabs.{Heap, wants, Calmer}
 use Rattle.blocks.proofs.Times.{times-append}
-use Rattle.blocks.proofs.Change.{Changes-beside, Changes-owned, Changes-then}
+use Rattle.blocks.proofs.Change.{changes_beside, changes_owned, changes_then}
 use Rattle.stream_node.specs.declared.id.Id.{Id}
 use Rattle.stream_node.specs.Ids.{IsId, id_number, id_key, key_id}
-use Rattle.stream_node.proofs.Ids.{id_laws, cmp-less, cmp-equal, cmp-greater}
+use Rattle.stream_node.proofs.Ids.{id_laws, cmp_less, cmp_equal, cmp_greater}
 use Rattle.rax_packed.specs.declared.tree.PackedTree.{PackedTree}
 use Rattle.rax_packed.specs.Trees.{Entry, Mark}
 use Rattle.rax_packed.specs.Packed.{order, value_at, with_entry}
@@ -23,8 +23,8 @@ use Rattle.rax_packed.specs.Paths.{is_least, nodes_with, ArePassed as PathPassed
 use Rattle.rax_packed.specs.Maps as rax
 use Rattle.rax_packed.specs.Laws.{Stays}
 use Rattle.rax_packed.proofs.Depends.{packed_laws_hold}
-use Rattle.rax_packed.proofs.Keys.{equal-cmp}
-use Rattle.rax_packed.proofs.Entries.{all-append, all-front, all-back, all-weaker}
+use Rattle.rax_packed.proofs.Keys.{equal_cmp}
+use Rattle.rax_packed.proofs.Entries.{all-append, all_front, all_back, all_weaker}
 use Rattle.rax_packed.proofs.Relocations.{passed_calmer}
 use Rattle.stream_object.specs.Copied.{AreSame}
 use Rattle.stream_object.specs.Found.{Stands, Exchanges}
@@ -34,7 +34,7 @@ use Rattle.stream_object.specs.Relocation.{PassesOne, PassesAll, Moves, node_mar
 use Rattle.stream_object.proofs.Clears.{exchanges_then}
 use Rattle.stream_object.proofs.Exchanging.{outside, counts_itself, tree_stays, beside_tree}
 use Rattle.stream_object.proofs.Holdings.{holds_there}
-use Rattle.stream_object.proofs.Parts.{times-refs, refs_are, parts_are, its_own, with_there, exchanged}
+use Rattle.stream_object.proofs.Parts.{times_refs, refs_are, parts_are, its_own, with_there, exchanged}
 use Rattle.stream_object.proofs.Passed.{passes_append, passes_none, count_cons, count_append, count_zero}
 use Rattle.stream_object.proofs.Walks.{keys_before, keys_after}
 
@@ -53,7 +53,7 @@ by_first x y o h = step (nat_cmp x y) refl h
   where
     step : (r : Ordering) → nat_cmp x y ≡ r → ordering_then r o ≡ Equal → (x ≡ y) × (o ≡ Equal)
     step Less e h = cc
-    step Equal e h = (equal-cmp x y e, h)
+    step Equal e h = (equal_cmp x y e, h)
     step Greater e h = cc
 
 -- keys that stand alike are the same
@@ -87,24 +87,24 @@ part_marks m (p ∷ ps) each = λ i. id_number (id_laws.back p.key each.0.id i) 
 pub least_parts : (m : Blocks) (tree : PackedTree) (ps : List Part) (P : Part → Type 0) → HasParts m tree ps → AllByRecursion P ps
     → AllByRecursion (λ (n : Mark). (q : Part) × IsId q.key × (n.least ≡ id_key q.key) × P q) (rax.marks_of m tree)
 least_parts m tree ps P h holds =
-    all-weaker (λ (n : Mark). IsSome (value_at (rax.entries_of m tree) n.least)) (λ (n : Mark). (q : Part) × IsId q.key × (n.least ≡ id_key q.key) × P q) (rax.marks_of m tree)
+    all_weaker (λ (n : Mark). IsSome (value_at (rax.entries_of m tree) n.least)) (λ (n : Mark). (q : Part) × IsId q.key × (n.least ≡ id_key q.key) × P q) (rax.marks_of m tree)
     (λ n some. found_part m P ps n.least h.each holds (subst (λ es. IsSome (value_at es n.least)) h.named some)) (packed_laws_hold.least m tree h.stands)
 
 -- what holds of the number of each key holds of each mark
 pub tree_all : (m : Blocks) (tree : PackedTree) (ps : List Part) (Q : ℕ → Type 0) → HasParts m tree ps → AllByRecursion (λ (p : Part). Q (id_number p.key)) ps → AllByRecursion Q (tree_marks m tree)
 tree_all m tree ps Q h holds =
     all-append Q (map node_mark (rax.marks_of m tree)) (map entry_mark (rax.entries_of m tree))
-    (all_map Q node_mark (rax.marks_of m tree) (all-weaker (λ (n : Mark). (q : Part) × IsId q.key × (n.least ≡ id_key q.key) × Q (id_number q.key)) (λ n. Q (node_mark n)) (rax.marks_of m tree)
+    (all_map Q node_mark (rax.marks_of m tree) (all_weaker (λ (n : Mark). (q : Part) × IsId q.key × (n.least ≡ id_key q.key) × Q (id_number q.key)) (λ n. Q (node_mark n)) (rax.marks_of m tree)
     (λ n f. subst Q (sym (ap (λ k. id_number (key_id k)) f.2 ∙ ap id_number (id_laws.back f.0.key f.1))) f.3) (least_parts m tree ps (λ (p : Part). Q (id_number p.key)) h holds)))
     (subst (λ ks. AllByRecursion Q ks) (sym (ap (map entry_mark) h.named ∙ part_marks m ps h.each)) (all_map Q (λ (p : Part). id_number p.key) ps holds))
 
 -- one test of equal numbers as the other
 eq_cmp : (a b : ℕ) → is_eq (nat_cmp a b) ≡ (a == b)
 eq_cmp a b = elim (cases_eq a b) [
-  | inl same ↦ ap is_eq (cmp-equal a b same) ∙ sym (eq-eqb a b same)
+  | inl same ↦ ap is_eq (cmp_equal a b same) ∙ sym (eq-eqb a b same)
   | inr other ↦ elim (cases_lt a b) [
-    | inl less ↦ ap is_eq (cmp-less a b less) ∙ sym (ne_eqb a b other)
-    | inr more ↦ (let greater : b < a = omega arith in ap is_eq (cmp-greater a b greater) ∙ sym (ne_eqb a b other))
+    | inl less ↦ ap is_eq (cmp_less a b less) ∙ sym (ne_eqb a b other)
+    | inr more ↦ (let greater : b < a = omega arith in ap is_eq (cmp_greater a b greater) ∙ sym (ne_eqb a b other))
   ]
 ]
 
@@ -152,8 +152,8 @@ same_around (x ∷ before) after p q key bytes = (refl, refl, same_around before
 rising_around : (before after : List Part) (key : Id) (at new : BlockRef) (bytes : List ℕ) → Rising (before ++ part key at bytes ∷ after) → Rising (before ++ part key new bytes ∷ after)
 rising_around [] after key at new bytes r = r
 rising_around (x ∷ before) after key at new bytes r = (
-  all-append (EndsBefore x) before (part key new bytes ∷ after) (all-front (EndsBefore x) before (part key at bytes ∷ after) r.0)
-      ((all-back (EndsBefore x) before (part key at bytes ∷ after) r.0).0, (all-back (EndsBefore x) before (part key at bytes ∷ after) r.0).1),
+  all-append (EndsBefore x) before (part key new bytes ∷ after) (all_front (EndsBefore x) before (part key at bytes ∷ after) r.0)
+      ((all_back (EndsBefore x) before (part key at bytes ∷ after) r.0).0, (all_back (EndsBefore x) before (part key at bytes ∷ after) r.0).1),
   rising_around before after key at new bytes r.1,
 )
 
@@ -167,10 +167,10 @@ parts_passed m h before after key at new bytes each rising calm =
     let number : Part → ℕ = λ (p : Part). id_number p.key in
     let block : Part → BlockRef = λ (p : Part). p.at in
     let low = all_map (λ a. (a == n) ≡ false) number before
-    (all-weaker (λ (q : Part). id_number q.key < n) (λ q. (id_number q.key == n) ≡ false) before (λ q less. ne_eqb (id_number q.key) n (λ e. omega (arith, e, less)))
+    (all_weaker (λ (q : Part). id_number q.key < n) (λ q. (id_number q.key == n) ≡ false) before (λ q less. ne_eqb (id_number q.key) n (λ e. omega (arith, e, less)))
     (keys_before m before after (part key at bytes) each rising)) in
     let high = all_map (λ a. (a == n) ≡ false) number after
-    (all-weaker (λ (q : Part). n < id_number q.key) (λ q. (id_number q.key == n) ≡ false) after (λ q more. ne_eqb (id_number q.key) n (λ e. omega (arith, e, more)))
+    (all_weaker (λ (q : Part). n < id_number q.key) (λ q. (id_number q.key == n) ≡ false) after (λ q more. ne_eqb (id_number q.key) n (λ e. omega (arith, e, more)))
     (keys_after m before after (part key at bytes) each rising)) in
     let front = passes_none h (λ a. a == n) (map number before) (map block before) (length-map before number ∙ sym (length-map before block)) low in
     let back = passes_none h (λ a. a == n) (map number after) (map block after) (length-map after number ∙ sym (length-map after block)) high in
@@ -189,10 +189,10 @@ parts_count m before after p each rising =
     let n = id_number p.key in
     let number : Part → ℕ = λ (q : Part). id_number q.key in
     let low = all_map (λ a. (a == n) ≡ false) number before
-    (all-weaker (λ (q : Part). id_number q.key < n) (λ q. (id_number q.key == n) ≡ false) before (λ q less. ne_eqb (id_number q.key) n (λ e. omega (arith, e, less)))
+    (all_weaker (λ (q : Part). id_number q.key < n) (λ q. (id_number q.key == n) ≡ false) before (λ q less. ne_eqb (id_number q.key) n (λ e. omega (arith, e, less)))
     (keys_before m before after p each rising)) in
     let high = all_map (λ a. (a == n) ≡ false) number after
-    (all-weaker (λ (q : Part). n < id_number q.key) (λ q. (id_number q.key == n) ≡ false) after (λ q more. ne_eqb (id_number q.key) n (λ e. omega (arith, e, more)))
+    (all_weaker (λ (q : Part). n < id_number q.key) (λ q. (id_number q.key == n) ≡ false) after (λ q more. ne_eqb (id_number q.key) n (λ e. omega (arith, e, more)))
     (keys_after m before after p each rising)) in
     let one : cond {A = ℕ} (n == n) 1 0 ≡ 1 = cond-true _ _ _ (eq-eqb n n refl) in
     omega (
@@ -212,8 +212,8 @@ pub key_count : (m : Blocks) (tree : PackedTree) (key : Id) (at : BlockRef) → 
 key_count m tree key at h s =
     let each = subst (AllByRecursion (IsPart m)) s.place h.each in
     let rising = subst Rising s.place h.rising in
-    let mine = (all-back (IsPart m) s.before (part key at s.bytes ∷ s.after) each).0 in
-    let tests = all-weaker (λ (n : Mark). (q : Part) × IsId q.key × (n.least ≡ id_key q.key) × IsPart m q) (λ (n : Mark). is_least (id_key key) n ≡ (node_mark n == id_number key))
+    let mine = (all_back (IsPart m) s.before (part key at s.bytes ∷ s.after) each).0 in
+    let tests = all_weaker (λ (n : Mark). (q : Part) × IsId q.key × (n.least ≡ id_key q.key) × IsPart m q) (λ (n : Mark). is_least (id_key key) n ≡ (node_mark n == id_number key))
     (rax.marks_of m tree) (λ n f. least_is key n f.0 mine.id f.1 f.2)
     (least_parts m tree (parts_of m tree) (IsPart m) h h.each) in
     let own : map entry_mark (rax.entries_of m tree) ≡ map (λ (p : Part). id_number p.key) (s.before ++ part key at s.bytes ∷ s.after) = ap (map entry_mark) h.named
@@ -245,10 +245,10 @@ module _ (m m1 : Blocks) (t0 t1 : PackedTree) (key : Id) (at : BlockRef) (h : Ha
   here = subst (HasParts m1 t1) s.place first.parts
 
   front : AllByRecursion (IsPart m1) s.before
-  front = all-front (IsPart m1) s.before (part key at s.bytes ∷ s.after) here.each
+  front = all_front (IsPart m1) s.before (part key at s.bytes ∷ s.after) here.each
 
   back : IsPart m1 (part key at s.bytes) × AllByRecursion (IsPart m1) s.after
-  back = all-back (IsPart m1) s.before (part key at s.bytes ∷ s.after) here.each
+  back = all_back (IsPart m1) s.before (part key at s.bytes ∷ s.after) here.each
 
   pub at_live : IsSome (m1 at)
   at_live = ap is_some back.0.block.there
@@ -259,7 +259,7 @@ module _ (m m1 : Blocks) (t0 t1 : PackedTree) (key : Id) (at : BlockRef) (h : Ha
     here.owned r,
     times-append r (rax.refs_of m1 t1) (at ∷ []),
     times-append r (rax.refs_of m1 t1) (refs_of (s.before ++ part key at s.bytes ∷ s.after)),
-    times-refs r s.before
+    times_refs r s.before
         (part key at s.bytes ∷ s.after),
   )
 
@@ -279,17 +279,17 @@ module _ (m m1 : Blocks) (t0 t1 : PackedTree) (key : Id) (at : BlockRef) (h : Ha
     changes12 : Changes m1 m2 (rax.refs_of m1 t1 ++ (at ∷ [])) (rax.refs_of m2 t1 ++ (new ∷ []))
     changes12 =
         subst (λ rs. Changes m1 m2 (rax.refs_of m1 t1 ++ (at ∷ [])) (rs ++ (new ∷ []))) (sym stay2.refs_are)
-        (Changes-beside m1 m2 (at ∷ []) (new ∷ []) (rax.refs_of m1 t1 ++ (at ∷ [])) (rax.refs_of m1 t1 ++ (new ∷ [])) changes2 own1 (λ r. times r (rax.refs_of m1 t1))
+        (changes_beside m1 m2 (at ∷ []) (new ∷ []) (rax.refs_of m1 t1 ++ (at ∷ [])) (rax.refs_of m1 t1 ++ (new ∷ [])) changes2 own1 (λ r. times r (rax.refs_of m1 t1))
         (λ r. omega (arith, times-append r (rax.refs_of m1 t1) (at ∷ []))) (λ r. omega (arith, times-append r (rax.refs_of m1 t1) (new ∷ []))))
 
     own2 : Owned (rax.refs_of m2 t1 ++ (new ∷ [])) m2
-    own2 = Changes-owned m1 m2 (rax.refs_of m1 t1 ++ (at ∷ [])) (rax.refs_of m2 t1 ++ (new ∷ [])) changes12
+    own2 = changes_owned m1 m2 (rax.refs_of m1 t1 ++ (at ∷ [])) (rax.refs_of m2 t1 ++ (new ∷ [])) changes12
 
     module _ (m3 : Blocks) (t2 : PackedTree) (h0 h1 : Heap) (passed1 : PathPassed h0 h1 (id_key key) (rax.marks_of m t0) (rax.marks_of m1 t1)) (sound3 : rax.IsSound m3 t2)
         (set3 : rax.entries_of m3 t2 ≡ with_entry (rax.entries_of m2 t1) (id_key key) new) (changes3 : Changes m2 m3 (rax.refs_of m2 t1) (rax.refs_of m3 t2))
         (marks3 : rax.marks_of m3 t2 ≡ rax.marks_of m2 t1) where
       core : Changes m1 m3 (rax.refs_of m1 t1 ++ (at ∷ [])) (rax.refs_of m3 t2 ++ (new ∷ []))
-      core = Changes-then m1 m2 m3 (rax.refs_of m1 t1 ++ (at ∷ [])) (rax.refs_of m2 t1 ++ (new ∷ [])) (rax.refs_of m3 t2 ++ (new ∷ [])) changes12 (beside_tree m2 m3 t1 t2 (new ∷ []) own2 changes3)
+      core = changes_then m1 m2 m3 (rax.refs_of m1 t1 ++ (at ∷ [])) (rax.refs_of m2 t1 ++ (new ∷ [])) (rax.refs_of m3 t2 ++ (new ∷ [])) changes12 (beside_tree m2 m3 t1 t2 (new ∷ []) own2 changes3)
 
       block3 : Holds m3 new s.bytes
       block3 = holds_there m1 m3 at new s.bytes (outside m2 m3 (rax.refs_of m2 t1) (rax.refs_of m3 t2) (new ∷ []) own2 changes3 new (omega (arith, counts_itself new)) ∙ bytes2) back.0.block
@@ -339,7 +339,7 @@ module _ (m m1 : Blocks) (t0 t1 : PackedTree) (key : Id) (at : BlockRef) (h : Ha
           let n = id_number key in
           let each = subst (AllByRecursion (IsPart m)) s.place h.each in
           let rising = subst Rising s.place h.rising in
-          let tests = all-weaker (λ (x : Mark). (q : Part) × IsId q.key × (x.least ≡ id_key q.key) × IsPart m q) (λ (x : Mark). is_least (id_key key) x ≡ (node_mark x == n))
+          let tests = all_weaker (λ (x : Mark). (q : Part) × IsId q.key × (x.least ≡ id_key q.key) × IsPart m q) (λ (x : Mark). is_least (id_key key) x ≡ (node_mark x == n))
           (rax.marks_of m t0) (λ x f. least_is key x f.0 back.0.id f.1 f.2)
           (least_parts m t0 ps (IsPart m) h h.each) in
           let tree = nodes_passed h0 h2 (id_key key) n (rax.marks_of m t0) (rax.marks_of m1 t1) (passed_calmer h0 h1 h2 (id_key key) (rax.marks_of m t0) (rax.marks_of m1 t1) calmer passed1) tests in

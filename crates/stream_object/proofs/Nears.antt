@@ -9,7 +9,7 @@ use Rattle.std.proofs.lemmas.Bool.{cases_lt, cases_eq, cond-true, cond-false}
 use Rattle.blocks.specs.Blocks.{Blocks}
 use Rattle.stream_node.specs.declared.id.Id.{Id}
 use Rattle.stream_node.specs.Ids.{IsId, id_number, id_key, key_id}
-use Rattle.stream_node.proofs.Ids.{id_laws, cmp-less, cmp-equal, cmp-greater}
+use Rattle.stream_node.proofs.Ids.{id_laws, cmp_less, cmp_equal, cmp_greater}
 use Rattle.rax_packed.specs.declared.tree.PackedTree.{PackedTree}
 use Rattle.rax_packed.specs.Trees.{Entry}
 use Rattle.rax_packed.specs.Packed.{order, value_at, nearest, first_of, last_of, or_else}
@@ -30,19 +30,19 @@ tested : (up : Bool) (id : Id) (p : Part) → IsId id → IsId p.key → (Misses
 tested true id p a b =
     let o = id_laws.bytes p.key id b a in
     elim (cases_lt (id_number p.key) (id_number id)) [
-      | inl less ↦ inl (less, ap (λ x. not (is_lt x)) (o ∙ cmp-less (id_number p.key) (id_number id) less))
+      | inl less ↦ inl (less, ap (λ x. not (is_lt x)) (o ∙ cmp_less (id_number p.key) (id_number id) less))
       | inr upto ↦ elim (cases_eq (id_number p.key) (id_number id)) [
-        | inl same ↦ inr (upto, ap (λ x. not (is_lt x)) (o ∙ cmp-equal (id_number p.key) (id_number id) same))
-        | inr other ↦ (let more : id_number id < id_number p.key = omega arith in inr (upto, ap (λ x. not (is_lt x)) (o ∙ cmp-greater (id_number p.key) (id_number id) more)))
+        | inl same ↦ inr (upto, ap (λ x. not (is_lt x)) (o ∙ cmp_equal (id_number p.key) (id_number id) same))
+        | inr other ↦ (let more : id_number id < id_number p.key = omega arith in inr (upto, ap (λ x. not (is_lt x)) (o ∙ cmp_greater (id_number p.key) (id_number id) more)))
       ]
     ]
 tested false id p a b =
     let o = id_laws.bytes p.key id b a in
     elim (cases_lt (id_number id) (id_number p.key)) [
-      | inl more ↦ inl (more, ap (λ x. not (is_gt x)) (o ∙ cmp-greater (id_number p.key) (id_number id) more))
+      | inl more ↦ inl (more, ap (λ x. not (is_gt x)) (o ∙ cmp_greater (id_number p.key) (id_number id) more))
       | inr upto ↦ elim (cases_eq (id_number p.key) (id_number id)) [
-        | inl same ↦ inr (upto, ap (λ x. not (is_gt x)) (o ∙ cmp-equal (id_number p.key) (id_number id) same))
-        | inr other ↦ (let less : id_number p.key < id_number id = omega arith in inr (upto, ap (λ x. not (is_gt x)) (o ∙ cmp-less (id_number p.key) (id_number id) less)))
+        | inl same ↦ inr (upto, ap (λ x. not (is_gt x)) (o ∙ cmp_equal (id_number p.key) (id_number id) same))
+        | inr other ↦ (let less : id_number p.key < id_number id = omega arith in inr (upto, ap (λ x. not (is_gt x)) (o ∙ cmp_less (id_number p.key) (id_number id) less)))
       ]
     ]
 

@@ -9,18 +9,18 @@ use Rattle.std.specs.declared.cmp.Ordering.TheVariants.{Less, Equal, Greater}
 use Rattle.blocks.specs.declared.BlockRef.{BlockRef}
 use Rattle.blocks.specs.Blocks.{Blocks, times, IsIn, Changes, bytes_at}
 use Rattle.blocks.proofs.Times.{times-append}
-use Rattle.blocks.proofs.Refs.{ref_eq-refl}
-use Rattle.blocks.proofs.Change.{one, one_if, live-once, Changes-beside, Changes-owned, Owned-others}
+use Rattle.blocks.proofs.Refs.{ref_eq_refl}
+use Rattle.blocks.proofs.Change.{one, one_if, live_once, changes_beside, changes_owned, owned_others}
 use Rattle.stream_node.specs.declared.id.Id.{Id}
 use Rattle.stream_node.specs.Entry.{Stored}
 use Rattle.stream_node.specs.Ids.{IsId, id_number, id_key}
-use Rattle.stream_node.proofs.Ids.{id_laws, cmp-less, cmp-greater}
+use Rattle.stream_node.proofs.Ids.{id_laws, cmp_less, cmp_greater}
 use Rattle.rax_packed.specs.declared.tree.PackedTree.{PackedTree}
 use Rattle.rax_packed.specs.Trees.{Entry}
 use Rattle.rax_packed.specs.Packed.{order, value_at, with_entry, without}
 use Rattle.rax_packed.specs.Maps as rax
-use Rattle.rax_packed.proofs.Keys.{order-same}
-use Rattle.rax_packed.proofs.Entries.{All, all-append, all-front, all-back, value_at-parts, with_entry-parts, without-parts, drops}
+use Rattle.rax_packed.proofs.Keys.{order_same}
+use Rattle.rax_packed.proofs.Entries.{All, all-append, all_front, all_back, value_at_parts, with_entry_parts, without_parts, drops}
 use Rattle.rax_packed.proofs.Splits.{one_entry}
 use Rattle.stream_object.specs.Parts.{Part, part, stored_in, live_of, IsPart, EndsBefore, Rising, entry_of, part_of, refs_of, parts_of, all_refs, HasParts}
 use Rattle.stream_object.specs.Block.{pack_in}
@@ -36,15 +36,15 @@ pub keys_rise : (m : Blocks) (p q : Part) → IsPart m p → EndsBefore p q → 
 keys_rise m p q is ends = between (stored_in p) (id_number p.key) (id_number q.key) is.is_node.some is.is_node.from ends
 
 pub order_less : (p q : Part) → IsId p.key → IsId q.key → id_number p.key < id_number q.key → order (id_key p.key) (id_key q.key) ≡ Less
-order_less p q a b less = id_laws.bytes p.key q.key a b ∙ cmp-less (id_number p.key) (id_number q.key) less
+order_less p q a b less = id_laws.bytes p.key q.key a b ∙ cmp_less (id_number p.key) (id_number q.key) less
 
 pub order_greater : (p q : Part) → IsId p.key → IsId q.key → id_number q.key < id_number p.key → order (id_key p.key) (id_key q.key) ≡ Greater
-order_greater p q a b less = id_laws.bytes p.key q.key a b ∙ cmp-greater (id_number p.key) (id_number q.key) less
+order_greater p q a b less = id_laws.bytes p.key q.key a b ∙ cmp_greater (id_number p.key) (id_number q.key) less
 
 -- rising nodes, in two parts
 pub rising_front : (before after : List Part) → Rising (before ++ after) → Rising before
 rising_front [] after r = tt
-rising_front (p ∷ before) after r = (all-front (EndsBefore p) before after r.0, rising_front before after r.1)
+rising_front (p ∷ before) after r = (all_front (EndsBefore p) before after r.0, rising_front before after r.1)
 
 pub rising_back : (before after : List Part) → Rising (before ++ after) → Rising after
 rising_back [] after r = r
@@ -53,14 +53,14 @@ rising_back (p ∷ before) after r = rising_back before after r.1
 pub rising_without : (before after : List Part) (p : Part) → Rising (before ++ p ∷ after) → Rising (before ++ after)
 rising_without [] after p r = r.1
 rising_without (q ∷ before) after p r =
-    (all-append (EndsBefore q) before after (all-front (EndsBefore q) before (p ∷ after) r.0) (all-back (EndsBefore q) before (p ∷ after) r.0).1, rising_without before after p r.1)
+    (all-append (EndsBefore q) before after (all_front (EndsBefore q) before (p ∷ after) r.0) (all_back (EndsBefore q) before (p ∷ after) r.0).1, rising_without before after p r.1)
 
 module _ (m : Blocks) (p : Part) where
   -- nodes before another one have lower keys
   less_before : (before after : List Part) → IsId p.key → AllByRecursion (IsPart m) before → Rising (before ++ p ∷ after) → All Less (id_key p.key) (map entry_of before)
   less_before [] after id each r = tt
   less_before (q ∷ before) after id each r =
-      (order_less q p each.0.id id (keys_rise m q p each.0 (all-back (EndsBefore q) before (p ∷ after) r.0).0), less_before before after id each.1 r.1)
+      (order_less q p each.0.id id (keys_rise m q p each.0 (all_back (EndsBefore q) before (p ∷ after) r.0).0), less_before before after id each.1 r.1)
 
   greater_after : (after : List Part) → IsPart m p → AllByRecursion (IsPart m) after → AllByRecursion (EndsBefore p) after → All Greater (id_key p.key) (map entry_of after)
   greater_after [] is each r = tt
@@ -71,16 +71,16 @@ unfolding with_entry
 one_with key was value =
     let e : Entry = record { key = key; value = was } in
     let new : Entry = record { key = key; value = value } in
-    ap (λ es. es ++ new ∷ filter (λ x. is_gt (order x.key key)) (e ∷ [])) (drops is_lt Equal key (e ∷ []) refl (order-same key, tt))
-    ∙ ap (λ es. [] ++ new ∷ es) (drops is_gt Equal key (e ∷ []) refl (order-same key, tt))
+    ap (λ es. es ++ new ∷ filter (λ x. is_gt (order x.key key)) (e ∷ [])) (drops is_lt Equal key (e ∷ []) refl (order_same key, tt))
+    ∙ ap (λ es. [] ++ new ∷ es) (drops is_gt Equal key (e ∷ []) refl (order_same key, tt))
 
 one_without : (key : List ℕ) (was : BlockRef) → without (record { key = key; value = was } ∷ []) key ≡ []
 unfolding without
-one_without key was = drops is_ne Equal key (record { key = key; value = was } ∷ []) refl (order-same key, tt)
+one_without key was = drops is_ne Equal key (record { key = key; value = was } ∷ []) refl (order_same key, tt)
 
 one_value : (key : List ℕ) (was : BlockRef) → value_at (record { key = key; value = was } ∷ []) key ≡ Some was
 unfolding value_at
-one_value key was = ap (option_map (λ (e : Entry). e.value)) (cond-true _ _ _ (ap is_eq (order-same key)))
+one_value key was = ap (option_map (λ (e : Entry). e.value)) (cond-true _ _ _ (ap is_eq (order_same key)))
 
 -- what the tree says at the key of one node among others
 module _ (m : Blocks) (before after : List Part) (p : Part) (is : IsPart m p) (front : AllByRecursion (IsPart m) before) (back : AllByRecursion (IsPart m) after)
@@ -97,18 +97,18 @@ module _ (m : Blocks) (before after : List Part) (p : Part) (is : IsPart m p) (f
   pub value_there : value_at (map entry_of (before ++ p ∷ after)) (id_key p.key) ≡ Some p.at
   value_there =
       ap (λ es. value_at es (id_key p.key)) (joined (p ∷ []))
-      ∙ value_at-parts (id_key p.key) (map entry_of before) (entry_of p ∷ []) (map entry_of after) less greater ∙ one_value (id_key p.key) p.at
+      ∙ value_at_parts (id_key p.key) (map entry_of before) (entry_of p ∷ []) (map entry_of after) less greater ∙ one_value (id_key p.key) p.at
 
   pub with_there : (at : BlockRef) (bytes : List ℕ) → with_entry (map entry_of (before ++ p ∷ after)) (id_key p.key) at ≡ map entry_of (before ++ part p.key at bytes ∷ after)
   with_there at bytes =
       ap (λ es. with_entry es (id_key p.key) at) (joined (p ∷ []))
-      ∙ with_entry-parts (id_key p.key) (map entry_of before) (entry_of p ∷ []) (map entry_of after) less greater at
+      ∙ with_entry_parts (id_key p.key) (map entry_of before) (entry_of p ∷ []) (map entry_of after) less greater at
       ∙ ap (λ es. map entry_of before ++ (es ++ map entry_of after)) (one_with (id_key p.key) p.at at) ∙ sym (joined (part p.key at bytes ∷ []))
 
   pub without_there : without (map entry_of (before ++ p ∷ after)) (id_key p.key) ≡ map entry_of (before ++ after)
   without_there =
       ap (λ es. without es (id_key p.key)) (joined (p ∷ []))
-      ∙ without-parts (id_key p.key) (map entry_of before) (entry_of p ∷ []) (map entry_of after) less greater
+      ∙ without_parts (id_key p.key) (map entry_of before) (entry_of p ∷ []) (map entry_of after) less greater
       ∙ ap (λ es. map entry_of before ++ (es ++ map entry_of after)) (one_without (id_key p.key) p.at) ∙ sym (joined [])
 
 -- a node behind all others
@@ -117,7 +117,7 @@ pub with_last : (m : Blocks) (ps : List Part) (key : Id) (at : BlockRef) (bytes 
 with_last m ps key at bytes id each rising =
     let whole : map entry_of ps ≡ map entry_of ps ++ ([] ++ []) = sym (append-nil (map entry_of ps)) in
     ap (λ es. with_entry es (id_key key) at) whole
-    ∙ with_entry-parts (id_key key) (map entry_of ps) [] [] (less_before m (part key at bytes) ps [] id each rising) tt at
+    ∙ with_entry_parts (id_key key) (map entry_of ps) [] [] (less_before m (part key at bytes) ps [] id each rising) tt at
     ∙ ap (λ es. map entry_of ps ++ (es ++ [])) (one_entry (id_key key) at) ∙ sym (map-append entry_of ps (part key at bytes ∷ []))
 
 -- nodes are read as they are
@@ -142,14 +142,14 @@ refs_are m tree ps h = ap (λ es. rax.refs_of m tree ++ map (λ (e : Entry). e.v
 pub its_own : (m : Blocks) (tree : PackedTree) (ps : List Part) → HasParts m tree ps → HasParts m tree (parts_of m tree)
 its_own m tree ps h = subst (HasParts m tree) (sym (parts_are m tree ps h)) h
 
-pub times-refs : (r : BlockRef) (xs ys : List Part) → times r (refs_of (xs ++ ys)) ≡ times r (refs_of xs) + times r (refs_of ys)
-times-refs r xs ys = ap (times r) (map-append (λ (p : Part). p.at) xs ys) ∙ times-append r (refs_of xs) (refs_of ys)
+pub times_refs : (r : BlockRef) (xs ys : List Part) → times r (refs_of (xs ++ ys)) ≡ times r (refs_of xs) + times r (refs_of ys)
+times_refs r xs ys = ap (times r) (map-append (λ (p : Part). p.at) xs ys) ∙ times-append r (refs_of xs) (refs_of ys)
 
 -- nodes over a store that keeps their blocks
 pub parts_stay : (a b : Blocks) (ps : List Part) → ((r : BlockRef) → IsIn r (refs_of ps) → b r ≡ a r) → AllByRecursion (IsPart a) ps → AllByRecursion (IsPart b) ps
 parts_stay a b [] same each = tt
 parts_stay a b (p ∷ ps) same each =
-    let here : one p.at p.at ≡ 1 = ap one_if (ref_eq-refl p.at) in (
+    let here : one p.at p.at ≡ 1 = ap one_if (ref_eq_refl p.at) in (
       record { id = each.0.id; block = holds_there a b p.at p.at p.bytes (same p.at (omega (arith, here))) each.0.block; is_node = each.0.is_node },
       parts_stay a b ps
           (λ r isin. same r (omega (arith, isin))) each.1,
@@ -168,8 +168,8 @@ module _ (m after : Blocks) (old new : PackedTree) (before gone come behind : Li
         arith,
         times-append r (rax.refs_of m old) (refs_of (before ++ (gone ++ behind))),
         times-append r (rax.refs_of m old) (refs_of gone),
-        times-refs r before (gone ++ behind),
-        times-refs r gone behind,
+        times_refs r before (gone ++ behind),
+        times_refs r gone behind,
       )
 
   counted_new : (r : BlockRef) → times r (rax.refs_of after new ++ refs_of (before ++ (come ++ behind))) ≡ times r (rax.refs_of after new ++ refs_of come) + beside r
@@ -179,32 +179,32 @@ module _ (m after : Blocks) (old new : PackedTree) (before gone come behind : Li
         arith,
         times-append r (rax.refs_of after new) (refs_of (before ++ (come ++ behind))),
         times-append r (rax.refs_of after new) (refs_of come),
-        times-refs r before
+        times_refs r before
             (come ++ behind),
-        times-refs r come behind,
+        times_refs r come behind,
       )
 
   whole : Changes m after (rax.refs_of m old ++ refs_of (before ++ (gone ++ behind))) (rax.refs_of after new ++ refs_of (before ++ (come ++ behind)))
-  whole = Changes-beside m after (rax.refs_of m old ++ refs_of gone) (rax.refs_of after new ++ refs_of come) (rax.refs_of m old ++ refs_of (before ++ (gone ++ behind)))
+  whole = changes_beside m after (rax.refs_of m old ++ refs_of gone) (rax.refs_of after new ++ refs_of come) (rax.refs_of m old ++ refs_of (before ++ (gone ++ behind)))
       (rax.refs_of after new ++ refs_of (before ++ (come ++ behind))) changes h.owned beside counted_old counted_new
 
   kept : (r : BlockRef) → 0 < beside r → after r ≡ m r
   kept r isin =
-      Owned-others m after (rax.refs_of m old ++ refs_of gone) (rax.refs_of after new ++ refs_of come) (rax.refs_of m old ++ refs_of (before ++ (gone ++ behind))) h.owned changes r
-      (omega (arith, isin, counted_old r)) (omega (arith, isin, counted_old r, h.owned r, live-once m r))
+      owned_others m after (rax.refs_of m old ++ refs_of gone) (rax.refs_of after new ++ refs_of come) (rax.refs_of m old ++ refs_of (before ++ (gone ++ behind))) h.owned changes r
+      (omega (arith, isin, counted_old r)) (omega (arith, isin, counted_old r, h.owned r, live_once m r))
 
   pub exchanged : rax.IsSound after new → rax.entries_of after new ≡ map entry_of (before ++ (come ++ behind)) → AllByRecursion (IsPart after) come → Rising (before ++ (come ++ behind))
       → Exchanges m after old new (before ++ (come ++ behind))
   unfolding beside
   exchanged sound named each rising =
-      let front = parts_stay m after before (λ r isin. kept r (omega (arith, isin))) (all-front (IsPart m) before (gone ++ behind) h.each) in
-      let back = parts_stay m after behind (λ r isin. kept r (omega (arith, isin))) (all-back (IsPart m) gone behind (all-back (IsPart m) before (gone ++ behind) h.each)) in
+      let front = parts_stay m after before (λ r isin. kept r (omega (arith, isin))) (all_front (IsPart m) before (gone ++ behind) h.each) in
+      let back = parts_stay m after behind (λ r isin. kept r (omega (arith, isin))) (all_back (IsPart m) gone behind (all_back (IsPart m) before (gone ++ behind) h.each)) in
       let now : HasParts after new (before ++ (come ++ behind)) = record {
         stands = sound;
         named = named;
         each = all-append (IsPart after) before (come ++ behind) front (all-append (IsPart after) come behind each back);
         rising = rising;
-        owned = Changes-owned m after (rax.refs_of m old ++ refs_of (before ++ (gone ++ behind))) (rax.refs_of after new ++ refs_of (before ++ (come ++ behind))) whole;
+        owned = changes_owned m after (rax.refs_of m old ++ refs_of (before ++ (gone ++ behind))) (rax.refs_of after new ++ refs_of (before ++ (come ++ behind))) whole;
       } in
       record {
         parts = now;

@@ -8,7 +8,7 @@ use Rattle.std.proofs.lemmas.List.Sums.{sum_by-cons, sum_by-append}
 use Rattle.blocks.specs.declared.BlockRef.{BlockRef}
 use Rattle.blocks.specs.Slabs.{Heap, wants, Calmer}
 use Rattle.collection_walk.specs.Marks.{is_passed, is_within, ArePassed}
-use Rattle.rax_packed.proofs.Entries.{all-weaker}
+use Rattle.rax_packed.proofs.Entries.{all_weaker}
 use Rattle.stream_object.specs.Relocation.{PassesOne, PassesAll}
 
 pub passes_append : (h : Heap) (p : ℕ → Bool) (ks ls : List ℕ) (us ws vs zs : List BlockRef) → PassesAll h p ks us vs → PassesAll h p ls ws zs → PassesAll h p (ks ++ ls) (us ++ ws) (vs ++ zs)
@@ -152,21 +152,21 @@ pub step_all : (h l : Heap) (from at n : ℕ) (ks : List ℕ) (us vs ws : List B
     → PassesAll h (is_within from at) ks us vs → PassesAll l (λ m. m == n) ks vs ws → PassesAll l (is_within from (n + 1)) ks us ws
 step_all h l from at n ks us vs ws low order beside calmer x y =
     passes_then h l (is_within from at) (λ m. m == n) (is_within from (n + 1)) ks us vs ws calmer
-    (all-weaker (IsBeside at n) (IsSum (is_within from at) (λ m. m == n) (is_within from (n + 1))) ks (sum_beside from at n low order) beside) x y
+    (all_weaker (IsBeside at n) (IsSum (is_within from at) (λ m. m == n) (is_within from (n + 1))) ks (sum_beside from at n low order) beside) x y
 
 pub step_count : (from at n : ℕ) (ks : List ℕ) → from ≤ n → at ≤ n → AllByRecursion (IsBeside at n) ks
     → count_by (is_within from (n + 1)) ks ≡ count_by (is_within from at) ks + count_by (λ m. m == n) ks
 step_count from at n ks low order beside =
     count_then (is_within from at) (λ m. m == n) (is_within from (n + 1)) ks
-    (all-weaker (IsBeside at n) (IsSum (is_within from at) (λ m. m == n) (is_within from (n + 1))) ks (sum_beside from at n low order) beside)
+    (all_weaker (IsBeside at n) (IsSum (is_within from at) (λ m. m == n) (is_within from (n + 1))) ks (sum_beside from at n low order) beside)
 
 -- the next mark is this one
 pub next_all : (from at n : ℕ) (ks : List ℕ) → at ≤ n → AllByRecursion (IsBeside at n) ks → AllByRecursion (λ k. is_passed from (Some n) k ≡ is_within from at k) ks
-next_all from at n ks order beside = all-weaker (IsBeside at n) (λ k. is_passed from (Some n) k ≡ is_within from at k) ks (next_same from at n order) beside
+next_all from at n ks order beside = all_weaker (IsBeside at n) (λ k. is_passed from (Some n) k ≡ is_within from at k) ks (next_same from at n order) beside
 
 -- no mark is left
 pub end_all : (from at : ℕ) (ks : List ℕ) → AllByRecursion (λ k. k < at) ks → AllByRecursion (λ k. is_passed from None k ≡ is_within from at k) ks
-end_all from at ks less = all-weaker (λ k. k < at) (λ k. is_passed from None k ≡ is_within from at k) ks (end_same from at) less
+end_all from at ks less = all_weaker (λ k. k < at) (λ k. is_passed from None k ≡ is_within from at k) ks (end_same from at) less
 
 pub each_none : (from : ℕ) (ks : List ℕ) → AllByRecursion (λ k. is_within from from k ≡ false) ks
 each_none from [] = tt

@@ -11,30 +11,30 @@ use Rattle.stream_node.specs.declared.id.Id.{Id}
 use Rattle.stream_node.specs.declared.entry.Entry.{Entry}
 use Rattle.stream_node.specs.Entry.{Stored, IsBelow}
 use Rattle.stream_node.specs.View.{stored}
-use Rattle.stream_node.proofs.Ids.{cmp-less, cmp-equal, cmp-greater}
+use Rattle.stream_node.proofs.Ids.{cmp_less, cmp_equal, cmp_greater}
 use Rattle.plain_world.specs.Streams.{StreamEntry}
 use Rattle.stream_object.specs.Parts.{plain, is_live, live_of}
 use Rattle.stream_object.specs.Streams.{pair_of}
 use Rattle.stream_object.specs.declared.owned.Owned.{Owned}
 use Rattle.stream_object.specs.Ranges.{is_between, seen, taken, turned}
-use Rattle.stream_object.proofs.Marking.{live-append, live-one, live-none}
+use Rattle.stream_object.proofs.Marking.{live_append, live_one_in_marking, live_none_in_marking}
 
 -- the order of ids as pairs is that which a test says
 lt_below : (a b : Id) → IsBelow a b → is_lt (id_cmp (pair_of a) (pair_of b)) ≡ true
-lt_below a b (inl less) = ap (λ o. is_lt (ordering_then o (nat_cmp a.seq b.seq))) (cmp-less a.ms b.ms less)
-lt_below a b (inr same) = ap (λ o. is_lt (ordering_then o (nat_cmp a.seq b.seq))) (cmp-equal a.ms b.ms same.0) ∙ ap is_lt (cmp-less a.seq b.seq same.1)
+lt_below a b (inl less) = ap (λ o. is_lt (ordering_then o (nat_cmp a.seq b.seq))) (cmp_less a.ms b.ms less)
+lt_below a b (inr same) = ap (λ o. is_lt (ordering_then o (nat_cmp a.seq b.seq))) (cmp_equal a.ms b.ms same.0) ∙ ap is_lt (cmp_less a.seq b.seq same.1)
 
 not_lt : (x y : ℕ) → y ≤ x → is_lt (nat_cmp x y) ≡ false
-not_lt x y h = elim (cases_lt y x) [ inl more ↦ ap is_lt (cmp-greater x y more) | inr also ↦ ap is_lt (cmp-equal x y (omega arith)) ]
+not_lt x y h = elim (cases_lt y x) [ inl more ↦ ap is_lt (cmp_greater x y more) | inr also ↦ ap is_lt (cmp_equal x y (omega arith)) ]
 
 lt_upto : (a b : Id) → (IsBelow a b → ⊥) → is_lt (id_cmp (pair_of a) (pair_of b)) ≡ false
 lt_upto a b none = elim (cases_lt a.ms b.ms) [
   | inl less ↦ absurd (none (inl less))
   | inr upto ↦ elim (cases_lt b.ms a.ms) [
-    | inl more ↦ ap (λ o. is_lt (ordering_then o (nat_cmp a.seq b.seq))) (cmp-greater a.ms b.ms more)
+    | inl more ↦ ap (λ o. is_lt (ordering_then o (nat_cmp a.seq b.seq))) (cmp_greater a.ms b.ms more)
     | inr also ↦ (let same : a.ms ≡ b.ms = omega arith in elim (cases_lt a.seq b.seq) [
       | inl less ↦ absurd (none (inr (same, less)))
-      | inr rest ↦ ap (λ o. is_lt (ordering_then o (nat_cmp a.seq b.seq))) (cmp-equal a.ms b.ms same) ∙ not_lt a.seq b.seq rest
+      | inr rest ↦ ap (λ o. is_lt (ordering_then o (nat_cmp a.seq b.seq))) (cmp_equal a.ms b.ms same) ∙ not_lt a.seq b.seq rest
     ])
   ]
 ]
@@ -49,10 +49,10 @@ one_picked from to e b is = by_mark e.deleted refl
   where
     by_mark : (d : Bool) → e.deleted ≡ d → filter (is_between from to) (live_of (e ∷ [])) ≡ (if b then plain e ∷ [] else [])
     by_mark true gone =
-        ap (filter (is_between from to)) (live-none e gone)
+        ap (filter (is_between from to)) (live_none_in_marking e gone)
         ∙ sym (cond-false b (plain e ∷ []) [] (is ∙ ap (λ d. not d && is_between from to (plain e)) gone))
     by_mark false live =
-        ap (filter (is_between from to)) (live-one e live)
+        ap (filter (is_between from to)) (live_one_in_marking e live)
         ∙ ap (λ t. if t then plain e ∷ [] else []) (sym (is ∙ ap (λ d. not d && is_between from to (plain e)) live))
 
 -- the entries picked of those that a walk has passed
@@ -63,7 +63,7 @@ pub picked_more : (from to : Id) (xs : List Entry) (x : Entry) (b : Bool) → b 
     → picked_of from to (xs ++ x ∷ []) ≡ picked_of from to xs ++ (if b then seen x ∷ [] else [])
 picked_more from to xs x b is =
     ap (λ es. filter (is_between from to) (live_of es)) (map-append stored xs (x ∷ []))
-    ∙ ap (filter (is_between from to)) (live-append (map stored xs) (stored x ∷ []))
+    ∙ ap (filter (is_between from to)) (live_append (map stored xs) (stored x ∷ []))
     ∙ filter-append (is_between from to) (live_of (map stored xs)) (live_of (stored x ∷ []))
     ∙ ap (λ es. picked_of from to xs ++ es) (one_picked from to (stored x) b is)
 
@@ -98,9 +98,9 @@ module _ (from to : Id) (e : Stored) where
       ∙ ap (λ b. not b && not (is_lt (id_cmp (pair_of to) (pair_of e.id)))) (sym (ap (λ (i : Id). is_lt (id_cmp (pair_of i) (pair_of from))) same) ∙ below_is id from r says back ∙ out)
       ∙ ap not (sym (ap (λ (i : Id). is_lt (id_cmp (pair_of to) (pair_of i))) same) ∙ below_is to id s tells also))
 
-pub length-turned : (back : Bool) (es : List StreamEntry) → length (turned back es) ≡ length es
-length-turned false es = refl
-length-turned true es = length-reverse es
+pub length_turned : (back : Bool) (es : List StreamEntry) → length (turned back es) ≡ length es
+length_turned false es = refl
+length_turned true es = length-reverse es
 
 seen_at : (xs : List Entry) (i : ℕ) (e : Entry) → get_or (map seen xs) i (seen e) ≡ seen (get_or xs i e)
 seen_at [] i e = refl
@@ -113,7 +113,7 @@ pub one_more_taken : (back : Bool) (picked : List Entry) (before : List StreamEn
     → map taken now ≡ before ++ take (index + 1) (turned back (map seen picked))
 one_more_taken back picked before found now o e index place is more same at turn inside =
     let all = turned back (map seen picked) in
-    let within : index < length all = omega (arith, inside, length-turned back (map seen picked), length-map picked seen) in
+    let within : index < length all = omega (arith, inside, length_turned back (map seen picked), length-map picked seen) in
     ap (map taken) more ∙ map-append taken found (o ∷ [])
     ∙ (λ i. is i ++ (same ∙ ap seen at ∙ sym (seen_at picked place e) ∙ sym turn) i ∷ [])
     ∙ append_assoc before (take index all) (get_or all index (seen e) ∷ [])
@@ -141,7 +141,7 @@ module _ (from to : Id) (xs : List Entry) (old now : List StreamEntry) (is : now
   forth_full left all limit joined full =
       let more = filter (is_between from to) (live_of left) in
       let split : filter (is_between from to) (live_of all) ≡ picked_of from to xs ++ more =
-      ap (λ es. filter (is_between from to) (live_of es)) (sym joined) ∙ ap (filter (is_between from to)) (live-append (map stored xs) left)
+      ap (λ es. filter (is_between from to) (live_of es)) (sym joined) ∙ ap (filter (is_between from to)) (live_append (map stored xs) left)
       ∙ filter-append (is_between from to) (live_of (map stored xs)) (live_of left) in
       sym (ap (λ es. take limit (old ++ es)) split
       ∙ ap (take limit) (sym (append_assoc old (picked_of from to xs) more))

@@ -13,8 +13,8 @@ use Rattle.stream_node.specs.declared.entry.Entry.{Entry}
 use Rattle.stream_node.specs.Entry.{Stored}
 use Rattle.stream_node.specs.Ids.{IsId, id_number}
 use Rattle.stream_node.specs.View.{stored}
-use Rattle.stream_node.proofs.Ids.{cmp-less, cmp-equal, cmp-greater}
-use Rattle.rax_packed.proofs.Entries.{all-append, all-weaker}
+use Rattle.stream_node.proofs.Ids.{cmp_less, cmp_equal, cmp_greater}
+use Rattle.rax_packed.proofs.Entries.{all-append, all_weaker}
 use Rattle.plain_world.specs.Streams.{StreamEntry}
 use Rattle.stream_object.specs.declared.stream.Stream.{Stream as Log}
 use Rattle.stream_object.specs.Parts.{Part, stored_in, plain, is_live, live_of, live_in, entries_in, IsPart, Rising}
@@ -22,7 +22,7 @@ use Rattle.stream_object.specs.Streams.{nodes, entries, IsStream, IsChanged, str
 use Rattle.stream_object.specs.Ranges.{seen}
 use Rattle.stream_object.specs.Below.{is_low, count_low, from_id}
 use Rattle.stream_object.proofs.Losing.{pair_cmp, Sorted, node_sorted}
-use Rattle.stream_object.proofs.Marking.{live-append, live-one, live-none}
+use Rattle.stream_object.proofs.Marking.{live_append, live_one_in_marking, live_none_in_marking}
 use Rattle.stream_object.proofs.Walks.{all_live, part_ids, filter_none}
 
 -- the id of an entry
@@ -47,9 +47,9 @@ live_rises (e ∷ es) s = by_mark (live_rises es s.1) e.deleted refl
     by_mark rest true is = subst Rises (sym (ap (map plain) (cond-false _ (e ∷ filter is_live es) (filter is_live es) (ap not is)))) rest
     by_mark rest false is = subst Rises (sym (ap (map plain) (cond-true _ (e ∷ filter is_live es) (filter is_live es) (ap not is)))) (all_live (λ f. id_number e.id < id_number (id_of f)) es s.0, rest)
 
-rises-append : (xs ys : List StreamEntry) → Rises xs → Rises ys → AllByRecursion (λ x. AllAbove (id_of x) ys) xs → Rises (xs ++ ys)
-rises-append [] ys a b h = b
-rises-append (x ∷ xs) ys a b h = (all-append (λ f. id_number (id_of x) < id_number (id_of f)) xs ys a.0 h.0, rises-append xs ys a.1 b h.1)
+rises_append : (xs ys : List StreamEntry) → Rises xs → Rises ys → AllByRecursion (λ x. AllAbove (id_of x) ys) xs → Rises (xs ++ ys)
+rises_append [] ys a b h = b
+rises_append (x ∷ xs) ys a b h = (all-append (λ f. id_number (id_of x) < id_number (id_of f)) xs ys a.0 h.0, rises_append xs ys a.1 b h.1)
 
 module _ (m : Blocks) where
   -- all entries of later nodes are above a number that is not above their keys
@@ -58,7 +58,7 @@ module _ (m : Blocks) where
   above_keys id (q ∷ ps) each h =
       all-append (λ f. id_number id < id_number (id_of f)) (live_in q) (entries_in ps)
       (all_live (λ f. id_number id < id_number (id_of f)) (stored_in q)
-      (all-weaker (λ (e : Stored). id_number q.key ≤ id_number e.id) (λ e. id_number id < id_number e.id) (stored_in q) (λ e upto. omega (arith, upto, h.0)) each.0.is_node.from))
+      (all_weaker (λ (e : Stored). id_number q.key ≤ id_number e.id) (λ e. id_number id < id_number e.id) (stored_in q) (λ e upto. omega (arith, upto, h.0)) each.0.is_node.from))
       (above_keys id ps each.1 h.1)
 
   across : (es : List Stored) (ps : List Part) → AllByRecursion (IsPart m) ps → AllByRecursion (λ q. AllByRecursion (λ e. id_number e.id < id_number q.key) es) ps
@@ -82,7 +82,7 @@ module _ (m : Blocks) where
   pub parts_rise : (ps : List Part) → AllByRecursion (IsPart m) ps → Rising ps → Rises (entries_in ps)
   parts_rise [] each r = tt
   parts_rise (p ∷ ps) each r =
-      rises-append (live_in p) (entries_in ps) (live_rises (stored_in p) (node_sorted p.key (texts p.bytes) each.0.is_node.node)) (parts_rise ps each.1 r.1) (across (stored_in p) ps each.1 r.0)
+      rises_append (live_in p) (entries_in ps) (live_rises (stored_in p) (node_sorted p.key (texts p.bytes) each.0.is_node.node)) (parts_rise ps each.1 r.1) (across (stored_in p) ps each.1 r.0)
 
   pub parts_fit : (ps : List Part) → AllByRecursion (IsPart m) ps → Fit (entries_in ps)
   parts_fit [] each = tt
@@ -100,12 +100,12 @@ module _ (least : Id) (fits : IsId least) where
   low e = is_low least e
 
   low_yes : (e : StreamEntry) → IsId (id_of e) → id_number (id_of e) < id_number least → low e ≡ true
-  low_yes e x less = ap is_lt (pair_cmp (id_of e) least x fits ∙ cmp-less (id_number (id_of e)) (id_number least) less)
+  low_yes e x less = ap is_lt (pair_cmp (id_of e) least x fits ∙ cmp_less (id_number (id_of e)) (id_number least) less)
 
   low_no : (e : StreamEntry) → IsId (id_of e) → id_number least ≤ id_number (id_of e) → low e ≡ false
   low_no e x upto = elim (cases_lt (id_number least) (id_number (id_of e))) [
-    | inl more ↦ ap is_lt (pair_cmp (id_of e) least x fits ∙ cmp-greater (id_number (id_of e)) (id_number least) more)
-    | inr also ↦ ap is_lt (pair_cmp (id_of e) least x fits ∙ cmp-equal (id_number (id_of e)) (id_number least) (omega arith))
+    | inl more ↦ ap is_lt (pair_cmp (id_of e) least x fits ∙ cmp_greater (id_number (id_of e)) (id_number least) more)
+    | inr also ↦ ap is_lt (pair_cmp (id_of e) least x fits ∙ cmp_equal (id_number (id_of e)) (id_number least) (omega arith))
   ]
 
   others_no : (e : StreamEntry) (es : List StreamEntry) → id_number least ≤ id_number (id_of e) → Fit es → AllAbove (id_of e) es → AllByRecursion (λ f. low f ≡ false) es
@@ -154,21 +154,21 @@ one_low least e b is = by_mark e.deleted refl
   where
     by_mark : (d : Bool) → e.deleted ≡ d → filter (is_low least) (live_of (e ∷ [])) ≡ (if b then plain e ∷ [] else [])
     by_mark true gone =
-        ap (filter (is_low least)) (live-none e gone) ∙ sym (cond-false b (plain e ∷ []) [] (is ∙ ap (λ d. not d && is_low least (plain e)) gone))
+        ap (filter (is_low least)) (live_none_in_marking e gone) ∙ sym (cond-false b (plain e ∷ []) [] (is ∙ ap (λ d. not d && is_low least (plain e)) gone))
     by_mark false live =
-        ap (filter (is_low least)) (live-one e live) ∙ ap (λ t. if t then plain e ∷ [] else []) (sym (is ∙ ap (λ d. not d && is_low least (plain e)) live))
+        ap (filter (is_low least)) (live_one_in_marking e live) ∙ ap (λ t. if t then plain e ∷ [] else []) (sym (is ∙ ap (λ d. not d && is_low least (plain e)) live))
 
 pub low_more : (least : Id) (xs : List Entry) (x : Entry) (b : Bool) → b ≡ (is_live (stored x) && is_low least (seen x)) → low_of least (xs ++ x ∷ []) ≡ low_of least xs
     ++ (if b then seen x ∷ [] else [])
 low_more least xs x b is =
     ap (λ es. filter (is_low least) (live_of es)) (map-append stored xs (x ∷ []))
-    ∙ ap (filter (is_low least)) (live-append (map stored xs) (stored x ∷ []))
+    ∙ ap (filter (is_low least)) (live_append (map stored xs) (stored x ∷ []))
     ∙ filter-append (is_low least) (live_of (map stored xs)) (live_of (stored x ∷ []))
     ∙ ap (λ es. low_of least xs ++ es) (one_low least (stored x) b is)
 
-pub length-kept : {X : Type 0} (f : X → Bool) (xs : List X) → length (filter f xs) ≤ length xs
-length-kept f [] = omega arith
-length-kept f (x ∷ xs) = by_test (length-kept f xs) (f x) refl
+pub length_kept : {X : Type 0} (f : X → Bool) (xs : List X) → length (filter f xs) ≤ length xs
+length_kept f [] = omega arith
+length_kept f (x ∷ xs) = by_test (length_kept f xs) (f x) refl
   where
     by_test : length (filter f xs) ≤ length xs → (b : Bool) → f x ≡ b → length (filter f (x ∷ xs)) ≤ length (x ∷ xs)
     by_test less true is = omega (arith, ap length (cond-true (f x) (x ∷ filter f xs) (filter f xs) is), less)

@@ -24,7 +24,7 @@ use Rattle.listpack.proofs.Encodings.{needed_short_text, needed_thirteen_bits, n
 use Rattle.listpack.proofs.Encodings.{text_short_text, text_thirteen_bits, text_medium_text, text_long_text}
 use Rattle.listpack.proofs.Writings.{number_small, number_thirteen, number_two, number_three, number_four, number_eight, head_short, head_medium, head_long, number_cases, spelling_as}
 use Rattle.stream_node.proofs.Written.{written}
-use Rattle.rax_packed.proofs.Entries.{all-front, all-back}
+use Rattle.rax_packed.proofs.Entries.{all_front, all_back}
 
 -- numbers that are bytes
 abbrev pub Bytes : List ℕ → Type 0
@@ -293,11 +293,11 @@ entry_rises s t le = omega (arith, le, back_rises (length s) (length t) le, leng
 pub written_shortest : (ss : List (List ℕ)) → All IsSpelling ss → Bytes (entries ss) → written (map text_of ss) ≤ length (entries ss)
 written_shortest [] own all = omega arith
 written_shortest (s ∷ ss) own all =
-    let first = all-front (λ b. b < 256) (entry_of s) (entries ss) all in
-    let short = shortest s (All-head IsSpelling s ss own) (all-front (λ b. b < 256) s (back_length (length s)) first) in
+    let first = all_front (λ b. b < 256) (entry_of s) (entries ss) all in
+    let short = shortest s (All-head IsSpelling s ss own) (all_front (λ b. b < 256) s (back_length (length s)) first) in
     omega (
       arith,
-      written_shortest ss (All-tail IsSpelling s ss own) (all-back (λ b. b < 256) (entry_of s) (entries ss) all),
+      written_shortest ss (All-tail IsSpelling s ss own) (all_back (λ b. b < 256) (entry_of s) (entries ss) all),
       entry_rises (spelling (text_of s)) s short,
       length-append (entry_of (spelling (text_of s))) (entries (map spelling (map text_of ss))),
       length-append (entry_of s) (entries ss),

@@ -3,11 +3,11 @@ use Rattle.std.proofs.Common.{◌≡◌, ◌∙◌, ℕ, zero, suc, ◌+◌, ◌
 use Rattle.std.specs.Prelude.{true, Result, Ok, Err, OnErr}
 use Rattle.std.specs.List.{AllByRecursion}
 use Rattle.blocks.specs.Blocks.{Blocks, Changes}
-use Rattle.blocks.proofs.Change.{Changes-same, Changes-then}
+use Rattle.blocks.proofs.Change.{changes_same, changes_then}
 use Rattle.stream_node.specs.declared.id.Id.{Id}
 use Rattle.stream_node.specs.Entry.{Stored}
 use Rattle.stream_node.specs.Ids.{IsId, id_number}
-use Rattle.rax_packed.proofs.Entries.{all-append, all-front, all-back}
+use Rattle.rax_packed.proofs.Entries.{all-append, all_front, all_back}
 use Rattle.stream_object.specs.declared.stream.Stream.{Stream as Log}
 use Rattle.stream_object.specs.Parts.{Part, stored_in, plain, live_of, live_in, entries_in}
 use Rattle.stream_object.specs.Found.{IsNear, Exchanges}
@@ -15,8 +15,8 @@ use Rattle.stream_object.specs.Node.{IsAt}
 use Rattle.stream_object.specs.Tail.{IsKept}
 use Rattle.stream_object.specs.Streams.{nodes, entries, refs, AreUpto, IsStream, IsChanged, TakesOut, stream_of, dropping}
 use Rattle.stream_object.proofs.Parts.{parts_are, its_own, refs_are}
-use Rattle.stream_object.proofs.Marking.{live-append, live-one}
-use Rattle.stream_object.proofs.Grows.{entries-append}
+use Rattle.stream_object.proofs.Marking.{live_append, live_one_in_marking}
+use Rattle.stream_object.proofs.Grows.{entries_append}
 use Rattle.stream_object.proofs.Clears.{none_below}
 use Rattle.stream_object.proofs.Tails.{IsLeft, kept_beside}
 
@@ -58,13 +58,13 @@ module _ (m : Blocks) (old : Log) (low : Id) (p : Part) (a : low.ms ≡ 0) (b : 
   none_before = none_below low a b n.before n.passes
 
   pub first_split : entries m old ≡ live_in p ++ entries_in n.after
-  first_split = ap entries_in n.place ∙ entries-append n.before (p ∷ n.after) ∙ ap (λ qs. entries_in qs ++ (live_in p ++ entries_in n.after)) none_before
+  first_split = ap entries_in n.place ∙ entries_append n.before (p ∷ n.after) ∙ ap (λ qs. entries_in qs ++ (live_in p ++ entries_in n.after)) none_before
 
   upto_after : AreUpto old.last (n.before ++ n.after)
   upto_after =
       let U : Part → Type 0 = λ x. AllByRecursion (λ f. id_number f.id ≤ id_number old.last) (stored_in x) in
       let split = subst (AreUpto old.last) n.place is.upto in
-      all-append U n.before n.after (all-front U n.before (p ∷ n.after) split) (all-back U n.before (p ∷ n.after) split).1
+      all-append U n.before n.after (all_front U n.before (p ∷ n.after) split) (all_back U n.before (p ∷ n.after) split).1
 
   -- all of it goes
   pub node_dropped : (after : Blocks) (new : Log) (count : ℕ) → count ≡ length (live_in p) → Exchanges m after old.tree new.tree (n.before ++ n.after) → IsLeft old.tail new.tail p.key
@@ -72,7 +72,7 @@ module _ (m : Blocks) (old : Log) (low : Id) (p : Part) (a : low.ms ≡ 0) (b : 
       → IsChanged m after old new (dropping (stream_of m old) count)
   node_dropped after new count all ex left =
       dropped m after old new count (n.before ++ n.after) is ex
-      (entries-append n.before n.after ∙ ap (λ qs. entries_in qs ++ entries_in n.after) none_before
+      (entries_append n.before n.after ∙ ap (λ qs. entries_in qs ++ entries_in n.after) none_before
       ∙ sym (ap (drop count) first_split ∙ ap (λ k. drop k (live_in p ++ entries_in n.after)) all ∙ drop_front (live_in p) (entries_in n.after)))
       upto_after (kept_beside (nodes m old) (n.before ++ n.after) n.before n.before n.after p p.key old.tail new.tail refl n.place refl is.kept left)
 
@@ -82,9 +82,9 @@ module _ (m : Blocks) (old : Log) (low : Id) (p : Part) (a : low.ms ≡ 0) (b : 
       → new.deleted ≡ old.deleted → new.added ≡ old.added → new.groups ≡ old.groups
       → IsChanged m after old new (dropping (stream_of m old) 1)
   first_dropped after new index e at none t left =
-      let here : live_in p ≡ plain e ∷ live_of at.after = ap live_of at.place ∙ live-append at.before (e ∷ at.after) ∙ ap (λ xs. xs ++ live_of (e ∷ at.after)) none
-      ∙ live-append (e ∷ []) at.after ∙ ap (λ xs. xs ++ live_of at.after) (live-one e at.live) in
-      let rest : live_of (at.before ++ at.after) ≡ live_of at.after = live-append at.before at.after ∙ ap (λ xs. xs ++ live_of at.after) none in
+      let here : live_in p ≡ plain e ∷ live_of at.after = ap live_of at.place ∙ live_append at.before (e ∷ at.after) ∙ ap (λ xs. xs ++ live_of (e ∷ at.after)) none
+      ∙ live_append (e ∷ []) at.after ∙ ap (λ xs. xs ++ live_of at.after) (live_one_in_marking e at.live) in
+      let rest : live_of (at.before ++ at.after) ≡ live_of at.after = live_append at.before at.after ∙ ap (λ xs. xs ++ live_of at.after) none in
       dropped m after old new 1 t.parts is t.exchanges
       (t.entries_are ∙ (λ i. entries_in (none_before i) ++ (rest i ++ entries_in n.after)) ∙ sym (ap (drop 1) (first_split ∙ ap (λ xs. xs ++ entries_in n.after) here)))
       (t.upto old.last is.upto) (kept_beside (nodes m old) t.parts n.before t.front n.after p p.key old.tail new.tail refl n.place t.stays is.kept left)
@@ -94,14 +94,14 @@ module _ (m : Blocks) (old : Log) (low : Id) (p : Part) (a : low.ms ≡ 0) (b : 
 
 -- nothing was taken out yet
 pub dropped_none : (m : Blocks) (s : Log) → IsStream m s → IsChanged m m s s (dropping (stream_of m s) 0)
-dropped_none m s is = record { is_stream = is; value_is = refl; changes = subst (λ rs. Changes m m rs rs) (sym (refs_are m s.tree (nodes m s) is.parts)) (Changes-same m _ is.parts.owned) }
+dropped_none m s is = record { is_stream = is; value_is = refl; changes = subst (λ rs. Changes m m rs rs) (sym (refs_are m s.tree (nodes m s) is.parts)) (changes_same m _ is.parts.owned) }
 
 pub dropped_then : (a b c : Blocks) (old mid new : Log) (j k n : ℕ) → n ≡ j + k → IsChanged a b old mid (dropping (stream_of a old) j)
     → IsChanged b c mid new (dropping (stream_of b mid) k) → IsChanged a c old new (dropping (stream_of a old) n)
 dropped_then a b c old mid new j k n sum x y = record {
   is_stream = y.is_stream;
   value_is = y.value_is ∙ ap (λ s. dropping s k) x.value_is ∙ ap (λ es. record (stream_of a old) { entries = es }) (drop_more j k (entries a old) ∙ ap (λ i. drop i (entries a old)) (sym sum));
-  changes = Changes-then a b c (refs a old) (refs b mid) (refs c new) x.changes y.changes;
+  changes = changes_then a b c (refs a old) (refs b mid) (refs c new) x.changes y.changes;
 }
 
 -- entries stand in some node

@@ -4,13 +4,13 @@ use Rattle.std.specs.Prelude.{true, None}
 use Rattle.std.specs.List.{AllByRecursion}
 use Rattle.std.proofs.lemmas.List.{length-map}
 use Rattle.blocks.specs.Blocks.{Blocks}
-use Rattle.blocks.proofs.Change.{Changes-then}
+use Rattle.blocks.proofs.Change.{changes_then}
 use Rattle.stream_node.specs.declared.id.Id.{Id}
 use Rattle.stream_node.specs.Ids.{IsId, id_number}
 use Rattle.rax_packed.specs.declared.tree.PackedTree.{PackedTree}
 use Rattle.rax_packed.specs.Trees.{Entry}
 use Rattle.rax_packed.specs.Maps as rax
-use Rattle.rax_packed.proofs.Entries.{all-append, all-back, all-weaker}
+use Rattle.rax_packed.proofs.Entries.{all-append, all_back, all_weaker}
 use Rattle.rax_packed.proofs.Marked.{tree_marked}
 use Rattle.stream_object.specs.Copied.{AreSame}
 use Rattle.stream_object.specs.Found.{IsNear, Misses}
@@ -38,7 +38,7 @@ pub moves_then : (a b c : Blocks) (x y z : PackedTree) → Moves a b x y → Mov
 moves_then a b c x y z p q = record {
   parts = q.parts;
   same = same_then (parts_of a x) (parts_of b y) (parts_of c z) p.same q.same;
-  changes = Changes-then a b c (all_refs a x) (all_refs b y) (all_refs c z) p.changes q.changes;
+  changes = changes_then a b c (all_refs a x) (all_refs b y) (all_refs c z) p.changes q.changes;
   marks_are = q.marks_are ∙ p.marks_are;
 }
 
@@ -65,8 +65,8 @@ near_beside m tree at p h near =
     let beside : Part → Type 0 = λ q. IsBeside (id_number at) (id_number p.key) (id_number q.key) in
     let each = subst (AllByRecursion (IsPart m)) near.place h.each in
     let rising = subst Rising near.place h.rising in
-    let front = all-weaker (Misses true at) beside near.before (λ q less. inl less) near.passes in
-    let back = all-weaker (λ (q : Part). id_number p.key < id_number q.key) beside near.after (λ q more. inr (omega (arith, more))) (keys_after m near.before near.after p each rising) in
+    let front = all_weaker (Misses true at) beside near.before (λ q less. inl less) near.passes in
+    let back = all_weaker (λ (q : Part). id_number p.key < id_number q.key) beside near.after (λ q more. inr (omega (arith, more))) (keys_after m near.before near.after p each rising) in
     let mine : beside p = inr (omega arith) in
     tree_all m tree (parts_of m tree) (IsBeside (id_number at) (id_number p.key)) h (subst (AllByRecursion beside) (sym near.place) (all-append beside near.before (p ∷ near.after) front (mine, back)))
 
@@ -78,7 +78,7 @@ all_below m tree at h none = tree_all m tree (parts_of m tree) (λ k. k < id_num
 -- no mark is above the greatest id's
 pub all_small : (m : Blocks) (tree : PackedTree) (n : ℕ) → n + 1 ≡ 2 ^ 128 → HasParts m tree (parts_of m tree) → AllByRecursion (λ k. k < n + 1) (tree_marks m tree)
 all_small m tree n last h =
-    tree_all m tree (parts_of m tree) (λ k. k < n + 1) h (all-weaker (IsPart m) (λ (p : Part). id_number p.key < n + 1) (parts_of m tree) (λ p is. omega (arith, last, is.id.ms, is.id.seq)) h.each)
+    tree_all m tree (parts_of m tree) (λ k. k < n + 1) h (all_weaker (IsPart m) (λ (p : Part). id_number p.key < n + 1) (parts_of m tree) (λ p is. omega (arith, last, is.id.ms, is.id.seq)) h.each)
 
 -- a stream over a tree whose blocks have moved
 pub relocated : (m after : Blocks) (old new : Log) → IsStream m old → Moves m after old.tree new.tree → new.len ≡ old.len → new.last ≡ old.last → new.deleted ≡ old.deleted
@@ -101,5 +101,5 @@ relocated m after old new is moves len last deleted added groups tail =
 -- a node's key is an id
 pub near_small : (m : Blocks) (tree : PackedTree) (at : Id) (p : Part) → HasParts m tree (parts_of m tree) → IsNear true (parts_of m tree) at p → id_number p.key < 2 ^ 128
 near_small m tree at p h near =
-    let mine = (all-back (IsPart m) near.before (p ∷ near.after) (subst (AllByRecursion (IsPart m)) near.place h.each)).0.id in
+    let mine = (all_back (IsPart m) near.before (p ∷ near.after) (subst (AllByRecursion (IsPart m)) near.place h.each)).0.id in
     omega (arith, mine.ms, mine.seq)

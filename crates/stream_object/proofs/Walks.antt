@@ -12,8 +12,8 @@ use Rattle.stream_groups.specs.Groups.{id_cmp}
 use Rattle.stream_node.specs.declared.id.Id.{Id}
 use Rattle.stream_node.specs.Entry.{Stored}
 use Rattle.stream_node.specs.Ids.{IsId, id_number}
-use Rattle.stream_node.proofs.Ids.{cmp-less, cmp-equal, cmp-greater}
-use Rattle.rax_packed.proofs.Entries.{all-front, all-back, all-weaker}
+use Rattle.stream_node.proofs.Ids.{cmp_less, cmp_equal, cmp_greater}
+use Rattle.rax_packed.proofs.Entries.{all_front, all_back, all_weaker}
 use Rattle.plain_world.specs.Streams.{StreamEntry}
 use Rattle.stream_object.specs.declared.owned.Owned.{Owned}
 use Rattle.stream_object.specs.declared.wanted.Wanted.{Wanted}
@@ -24,7 +24,7 @@ use Rattle.stream_object.specs.Ranges.{taken, is_between, turned, wanted_of, wan
 use Rattle.stream_object.proofs.Parts.{keys_rise, rising_back}
 use Rattle.stream_object.proofs.Losing.{pair_cmp}
 use Rattle.stream_object.proofs.Marking.{node_ids}
-use Rattle.stream_object.proofs.Grows.{entries-append}
+use Rattle.stream_object.proofs.Grows.{entries_append}
 
 -- so many of the first ones, and more behind them
 pub take_again : {X : Type 0} (n : ℕ) (xs ys : List X) → take n (take n xs ++ ys) ≡ take n (xs ++ ys)
@@ -59,12 +59,12 @@ and_false false = refl
 
 -- tests on numbers
 pub less_test : (a b : ℕ) → a < b → not (is_lt (nat_cmp a b)) ≡ false
-less_test a b h = ap (λ o. not (is_lt o)) (cmp-less a b h)
+less_test a b h = ap (λ o. not (is_lt o)) (cmp_less a b h)
 
 pub upto_test : (a b : ℕ) → a ≤ b → not (is_lt (nat_cmp b a)) ≡ true
 upto_test a b h = elim (cases_lt a b) [
-  | inl less ↦ ap (λ o. not (is_lt o)) (cmp-greater b a less)
-  | inr also ↦ ap (λ o. not (is_lt o)) (cmp-equal b a (omega arith))
+  | inl less ↦ ap (λ o. not (is_lt o)) (cmp_greater b a less)
+  | inr also ↦ ap (λ o. not (is_lt o)) (cmp_equal b a (omega arith))
 ]
 
 pub part_ids : (m : Blocks) (p : Part) → IsPart m p → AllByRecursion (λ e. IsId e.id) (stored_in p)
@@ -77,11 +77,11 @@ module _ (from to : Id) (ff : IsId from) (ft : IsId to) where
 
   below_from : (e : Stored) → IsId e.id → id_number e.id < id_number from → test (plain e) ≡ false
   below_from e x less =
-      ap (λ o. not (is_lt o) && not (is_lt (id_cmp (pair_of to) (pair_of e.id)))) (pair_cmp e.id from x ff ∙ cmp-less (id_number e.id) (id_number from) less)
+      ap (λ o. not (is_lt o) && not (is_lt (id_cmp (pair_of to) (pair_of e.id)))) (pair_cmp e.id from x ff ∙ cmp_less (id_number e.id) (id_number from) less)
 
   above_to : (e : Stored) → IsId e.id → id_number to < id_number e.id → test (plain e) ≡ false
   above_to e x more =
-      ap (λ o. not (is_lt (id_cmp (pair_of e.id) (pair_of from))) && not (is_lt o)) (pair_cmp to e.id ft x ∙ cmp-less (id_number to) (id_number e.id) more)
+      ap (λ o. not (is_lt (id_cmp (pair_of e.id) (pair_of from))) && not (is_lt o)) (pair_cmp to e.id ft x ∙ cmp_less (id_number to) (id_number e.id) more)
       ∙ and_false (not (is_lt (id_cmp (pair_of e.id) (pair_of from))))
 
   low_none : (es : List Stored) → AllByRecursion (λ e. IsId e.id) es → AllByRecursion (λ e. id_number e.id < id_number from) es → filter test (live_of es) ≡ []
@@ -100,7 +100,7 @@ module _ (from to : Id) (ff : IsId from) (ft : IsId to) where
     part_high : (p : Part) → IsPart m p → id_number to < id_number p.key → filter test (live_in p) ≡ []
     part_high p is more =
         high_none (stored_in p) (part_ids m p is)
-        (all-weaker (λ (e : Stored). id_number p.key ≤ id_number e.id) (λ e. id_number to < id_number e.id) (stored_in p) (λ e upto. omega (arith, more)) is.is_node.from)
+        (all_weaker (λ (e : Stored). id_number p.key ≤ id_number e.id) (λ e. id_number to < id_number e.id) (stored_in p) (λ e upto. omega (arith, more)) is.is_node.from)
 
     parts_high : (ps : List Part) → AllByRecursion (IsPart m) ps → AllByRecursion (λ p. id_number to < id_number p.key) ps → filter test (entries_in ps) ≡ []
     parts_high [] each more = refl
@@ -109,9 +109,9 @@ module _ (from to : Id) (ff : IsId from) (ft : IsId to) where
     parts_low : (ps after : List Part) (p : Part) → AllByRecursion (IsPart m) ps → Rising (ps ++ p ∷ after) → id_number p.key ≤ id_number from → filter test (entries_in ps) ≡ []
     parts_low [] after p each r upto = refl
     parts_low (q ∷ ps) after p each r upto =
-        let ends = (all-back (EndsBefore q) ps (p ∷ after) r.0).0 in
+        let ends = (all_back (EndsBefore q) ps (p ∷ after) r.0).0 in
         let here = low_none (stored_in q) (part_ids m q each.0)
-        (all-weaker (λ (e : Stored). id_number e.id < id_number p.key) (λ e. id_number e.id < id_number from) (stored_in q) (λ e less. omega (arith, upto)) ends) in
+        (all_weaker (λ (e : Stored). id_number e.id < id_number p.key) (λ e. id_number e.id < id_number from) (stored_in q) (λ e less. omega (arith, upto)) ends) in
         joined q ps ∙ (λ i. here i ++ parts_low ps after p each.1 r.1 upto i)
 
     -- nodes above the upper id have nothing that is wanted
@@ -129,17 +129,17 @@ module _ (from to : Id) (ff : IsId from) (ft : IsId to) where
 -- the keys of the nodes around one of them
 module _ (m : Blocks) (before after : List Part) (p : Part) (each : AllByRecursion (IsPart m) (before ++ p ∷ after)) (rising : Rising (before ++ p ∷ after)) where
   pub keys_before : AllByRecursion (λ q. id_number q.key < id_number p.key) before
-  keys_before = walk before (all-front (IsPart m) before (p ∷ after) each) rising
+  keys_before = walk before (all_front (IsPart m) before (p ∷ after) each) rising
     where
       walk : (qs : List Part) → AllByRecursion (IsPart m) qs → Rising (qs ++ p ∷ after) → AllByRecursion (λ q. id_number q.key < id_number p.key) qs
       walk [] a r = tt
-      walk (q ∷ qs) a r = (keys_rise m q p a.0 (all-back (EndsBefore q) qs (p ∷ after) r.0).0, walk qs a.1 r.1)
+      walk (q ∷ qs) a r = (keys_rise m q p a.0 (all_back (EndsBefore q) qs (p ∷ after) r.0).0, walk qs a.1 r.1)
 
   mine : IsPart m p × AllByRecursion (IsPart m) after
-  mine = all-back (IsPart m) before (p ∷ after) each
+  mine = all_back (IsPart m) before (p ∷ after) each
 
   pub keys_after : AllByRecursion (λ q. id_number p.key < id_number q.key) after
-  keys_after = all-weaker (EndsBefore p) (λ q. id_number p.key < id_number q.key) after (λ q ends. keys_rise m p q mine.0 ends) (rising_back before (p ∷ after) rising).0
+  keys_after = all_weaker (EndsBefore p) (λ q. id_number p.key < id_number q.key) after (λ q ends. keys_rise m p q mine.0 ends) (rising_back before (p ∷ after) rising).0
 
   -- what a walk has before it: from this node on, and behind it
   pub up_from : (at : Id) → AllByRecursion (λ q. id_number q.key < id_number at) before → id_number at ≤ id_number p.key → filter (is_ahead false at) (before ++ p ∷ after) ≡ p ∷ after
@@ -147,10 +147,10 @@ module _ (m : Blocks) (before after : List Part) (p : Part) (each : AllByRecursi
       filter-append (is_ahead false at) before (p ∷ after)
       ∙
       (λ i. filter_none (is_ahead false at) before
-      (all-weaker (λ (q : Part). id_number q.key < id_number at) (λ q. is_ahead false at q ≡ false) before (λ q h. less_test (id_number q.key) (id_number at) h) less) i
+      (all_weaker (λ (q : Part). id_number q.key < id_number at) (λ q. is_ahead false at q ≡ false) before (λ q h. less_test (id_number q.key) (id_number at) h) less) i
       ++ filter_all (is_ahead false at) (p ∷ after) (
         upto_test (id_number at) (id_number p.key) upto,
-        all-weaker (λ (q : Part). id_number p.key < id_number q.key) (λ q. is_ahead false at q ≡ true) after
+        all_weaker (λ (q : Part). id_number p.key < id_number q.key) (λ q. is_ahead false at q ≡ true) after
             (λ q h. upto_test (id_number at) (id_number q.key) (omega (arith, upto, h))) keys_after,
       ) i)
 
@@ -159,22 +159,22 @@ module _ (m : Blocks) (before after : List Part) (p : Part) (each : AllByRecursi
       filter-append (is_ahead false at) before (p ∷ after)
       ∙
       (λ i. filter_none (is_ahead false at) before
-      (all-weaker (λ (q : Part). id_number q.key < id_number p.key) (λ q. is_ahead false at q ≡ false) before (λ q h. less_test (id_number q.key) (id_number at) (omega (arith, is, h)))
+      (all_weaker (λ (q : Part). id_number q.key < id_number p.key) (λ q. is_ahead false at q ≡ false) before (λ q h. less_test (id_number q.key) (id_number at) (omega (arith, is, h)))
       keys_before) i
       ++ filter (is_ahead false at) (p ∷ after))
       ∙ cond-false _ (p ∷ filter (is_ahead false at) after) (filter (is_ahead false at) after) (less_test (id_number p.key) (id_number at) (omega (arith, is)))
       ∙ filter_all (is_ahead false at) after
-      (all-weaker (λ (q : Part). id_number p.key < id_number q.key) (λ q. is_ahead false at q ≡ true) after (λ q h. upto_test (id_number at) (id_number q.key) (omega (arith, is, h)))
+      (all_weaker (λ (q : Part). id_number p.key < id_number q.key) (λ q. is_ahead false at q ≡ true) after (λ q h. upto_test (id_number at) (id_number q.key) (omega (arith, is, h)))
       keys_after)
 
   none_after : (at : Id) → id_number at ≤ id_number p.key → filter (is_ahead true at) after ≡ []
   none_after at upto = filter_none (is_ahead true at) after
-      (all-weaker (λ (q : Part). id_number p.key < id_number q.key) (λ q. is_ahead true at q ≡ false) after (λ q h. less_test (id_number at) (id_number q.key) (omega (arith, upto, h)))
+      (all_weaker (λ (q : Part). id_number p.key < id_number q.key) (λ q. is_ahead true at q ≡ false) after (λ q h. less_test (id_number at) (id_number q.key) (omega (arith, upto, h)))
       keys_after)
 
   all_before : (at : Id) → id_number p.key ≤ id_number at + 1 → filter (is_ahead true at) before ≡ before
   all_before at upto = filter_all (is_ahead true at) before
-      (all-weaker (λ (q : Part). id_number q.key < id_number p.key) (λ q. is_ahead true at q ≡ true) before (λ q h. upto_test (id_number q.key) (id_number at) (omega (arith, upto, h)))
+      (all_weaker (λ (q : Part). id_number q.key < id_number p.key) (λ q. is_ahead true at q ≡ true) before (λ q h. upto_test (id_number q.key) (id_number at) (omega (arith, upto, h)))
       keys_before)
 
   down_from : (at : Id) → id_number p.key ≤ id_number at → AllByRecursion (λ q. id_number at < id_number q.key) after → filter (is_ahead true at) (before ++ p ∷ after) ≡ before ++ p ∷ []
@@ -184,7 +184,7 @@ module _ (m : Blocks) (before after : List Part) (p : Part) (each : AllByRecursi
       ∙ ap (λ qs. before ++ qs) (cond-true _ (p ∷ filter (is_ahead true at) after) (filter (is_ahead true at) after) (upto_test (id_number p.key) (id_number at) upto)
       ∙ ap (λ qs. p ∷ qs)
       (filter_none (is_ahead true at) after
-      (all-weaker (λ (q : Part). id_number at < id_number q.key) (λ q. is_ahead true at q ≡ false) after (λ q h. less_test (id_number at) (id_number q.key) h) more)))
+      (all_weaker (λ (q : Part). id_number at < id_number q.key) (λ q. is_ahead true at q ≡ false) after (λ q h. less_test (id_number at) (id_number q.key) h) more)))
 
   down_behind : (at : Id) → id_number at + 1 ≡ id_number p.key → filter (is_ahead true at) (before ++ p ∷ after) ≡ before
   down_behind at is =
@@ -211,13 +211,13 @@ module _ (m : Blocks) (from to : Id) (limit : ℕ) (ff : IsId from) (ft : IsId t
   pub goes_nowhere : (back : Bool) (found : List Owned) → length found ≤ limit → AllByRecursion (Misses (not back) at) ps → Goes (want from to back limit) ps at found found None
   goes_nowhere false found within miss = record {
     same = ap (λ qs. take limit (map taken found ++ wanted_in (want from to false limit) qs))
-        (sym (filter_none (is_ahead false at) ps (all-weaker (Misses true at) (λ q. is_ahead false at q ≡ false) ps (λ q h. less_test (id_number q.key) (id_number at) h) miss)));
+        (sym (filter_none (is_ahead false at) ps (all_weaker (Misses true at) (λ q. is_ahead false at q ≡ false) ps (λ q h. less_test (id_number q.key) (id_number at) h) miss)));
     within = within;
     fewer = omega arith;
   }
   goes_nowhere true found within miss = record {
     same = ap (λ qs. take limit (map taken found ++ wanted_in (want from to true limit) qs))
-        (sym (filter_none (is_ahead true at) ps (all-weaker (Misses false at) (λ q. is_ahead true at q ≡ false) ps (λ q h. less_test (id_number at) (id_number q.key) h) miss)));
+        (sym (filter_none (is_ahead true at) ps (all_weaker (Misses false at) (λ q. is_ahead true at q ≡ false) ps (λ q h. less_test (id_number at) (id_number q.key) h) miss)));
     within = within;
     fewer = omega arith;
   }
@@ -233,7 +233,7 @@ module _ (m : Blocks) (from to : Id) (limit : ℕ) (ff : IsId from) (ft : IsId t
     from_here true n =
         ap (λ qs. wanted_in (want from to true limit) (filter (is_ahead true at) qs)) n.place
         ∙ ap (wanted_in (want from to true limit)) (down_from m n.before n.after p (subst (AllByRecursion (IsPart m)) n.place each) (subst Rising n.place rising) at n.reaches n.passes)
-        ∙ ap (wanted_of (want from to true limit)) (entries-append n.before (p ∷ []) ∙ ap (λ es. entries_in n.before ++ es) (append-nil (live_in p)))
+        ∙ ap (wanted_of (want from to true limit)) (entries_append n.before (p ∷ []) ∙ ap (λ es. entries_in n.before ++ es) (append-nil (live_in p)))
         ∙ ap reverse (filter-append (is_between from to) (entries_in n.before) (live_in p))
         ∙ reverse-append (filter (is_between from to) (entries_in n.before)) (filter (is_between from to) (live_in p))
 
@@ -252,11 +252,11 @@ module _ (m : Blocks) (from to : Id) (limit : ℕ) (ff : IsId from) (ft : IsId t
     none_behind : (back : Bool) (n : IsNear (not back) ps at p) → Ends (want from to back limit) back p.key → wanted_in (want from to back limit) (rest back n.before n.after) ≡ []
     none_behind false n is =
         let all = subst (AllByRecursion (IsPart m)) n.place each in
-        parts_high from to ff ft m n.after (all-back (IsPart m) n.before (p ∷ n.after) all).1
-        (all-weaker (λ (q : Part). id_number p.key < id_number q.key) (λ q. id_number to < id_number q.key) n.after (λ q h. omega (arith, is, h))
+        parts_high from to ff ft m n.after (all_back (IsPart m) n.before (p ∷ n.after) all).1
+        (all_weaker (λ (q : Part). id_number p.key < id_number q.key) (λ q. id_number to < id_number q.key) n.after (λ q h. omega (arith, is, h))
         (keys_after m n.before n.after p all (subst Rising n.place rising)))
     none_behind true n is =
-        ap reverse (parts_low from to ff ft m n.before n.after p (all-front (IsPart m) n.before (p ∷ n.after) (subst (AllByRecursion (IsPart m)) n.place each)) (subst Rising n.place rising) is)
+        ap reverse (parts_low from to ff ft m n.before n.after p (all_front (IsPart m) n.before (p ∷ n.after) (subst (AllByRecursion (IsPart m)) n.place each)) (subst Rising n.place rising) is)
 
     module _ (back : Bool) (n : IsNear (not back) ps at p) (old new : List Owned) (has : map taken new ≡ take limit (map taken old ++ wanted_of (want from to back limit) (live_in p)))
         (within : length new ≤ limit) where
@@ -305,7 +305,7 @@ module _ (m : Blocks) (from to : Id) (limit : ℕ) (ff : IsId from) (ft : IsId t
   begins_first miss =
       ap (wanted_in (want from to false limit))
       (filter_all (is_ahead false from) ps
-      (all-weaker (Misses false from) (λ q. is_ahead false from q ≡ true) ps (λ q h. upto_test (id_number from) (id_number q.key) (omega (arith, h))) miss))
+      (all_weaker (Misses false from) (λ q. is_ahead false from q ≡ true) ps (λ q h. upto_test (id_number from) (id_number q.key) (omega (arith, h))) miss))
 
   pub begins_near : (p : Part) → IsNear false ps from p → wanted_in (want from to false limit) (ahead false (Some p.key) ps) ≡ wanted_in (want from to false limit) ps
   begins_near p n =
@@ -313,9 +313,9 @@ module _ (m : Blocks) (from to : Id) (limit : ℕ) (ff : IsId from) (ft : IsId t
       let rises = subst Rising n.place rising in
       ap (λ qs. filter (is_between from to) (entries_in (filter (is_ahead false p.key) qs))) n.place
       ∙ ap (λ qs. filter (is_between from to) (entries_in qs)) (up_from m n.before n.after p all rises p.key (keys_before m n.before n.after p all rises) (omega arith))
-      ∙ ap (λ es. es ++ filter (is_between from to) (entries_in (p ∷ n.after))) (sym (parts_low from to ff ft m n.before n.after p (all-front (IsPart m) n.before (p ∷ n.after) all) rises n.reaches))
+      ∙ ap (λ es. es ++ filter (is_between from to) (entries_in (p ∷ n.after))) (sym (parts_low from to ff ft m n.before n.after p (all_front (IsPart m) n.before (p ∷ n.after) all) rises n.reaches))
       ∙ sym
-      (ap (λ qs. filter (is_between from to) (entries_in qs)) n.place ∙ ap (filter (is_between from to)) (entries-append n.before (p ∷ n.after))
+      (ap (λ qs. filter (is_between from to) (entries_in qs)) n.place ∙ ap (filter (is_between from to)) (entries_append n.before (p ∷ n.after))
       ∙ filter-append (is_between from to) (entries_in n.before) (entries_in (p ∷ n.after)))
 
 -- a walk that has ended has found all

@@ -13,7 +13,7 @@ use Rattle.stream_node.specs.Entries.{entries_of}
 use Rattle.stream_node.specs.Entry.{Stored}
 use Rattle.stream_node.specs.Ids.{IsId, id_number}
 use Rattle.stream_node.specs.View.{stored}
-use Rattle.rax_packed.proofs.Entries.{all-append, all-weaker}
+use Rattle.rax_packed.proofs.Entries.{all-append, all_weaker}
 use Rattle.stream_object.specs.declared.stream.Stream.{Stream as Log}
 use Rattle.stream_object.specs.Found.{Comes, Exchanges}
 use Rattle.stream_object.specs.Loading.{AreLiveUpto, IsFileNode, last_of, loaded}
@@ -21,7 +21,7 @@ use Rattle.stream_object.specs.Parts.{Part, part, stored_in, is_live, plain, liv
 use Rattle.stream_object.specs.Streams.{AreBelow, AreUpto, IsChanged, IsStream, entries, nodes, pair_of, stream_of}
 use Rattle.stream_object.specs.Whole.{MayStandWhole, MayStand}
 use Rattle.stream_object.specs.Tail.{IsTail, IsKept}
-use Rattle.stream_object.proofs.Grows.{entries-append, rising_push}
+use Rattle.stream_object.proofs.Grows.{entries_append, rising_push}
 use Rattle.stream_object.proofs.Loads.{last-append}
 use Rattle.stream_object.proofs.Losing.{Sorted, node_sorted}
 use Rattle.stream_object.proofs.Parts.{its_own, parts_are}
@@ -55,7 +55,7 @@ from_last (e ∷ es) key last some low high = omega (arith, low.0, high.0)
 below_upto : (key last : Id) (ps : List Part) → id_number key ≤ id_number last → AreBelow key ps → AreUpto last ps
 below_upto key last [] le h = tt
 below_upto key last (p ∷ ps) le h =
-    (all-weaker (λ (e : Stored). id_number e.id < id_number key) (λ (e : Stored). id_number e.id ≤ id_number last) (stored_in p) (λ e less. omega (arith, less, le)) h.0, below_upto key last ps le h.1)
+    (all_weaker (λ (e : Stored). id_number e.id < id_number key) (λ (e : Stored). id_number e.id ≤ id_number last) (stored_in p) (λ e less. omega (arith, less, le)) h.0, below_upto key last ps le h.1)
 
 live_upto : (id : Id) (es : List Stored) → AllByRecursion (λ e. e.deleted ≡ false) es → AreLiveUpto id es → AllByRecursion (λ e. id_number e.id ≤ id_number id) es
 live_upto id [] live upto = tt
@@ -72,7 +72,7 @@ pub whole_node : (key : Id) (bytes : List ℕ) (last : Id) → IsFileNode key by
     → pair_of last ≡ last_of (pair_of key) (entries_of key (texts bytes)) → MayStandWhole key bytes last
 whole_node key bytes last f some few stand end =
     let es = entries_of key (texts bytes) in
-    let live = all-weaker (MayStand key) (λ (e : Stored). e.deleted ≡ false) es (λ e h. h.0) stand in
+    let live = all_weaker (MayStand key) (λ (e : Stored). e.deleted ≡ false) es (λ e h. h.0) stand in
     record {
       is_node = record {
         pack = f.pack;
@@ -80,7 +80,7 @@ whole_node key bytes last f some few stand end =
         some = omega (arith, some, live_count es live);
         few = few;
         short = f.short;
-        from = all-weaker (MayStand key) (λ (e : Stored). id_number key ≤ id_number e.id) es (λ e h. h.1) stand;
+        from = all_weaker (MayStand key) (λ (e : Stored). id_number key ≤ id_number e.id) es (λ e h. h.1) stand;
       };
       live = live;
       last_is = end;
@@ -100,7 +100,7 @@ module _ (m after : Blocks) (old new : Log) (key : Id) (bytes : List ℕ) (last 
   now = parts_are after new.tree (nodes m old ++ part key at bytes ∷ []) placed.parts
 
   seen : entries after new ≡ entries m old ++ live_of (entries_of key (texts bytes))
-  seen = ap entries_in now ∙ entries-append (nodes m old) (part key at bytes ∷ []) ∙ ap (λ xs. entries m old ++ xs) (append-nil (live_of (entries_of key (texts bytes))))
+  seen = ap entries_in now ∙ entries_append (nodes m old) (part key at bytes ∷ []) ∙ ap (λ xs. entries m old ++ xs) (append-nil (live_of (entries_of key (texts bytes))))
 
   some : 0 < length (entries_of key (texts bytes))
   some = omega (arith, w.is_node.some, live_count (entries_of key (texts bytes)) w.live)

@@ -8,27 +8,27 @@ use Rattle.blocks.specs.Blocks.{overwritten, widened}
 use Rattle.string_object.specs.Range.{ranged}
 
 -- the first bytes of joined lists
-take-append : (n : ℕ) (xs ys : List ℕ) → take n (xs ++ ys) ≡ take n xs ++ take (n - length xs) ys
-take-append n [] ys = ap (λ k. take k ys) (let e : n ≡ n - 0 = omega arith in e) ∙ ap (λ zs. zs ++ take (n - 0) ys) (sym (take-nil n))
-take-append zero (x ∷ xs) ys = ap (λ k. take k ys) (let e : 0 ≡ 0 - length (x ∷ xs) = omega arith in e)
-take-append (suc n) (x ∷ xs) ys = ap (λ zs. x ∷ zs) (take-append n xs ys ∙ ap (λ k. take n xs ++ take k ys) (let e : n - length xs ≡ suc n - suc (length xs) = omega arith in e))
+take_append : (n : ℕ) (xs ys : List ℕ) → take n (xs ++ ys) ≡ take n xs ++ take (n - length xs) ys
+take_append n [] ys = ap (λ k. take k ys) (let e : n ≡ n - 0 = omega arith in e) ∙ ap (λ zs. zs ++ take (n - 0) ys) (sym (take-nil n))
+take_append zero (x ∷ xs) ys = ap (λ k. take k ys) (let e : 0 ≡ 0 - length (x ∷ xs) = omega arith in e)
+take_append (suc n) (x ∷ xs) ys = ap (λ zs. x ∷ zs) (take_append n xs ys ∙ ap (λ k. take n xs ++ take k ys) (let e : n - length xs ≡ suc n - suc (length xs) = omega arith in e))
 
 -- and those behind them
-drop-append : (n : ℕ) (xs ys : List ℕ) → drop n (xs ++ ys) ≡ drop n xs ++ drop (n - length xs) ys
-drop-append n [] ys = ap (λ k. drop k ys) (let e : n ≡ n - 0 = omega arith in e) ∙ ap (λ zs. zs ++ drop (n - 0) ys) (sym (drop-nil n))
-drop-append zero (x ∷ xs) ys = ap (λ k. (x ∷ xs) ++ drop k ys) (let e : 0 ≡ 0 - length (x ∷ xs) = omega arith in e)
-drop-append (suc n) (x ∷ xs) ys = drop-append n xs ys ∙ ap (λ k. drop n xs ++ drop k ys) (let e : n - length xs ≡ suc n - suc (length xs) = omega arith in e)
+drop_append : (n : ℕ) (xs ys : List ℕ) → drop n (xs ++ ys) ≡ drop n xs ++ drop (n - length xs) ys
+drop_append n [] ys = ap (λ k. drop k ys) (let e : n ≡ n - 0 = omega arith in e) ∙ ap (λ zs. zs ++ drop (n - 0) ys) (sym (drop-nil n))
+drop_append zero (x ∷ xs) ys = ap (λ k. (x ∷ xs) ++ drop k ys) (let e : 0 ≡ 0 - length (x ∷ xs) = omega arith in e)
+drop_append (suc n) (x ∷ xs) ys = drop_append n xs ys ∙ ap (λ k. drop n xs ++ drop k ys) (let e : n - length xs ≡ suc n - suc (length xs) = omega arith in e)
 
 -- what stands before a place, and zeros up to it
 take_widened : (xs : List ℕ) (len n : ℕ) → n ≤ len → length xs ≤ len → take n (widened xs len) ≡ take n xs ++ replicate (n - length xs) 0
 take_widened xs len n within room =
-    take-append n xs (replicate (len - length xs) 0)
+    take_append n xs (replicate (len - length xs) 0)
     ∙ ap (λ zs. take n xs ++ zs) (take-replicate (n - length xs) (len - length xs) 0 (omega arith))
 
 -- what stands behind it
 drop_widened : (xs : List ℕ) (len n : ℕ) → len ≤ max (length xs) n → drop n (widened xs len) ≡ drop n xs
 drop_widened xs len n within =
-    drop-append n xs (replicate (len - length xs) 0)
+    drop_append n xs (replicate (len - length xs) 0)
     ∙ ap (λ zs. drop n xs ++ zs) (drop-replicate (n - length xs) (len - length xs) 0 ∙ ap (λ k. replicate k 0) (let e : (len - length xs) - (n - length xs) ≡ 0 = omega arith in e))
     ∙ (let e : drop n xs ++ [] ≡ drop n xs = grind (arith, common_steps) in e)
 

@@ -5,7 +5,7 @@ use Rattle.std.specs.Ordering.{nat_cmp}
 use Rattle.std.specs.Cmp.Lexicographic.{slice_cmp}
 use Rattle.blocks.specs.declared.BlockRef.{BlockRef}
 use Rattle.blocks.specs.Blocks.{Blocks, IsIn, bytes_at, Changes}
-use Rattle.blocks.proofs.Change.{Changes-owned}
+use Rattle.blocks.proofs.Change.{changes_owned}
 use Rattle.collection_walk.proofs.Replaced.{new_kept, replaced}
 use Rattle.object_codec.specs.declared.limits.Limits.{Limits}
 use Rattle.object_codec.specs.declared.form.Form.TheVariants.{Listpack, Skiplist}
@@ -56,7 +56,7 @@ body_changed a b c s body map sound p q none =
     let kept = body_kept b c s.limits s.seed body p.sound (new_kept a b c (refs s) (refs_of_body body) sound.owned p.changes q) in
     let changes = replaced a b c (refs s) (refs_of_body body) sound.owned p.changes q in
     record {
-      sound = record { limits = sound.limits; owned = Changes-owned a c (refs s) (refs_of_body body) changes; body = kept.0 };
+      sound = record { limits = sound.limits; owned = changes_owned a c (refs s) (refs_of_body body) changes; body = kept.0 };
       scores_are = kept.1 ∙ p.scores_are;
       changes = changes;
       grown = subst (λ t. Grown (hash_of s.seed) t (tables_of c body)) (sym none) (subst (Grown (hash_of s.seed) table.no_tables) (sym kept.3) p.grown);

@@ -2,10 +2,10 @@
 use Rattle.std.proofs.Common.{◌≡◌, ℕ, [], ◌∷◌, Some, refl, sym, ap, ◌∙◌, subst, arith}
 use Rattle.blocks.specs.declared.BlockRef.{BlockRef}
 use Rattle.blocks.specs.Blocks.{Blocks, bytes_at, with_block, Changes}
-use Rattle.blocks.proofs.Change.{Changes-same}
+use Rattle.blocks.proofs.Change.{changes_same}
 use Rattle.object_codec.specs.declared.limits.Limits.{Limits}
 use Rattle.rehash_dict.specs.Keyed.{hash_of}
-use Rattle.rehash_dict.proofs.Growing.{Grown-same}
+use Rattle.rehash_dict.proofs.Growing.{grown_same}
 use Rattle.score_table.specs.declared.table.ScoreTable.{ScoreTable}
 use Rattle.score_table.specs.Scored as table
 use Rattle.score_table.specs.Copied.{IsCopied}
@@ -27,8 +27,8 @@ pub empty_copied : (m : Blocks) (limits : Limits) (seed : ℕ) (body : Body) →
 empty_copied m limits seed body is = record {
   sound = tt;
   scores_are = ap (scores_of m) (sym is);
-  changes = Changes-same m [] (λ r. omega arith);
-  grown = Grown-same (hash_of seed) table.no_tables table.no_tables refl;
+  changes = changes_same m [] (λ r. omega arith);
+  grown = grown_same (hash_of seed) table.no_tables table.no_tables refl;
 }
 
 pub table_copied : (m n : Blocks) (limits : Limits) (seed : ℕ) (body : Body) (t copy : ScoreTable) → body ≡ Table t → IsCopied m n seed copy (table.scores m t)

@@ -18,7 +18,7 @@ use Rattle.pack_pairs.proofs.Packs.{pair_fits}
 use Rattle.std.proofs.lemmas.Fmt.{length_signed_le}
 use Rattle.collection_walk.proofs.Lists.{some_none}
 use Rattle.pack_pairs.proofs.Lists.{no_pair, length_removed}
-use Rattle.pack_pairs.proofs.Maps.{tied, tied-true, tied-same, tied-other, get_pairs, maps_alike, first_inside, first_second, once_removed, once_before, map_removed, map_more}
+use Rattle.pack_pairs.proofs.Maps.{tied, tied_true, tied_same, tied_other_in_maps, get_pairs, maps_alike, first_inside, first_second, once_removed, once_before, map_removed, map_more}
 use Rattle.score_list.specs.Sorted.{Key}
 use Rattle.score_table.specs.Ranking.{ScoreMap, IsOrdered}
 use Rattle.zset_object.specs.Orders.{HasRank, entry_of, map_of_keys, place_in, longest_member}
@@ -137,7 +137,7 @@ module _ (k v : List ℕ) where
   find_with q (p ∷ rest) (suc i) none =
       let parts = none_parts k p rest none in
       ap (cond (tied q p.0) (Some p.1)) (find_with q rest i parts.1) ∙ elim (cases_Bool (tied q k)) [
-        | inl t ↦ (let out : tied q p.0 ≡ false = ap (λ x. tied x p.0) (tied-true q k t) ∙ parts.0 in cond-false _ _ _ out ∙ cond-true _ _ _ t ∙ sym (cond-true _ _ _ t))
+        | inl t ↦ (let out : tied q p.0 ≡ false = ap (λ x. tied x p.0) (tied_true q k t) ∙ parts.0 in cond-false _ _ _ out ∙ cond-true _ _ _ t ∙ sym (cond-true _ _ _ t))
         | inr f ↦ ap (cond (tied q p.0) (Some p.1)) (cond-false _ _ _ f) ∙ sym (cond-false _ _ _ f)
       ]
 
@@ -154,10 +154,10 @@ module _ (k v : List ℕ) where
   once_with (p ∷ rest) zero once none = (none, once)
   once_with (p ∷ rest) (suc i) once none =
       let parts = none_parts k p rest none in
-      (find_with p.0 rest i parts.1 ∙ cond-false _ _ _ (tied-other p.0 k (λ same. other same parts.0)) ∙ once.0, once_with rest i once.1 parts.1)
+      (find_with p.0 rest i parts.1 ∙ cond-false _ _ _ (tied_other_in_maps p.0 k (λ same. other same parts.0)) ∙ once.0, once_with rest i once.1 parts.1)
     where
       other : p.0 ≡ k → tied k p.0 ≡ false → ⊥
-      other same out = let e = tied-same k p.0 (sym same) in cc
+      other same out = let e = tied_same k p.0 (sym same) in cc
 
 -- where a pair with the text of a score is put in, each second text is still that of a score
 pub scores_with : (p : Pair) (list : List Pair) (i : ℕ) → AreScores list → IsI64Text p.1 → AreScores (inserted list i p)
@@ -192,7 +192,7 @@ pub keys_lack : (k : List ℕ) (list : List Pair) → second_of k list ≡ None 
 keys_lack k [] none = tt
 keys_lack k (p ∷ rest) none =
     (let parts = none_parts k p rest none in
-    ((λ same. (let e : tied k p.0 ≡ true = tied-same k p.0 (sym same) in let f = parts.0 in let never : ⊥ = cc in never)), keys_lack k rest parts.1))
+    ((λ same. (let e : tied k p.0 ≡ true = tied_same k p.0 (sym same) in let f = parts.0 in let never : ⊥ = cc in never)), keys_lack k rest parts.1))
 
 -- a listpack with a member more, at its place
 pub pack_joined : (old new : List ℕ) (score : ℤ) (k : List ℕ) → FitsSigned w64 score → IsScorePack old → second_of k (pairs old) ≡ None → IsPairPack new
@@ -283,7 +283,7 @@ pub left_lacks : (old new : List Pair) (i : ℕ) (k : List ℕ) → IsOnce old �
     × (map_of_keys (keys_of new) ≡ remove (map_of_keys (keys_of old)) k)
 left_lacks old new i k once first is =
     let out : map_of_pairs new ≡ remove (map_of_pairs old) k = ap map_of_pairs is ∙ map_removed old i k once first in (
-      sym (get_pairs new k) ∙ ap (λ m. get m k) out ∙ get-remove nat_list_cmp_total (map_of_pairs old) k k ∙ cond-true _ _ _ (tied-same k k refl),
+      sym (get_pairs new k) ∙ ap (λ m. get m k) out ∙ get-remove nat_list_cmp_total (map_of_pairs old) k k ∙ cond-true _ _ _ (tied_same k k refl),
       keys_out old new k out,
     )
 

@@ -5,7 +5,7 @@ use Rattle.std.specs.FinMap.{get}
 use Rattle.std.proofs.lemmas.Bool.{cases_Bool, cond-true, cond-false}
 use Rattle.collection_walk.proofs.Lists.{some_none}
 use Rattle.pack_pairs.specs.Pairs.{Pair, IsOnce, pairs, second_of}
-use Rattle.pack_pairs.proofs.Maps.{tied, tied-true, tied-same}
+use Rattle.pack_pairs.proofs.Maps.{tied, tied_true, tied_same}
 use Rattle.score_list.specs.Sorted.{Key}
 use Rattle.score_table.specs.Ranking.{ScoreMap, IsRanking}
 use Rattle.zset_object.specs.Packed.{IsScorePack, score_of_text, key_of_pair, keys_of, keys_in, scores_in}
@@ -15,7 +15,7 @@ use Rattle.zset_object.proofs.Keys.{scored, get_keys}
 list_found : (list : List Pair) (k : List ℕ) (v : ℤ) → scored (second_of k list) ≡ Some v → (i : ℕ) × (slice_get (keys_of list) i ≡ Some (v, k))
 list_found [] k v h = absurd (some_none None v h refl)
 list_found (p ∷ rest) k v h = elim (cases_Bool (tied k p.0)) [
-  | inl t ↦ (let same : score_of_text p.1 ≡ v = (let e : Some (score_of_text p.1) ≡ Some v = sym (ap scored (cond-true _ _ _ t)) ∙ h in cc) in (0, (λ j. Some (same j, sym (tied-true k p.0 t) j))))
+  | inl t ↦ (let same : score_of_text p.1 ≡ v = (let e : Some (score_of_text p.1) ≡ Some v = sym (ap scored (cond-true _ _ _ t)) ∙ h in cc) in (0, (λ j. Some (same j, sym (tied_true k p.0 t) j))))
   | inr f ↦ (let q = list_found rest k v (sym (ap scored (cond-false _ _ _ f)) ∙ h) in (suc q.0, q.1))
 ]
 
@@ -24,7 +24,7 @@ key_same p v k h = let e : key_of_pair p ≡ (v, k) = cc in (ap (λ (x : Key). x
 
 list_there : (list : List Pair) (i : ℕ) (k : List ℕ) (v : ℤ) → slice_get (keys_of list) i ≡ Some (v, k) → second_of k list ≡ None → ⊥
 list_there [] i k v is none = cc
-list_there (p ∷ rest) zero k v is none = some_none (second_of k (p ∷ rest)) p.1 (cond-true _ _ _ (tied-same k p.0 (sym (key_same p v k is).1))) none
+list_there (p ∷ rest) zero k v is none = some_none (second_of k (p ∷ rest)) p.1 (cond-true _ _ _ (tied_same k p.0 (sym (key_same p v k is).1))) none
 list_there (p ∷ rest) (suc i) k v is none = elim (cases_Bool (tied k p.0)) [
   | inl t ↦ some_none (second_of k (p ∷ rest)) p.1 (cond-true _ _ _ t) none
   | inr f ↦ list_there rest i k v is (sym (cond-false _ _ _ f) ∙ none)
@@ -32,9 +32,9 @@ list_there (p ∷ rest) (suc i) k v is none = elim (cases_Bool (tied k p.0)) [
 
 list_has : (list : List Pair) (i : ℕ) (k : List ℕ) (v : ℤ) → IsOnce list → slice_get (keys_of list) i ≡ Some (v, k) → scored (second_of k list) ≡ Some v
 list_has [] i k v once is = cc
-list_has (p ∷ rest) zero k v once is = let same = key_same p v k is in ap scored (cond-true _ _ _ (tied-same k p.0 (sym same.1))) ∙ ap (λ (n : ℤ). Some n) same.0
+list_has (p ∷ rest) zero k v once is = let same = key_same p v k is in ap scored (cond-true _ _ _ (tied_same k p.0 (sym same.1))) ∙ ap (λ (n : ℤ). Some n) same.0
 list_has (p ∷ rest) (suc i) k v once is = elim (cases_Bool (tied k p.0)) [
-  | inl t ↦ absurd (list_there rest i k v is (ap (λ q. second_of q rest) (tied-true k p.0 t) ∙ once.0))
+  | inl t ↦ absurd (list_there rest i k v is (ap (λ q. second_of q rest) (tied_true k p.0 t) ∙ once.0))
   | inr f ↦ ap scored (cond-false _ _ _ f) ∙ list_has rest i k v once.1 is
 ]
 

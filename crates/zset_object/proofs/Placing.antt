@@ -9,7 +9,7 @@ use Rattle.std.specs.Ordering.{nat_cmp}
 use Rattle.std.specs.Cmp.Lexicographic.{slice_cmp, nat_list_cmp_total}
 use Rattle.blocks.specs.declared.BlockRef.{BlockRef}
 use Rattle.blocks.specs.Blocks.{Blocks, bytes_at, with_block, Changes}
-use Rattle.blocks.proofs.Change.{Changes-same, Changes-owned, Changes-then}
+use Rattle.blocks.proofs.Change.{changes_same, changes_owned, changes_then}
 use Rattle.object_codec.specs.declared.limits.Limits.{Limits}
 use Rattle.object_codec.specs.declared.form.Form.{Form}
 use Rattle.object_codec.specs.declared.form.Form.TheVariants.{Listpack, Skiplist}
@@ -21,7 +21,7 @@ use Rattle.rehash_dict.specs.Keyed.{hash_of}
 use Rattle.rehash_dict.specs.Tables.{IsSettled}
 use Rattle.rehash_dict.specs.Grown.{Grown}
 use Rattle.rehash_dict.proofs.Fresh.{placed_bytes}
-use Rattle.rehash_dict.proofs.Growing.{Grown-same, Grown-then}
+use Rattle.rehash_dict.proofs.Growing.{grown_same, grown_then}
 use Rattle.score_list.specs.Sorted.{Key}
 use Rattle.score_table.specs.declared.table.ScoreTable.{ScoreTable}
 use Rattle.score_table.specs.Ranking.{ScoreMap}
@@ -142,10 +142,10 @@ pack_changed m n self at count bytes map sound packed read changes pack is count
     let same : bytes_at n at ≡ bytes = ap (λ o. unwrap_or o []) read in
     let whole : IsMemberPack self.limits count bytes = record { pack = pack; counted = counted ∙ ap len (sym is) ∙ once_len (pairs bytes) pack.once; few = few; short = short } in
     record {
-      sound = record { limits = sound.limits; owned = Changes-owned m n (refs self) (at ∷ []) changes; body = subst (IsMemberPack self.limits count) (sym same) whole };
+      sound = record { limits = sound.limits; owned = changes_owned m n (refs self) (at ∷ []) changes; body = subst (IsMemberPack self.limits count) (sym same) whole };
       scores_are = ap scores_in same ∙ is;
       changes = changes;
-      grown = Grown-same (hash_of self.seed) (tables m self) table.no_tables (sym (packed_tables m self.body (λ t is. packed (ap form_of_body is))));
+      grown = grown_same (hash_of self.seed) (tables m self) table.no_tables (sym (packed_tables m self.body (λ t is. packed (ap form_of_body is))));
       settings = record { limits = refl; seed = refl };
     }
 
@@ -161,7 +161,7 @@ module _ (m n : Blocks) (limits : Limits) (seed : ℕ) (at : BlockRef) (count : 
         sound = subst (IsMemberPack limits count) (sym same) (record { pack = pack; counted = counted ∙ ap len (sym is) ∙ once_len (pairs bytes) pack.once; few = few; short = short });
         scores_are = ap scores_in same ∙ is;
         changes = changes;
-        grown = Grown-same (hash_of seed) table.no_tables table.no_tables refl;
+        grown = grown_same (hash_of seed) table.no_tables table.no_tables refl;
       }
 
   -- a listpack without a member's pair, placed in a block, is a body of the scores without that member
@@ -206,8 +206,8 @@ last_placed m limits seed body k p i sound body_is first single =
     record {
       sound = tt;
       scores_are = sym (empty_of_len (remove (scores_of m body) k) none);
-      changes = Changes-same m [] (λ r. omega arith);
-      grown = Grown-same (hash_of seed) table.no_tables table.no_tables refl;
+      changes = changes_same m [] (λ r. omega arith);
+      grown = grown_same (hash_of seed) table.no_tables table.no_tables refl;
     }
 
 -- what is left of a packed sorted set is packed, and so has no table to shrink
@@ -224,8 +224,8 @@ pub new_placed : (m : Blocks) (seed : ℕ) (t : ScoreTable) (map : ScoreMap) →
 new_placed m seed t map sound none refs tables seed_is = record {
   sound = record { sound = sound; seed_is = seed_is };
   scores_are = none;
-  changes = subst (Changes m m []) (sym refs) (Changes-same m [] (λ r. omega arith));
-  grown = Grown-same (hash_of seed) table.no_tables (table.tables m t) tables;
+  changes = subst (Changes m m []) (sym refs) (changes_same m [] (λ r. omega arith));
+  grown = grown_same (hash_of seed) table.no_tables (table.tables m t) tables;
 }
 
 -- a placed table of scores that is then changed is a placed one of its new scores
@@ -233,8 +233,8 @@ pub placed_then : (a b c : Blocks) (seed : ℕ) (t u : ScoreTable) (s w : ScoreM
 placed_then a b c seed t u s w p q = record {
   sound = record { sound = q.sound; seed_is = q.seed ∙ p.sound.seed_is };
   scores_are = q.scores_are;
-  changes = Changes-then a b c [] (table.refs t) (table.refs u) p.changes q.changes;
-  grown = Grown-then (hash_of seed) table.no_tables (table.tables b t) (table.tables c u) p.grown (subst (λ n. Grown (hash_of n) (table.tables b t) (table.tables c u)) p.sound.seed_is q.grown);
+  changes = changes_then a b c [] (table.refs t) (table.refs u) p.changes q.changes;
+  grown = grown_then (hash_of seed) table.no_tables (table.tables b t) (table.tables c u) p.grown (subst (λ n. Grown (hash_of n) (table.tables b t) (table.tables c u)) p.sound.seed_is q.grown);
 }
 
 -- one change of a table of scores and then another are one change, to the scores of the second
@@ -242,8 +242,8 @@ pub table_then : (a b c : Blocks) (t u v : ScoreTable) (s w : ScoreMap) → tabl
 table_then a b c t u v s w p q = record {
   sound = q.sound;
   scores_are = q.scores_are;
-  changes = Changes-then a b c (table.refs t) (table.refs u) (table.refs v) p.changes q.changes;
-  grown = Grown-then (hash_of (table.seed_of t)) (table.tables a t) (table.tables b u) (table.tables c v) p.grown (subst (λ n. Grown (hash_of n) (table.tables b u) (table.tables c v)) p.seed q.grown);
+  changes = changes_then a b c (table.refs t) (table.refs u) (table.refs v) p.changes q.changes;
+  grown = grown_then (hash_of (table.seed_of t)) (table.tables a t) (table.tables b u) (table.tables c v) p.grown (subst (λ n. Grown (hash_of n) (table.tables b u) (table.tables c v)) p.seed q.grown);
   seed = q.seed ∙ p.seed;
 }
 

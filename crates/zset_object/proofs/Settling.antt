@@ -1,7 +1,7 @@
 -- A sorted set whose blocks move means what it meant.
 use Rattle.std.proofs.Common.{◌≡◌, ◌≢◌, ◌⊎◌, ℕ, ◌+◌, ◌<◌, ◌≤◌, [], unwrap_or, sym, ap, ◌∙◌, subst, arith, inl, inr}
 use Rattle.blocks.specs.Blocks.{Blocks, bytes_at}
-use Rattle.blocks.proofs.Change.{Changes-then}
+use Rattle.blocks.proofs.Change.{changes_then}
 use Rattle.object_codec.specs.declared.limits.Limits.{Limits}
 use Rattle.score_table.specs.declared.table.ScoreTable.{ScoreTable}
 use Rattle.score_table.specs.Scored.{refs}
@@ -19,7 +19,7 @@ settled_more a b c t u v start k low p q = record {
   scores_are = q.scores_are ∙ p.scores_are;
   ranked_are = q.ranked_are ∙ p.ranked_are;
   tables_are = q.tables_are ∙ p.tables_are;
-  changes = Changes-then a b c (refs t) (refs u) (refs v) p.changes q.changes;
+  changes = changes_then a b c (refs t) (refs u) (refs v) p.changes q.changes;
   seed = q.seed ∙ p.seed;
   top = q.top ∙ p.top;
   same_items = λ i. q.same_items i ∙ p.same_items i;

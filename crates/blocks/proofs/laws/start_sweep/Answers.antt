@@ -1,5 +1,5 @@
-use Rattle.blocks.proofs.Sweeps.{Begun-used}
+use Rattle.blocks.proofs.Sweeps.{begun_used}
 use Rattle.blocks.proofs.laws.start_sweep.Goals as goal
 
 pub returns-clause-used : goal.returns-clause-used
-returns-clause-used g c = Begun-used _ _ c.begin_pass.ensures.begun
+returns-clause-used g c = begun_used _ _ c.begin_pass.ensures.begun

@@ -2,8 +2,8 @@ use Rattle.std.proofs.Common.{◌≡◌, rules, refl, sym, ap, ◌∙◌, arith,
 use Rattle.std.proofs.lemmas.List.{drop_all}
 use Rattle.std.specs.FinMap.{remove}
 use Rattle.blocks.specs.Blocks.{Served}
-use Rattle.blocks.proofs.Change.{Changes-same, Changes-then}
-use Rattle.blocks.proofs.Serve.{Served-then}
+use Rattle.blocks.proofs.Change.{changes_same, changes_then}
+use Rattle.blocks.proofs.Serve.{served_then}
 use Rattle.hash_object.specs.Fields.{fields}
 use Rattle.plain_model.specs.HashSteps.{unset_all}
 use Rattle.cmd_hashes.proofs.Rests.{settings_then, rest_from}
@@ -15,7 +15,7 @@ loop-name-init g c = record {
   settings = record { limits = refl; seed = refl };
   is = refl;
   form = refl;
-  changes = Changes-same _ _ c.requires.owned;
+  changes = changes_same _ _ c.requires.owned;
   served = Served.no_step;
 }
 
@@ -26,10 +26,10 @@ pub returns-in_err-unset_one-clause-form : goal.returns-in_err-unset_one-clause-
 returns-in_err-unset_one-clause-form g c = c.unset_one.ensures.form ∙ c.loop-name.invariant.form
 
 pub returns-in_err-unset_one-clause-changes : goal.returns-in_err-unset_one-clause-changes
-returns-in_err-unset_one-clause-changes g c = Changes-then _ _ _ _ _ _ c.loop-name.invariant.changes c.unset_one.ensures.changes
+returns-in_err-unset_one-clause-changes g c = changes_then _ _ _ _ _ _ c.loop-name.invariant.changes c.unset_one.ensures.changes
 
 pub returns-in_err-unset_one-clause-served : goal.returns-in_err-unset_one-clause-served
-returns-in_err-unset_one-clause-served g c = Served-then _ _ _ c.loop-name.invariant.served c.unset_one.ensures.served
+returns-in_err-unset_one-clause-served g c = served_then _ _ _ c.loop-name.invariant.served c.unset_one.ensures.served
 
 pub loop-name-preserved : goal.loop-name-preserved
 loop-name-preserved g c =
@@ -44,8 +44,8 @@ loop-name-preserved g c =
       settings = settings_then _ _ _ c.loop-name.invariant.settings c.unset_one.ensures.settings;
       is = ap (λ m. unset_all m others) is ∙ ap (unset_all now) (sym rest) ∙ c.loop-name.invariant.is;
       form = c.unset_one.ensures.form ∙ c.loop-name.invariant.form;
-      changes = Changes-then _ _ _ _ _ _ c.loop-name.invariant.changes c.unset_one.ensures.changes;
-      served = Served-then _ _ _ c.loop-name.invariant.served c.unset_one.ensures.served;
+      changes = changes_then _ _ _ _ _ _ c.loop-name.invariant.changes c.unset_one.ensures.changes;
+      served = served_then _ _ _ c.loop-name.invariant.served c.unset_one.ensures.served;
     }
 
 pub returns-clause-is : goal.returns-clause-is

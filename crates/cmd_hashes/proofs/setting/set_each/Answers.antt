@@ -2,8 +2,8 @@ use Rattle.std.proofs.Common.{◌≡◌, rules, refl, sym, ap, subst, ◌∙◌,
 use Rattle.std.proofs.lemmas.List.{drop_all}
 use Rattle.std.specs.FinMap.{insert}
 use Rattle.blocks.specs.Blocks.{Served}
-use Rattle.blocks.proofs.Change.{Changes-same, Changes-then}
-use Rattle.blocks.proofs.Serve.{Served-then}
+use Rattle.blocks.proofs.Change.{changes_same, changes_then}
+use Rattle.blocks.proofs.Serve.{served_then}
 use Rattle.object_codec.specs.Forms.{IsLeastFrom}
 use Rattle.hash_object.specs.Maps.{FitsFields}
 use Rattle.hash_object.specs.Fields.{fields, form_of}
@@ -18,7 +18,7 @@ loop-pair-init g c = record {
   settings = record { limits = refl; seed = refl };
   is = refl;
   risen = λ form p. p;
-  changes = Changes-same _ _ c.requires.owned;
+  changes = changes_same _ _ c.requires.owned;
   served = Served.no_step;
 }
 
@@ -26,10 +26,10 @@ pub returns-in_err-set_one-clause-settings : goal.returns-in_err-set_one-clause-
 returns-in_err-set_one-clause-settings g c = settings_then _ _ _ c.loop-pair.invariant.settings c.set_one.ensures.settings
 
 pub returns-in_err-set_one-clause-changes : goal.returns-in_err-set_one-clause-changes
-returns-in_err-set_one-clause-changes g c = Changes-then _ _ _ _ _ _ c.loop-pair.invariant.changes c.set_one.ensures.changes
+returns-in_err-set_one-clause-changes g c = changes_then _ _ _ _ _ _ c.loop-pair.invariant.changes c.set_one.ensures.changes
 
 pub returns-in_err-set_one-clause-served : goal.returns-in_err-set_one-clause-served
-returns-in_err-set_one-clause-served g c = Served-then _ _ _ c.loop-pair.invariant.served c.set_one.ensures.served
+returns-in_err-set_one-clause-served g c = served_then _ _ _ c.loop-pair.invariant.served c.set_one.ensures.served
 
 pub loop-pair-preserved : goal.loop-pair-preserved
 loop-pair-preserved g c =
@@ -52,8 +52,8 @@ loop-pair-preserved g c =
             subst (λ n. IsLeastFrom (form_of c.loop-pair.hash) (FitsFields n (insert now pair.0 pair.1)) (form_of c.set_one.new.hash)) c.loop-pair.invariant.settings.limits risen,
             subst (λ m. RisesBy limits (form_of c.set_one.new.hash) m others form) is p,
           ));
-      changes = Changes-then _ _ _ _ _ _ c.loop-pair.invariant.changes c.set_one.ensures.changes;
-      served = Served-then _ _ _ c.loop-pair.invariant.served c.set_one.ensures.served;
+      changes = changes_then _ _ _ _ _ _ c.loop-pair.invariant.changes c.set_one.ensures.changes;
+      served = served_then _ _ _ c.loop-pair.invariant.served c.set_one.ensures.served;
     }
 
 pub returns-clause-is : goal.returns-clause-is

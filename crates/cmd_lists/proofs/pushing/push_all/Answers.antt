@@ -1,8 +1,8 @@
 use Rattle.std.proofs.Common.{◌≡◌, arith, inl, inr, refl, sym, rules, ap, ◌∙◌, ◌+◌, drop, [], ◌∷◌}
 use Rattle.std.proofs.lemmas.List.{drop_all}
 use Rattle.blocks.specs.Blocks.{Served}
-use Rattle.blocks.proofs.Change.{Changes-same, Changes-then}
-use Rattle.blocks.proofs.Serve.{Served-then}
+use Rattle.blocks.proofs.Change.{changes_same, changes_then}
+use Rattle.blocks.proofs.Serve.{served_then}
 use Rattle.quicklist.specs.Chain.{elements}
 use Rattle.plain_model.specs.ListSteps.{added}
 use Rattle.cmd_lists.proofs.Ends.{added_none, added_step, rest_from}
@@ -14,12 +14,12 @@ loop-word-init g c = record {
   quick = c.requires;
   is = refl;
   form = inl (refl, refl);
-  changes = Changes-same _ _ c.requires.chain.owned;
+  changes = changes_same _ _ c.requires.chain.owned;
   served = Served.no_step;
 }
 
 pub returns-in_err-push_one-clause-served : goal.returns-in_err-push_one-clause-served
-returns-in_err-push_one-clause-served g c = Served-then _ _ _ c.loop-word.invariant.served c.push_one.ensures.served
+returns-in_err-push_one-clause-served g c = served_then _ _ _ c.loop-word.invariant.served c.push_one.ensures.served
 
 pub loop-word-preserved : goal.loop-word-preserved
 loop-word-preserved g c =
@@ -35,8 +35,8 @@ loop-word-preserved g c =
       form = inr
           (rises_on c.args.end c.args.words.now (drop c.loop-word.word-index c.args.words.now) c.args.list.now.form c.loop-word.list.form c.push_one.new.list.form xs ys word
           c.loop-word.invariant.form list c.in_ok-push_one.ensures.form);
-      changes = Changes-then _ _ _ _ _ _ c.loop-word.invariant.changes c.push_one.ensures.changes;
-      served = Served-then _ _ _ c.loop-word.invariant.served c.push_one.ensures.served;
+      changes = changes_then _ _ _ _ _ _ c.loop-word.invariant.changes c.push_one.ensures.changes;
+      served = served_then _ _ _ c.loop-word.invariant.served c.push_one.ensures.served;
     }
 
 pub returns-clause-list : goal.returns-clause-list

@@ -1,5 +1,5 @@
 use Rattle.std.proofs.Common.{◌∙◌}
-use Rattle.blocks.proofs.Serve.{Served-then}
+use Rattle.blocks.proofs.Serve.{served_then}
 use Rattle.cmd_lists.proofs.Setting.{left_is}
 use Rattle.cmd_lists.proofs.trimming.leave.Goals as goal
 
@@ -9,4 +9,4 @@ returns-clause-list g c =
     c.in_ok-remove_range.ensures.changed c.remove_range-2.result c.remove_range-2.ensures.changed
 
 pub returns-clause-served : goal.returns-clause-served
-returns-clause-served g c = Served-then _ _ _ c.remove_range.ensures.served c.remove_range-2.ensures.served
+returns-clause-served g c = served_then _ _ _ c.remove_range.ensures.served c.remove_range-2.ensures.served

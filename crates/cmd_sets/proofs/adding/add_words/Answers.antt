@@ -2,8 +2,8 @@ use Rattle.std.proofs.Common.{ℕ, List, ◌≡◌, ◌+◌, [], ◌∷◌, arit
 use Rattle.std.proofs.lemmas.List.{drop_all}
 use Rattle.std.specs.FinMap.{insert}
 use Rattle.blocks.specs.Blocks.{Served}
-use Rattle.blocks.proofs.Change.{Changes-same, Changes-then}
-use Rattle.blocks.proofs.Serve.{Served-then}
+use Rattle.blocks.proofs.Change.{changes_same, changes_then}
+use Rattle.blocks.proofs.Serve.{served_then}
 use Rattle.set_object.specs.Members.{members, form_of}
 use Rattle.plain_model.specs.SetSteps.{add_all}
 use Rattle.keyspace.specs.Forms.{RisesTo, RisesWith}
@@ -16,12 +16,12 @@ loop-word-init g c = record {
   settings = record { limits = refl; seed = refl };
   is = refl;
   risen = λ form rises. rises;
-  changes = Changes-same _ _ c.requires.owned;
+  changes = changes_same _ _ c.requires.owned;
   served = Served.no_step;
 }
 
 pub returns-in_err-add_one-clause-served : goal.returns-in_err-add_one-clause-served
-returns-in_err-add_one-clause-served g c = Served-then _ _ _ c.loop-word.invariant.served c.add_one.ensures.served
+returns-in_err-add_one-clause-served g c = served_then _ _ _ c.loop-word.invariant.served c.add_one.ensures.served
 
 pub loop-word-preserved : goal.loop-word-preserved
 loop-word-preserved g c =
@@ -45,8 +45,8 @@ loop-word-preserved g c =
         subst (λ w. RisesTo limits from set w form) same (subst (λ l. RisesTo l from set c.as_slice.result.now form) inv.settings.limits c.in_ok-add_one.ensures.form),
         subst (λ s. RisesWith limits form s others last) one rises,
       ));
-      changes = Changes-then _ _ _ _ _ _ inv.changes c.add_one.ensures.changes;
-      served = Served-then _ _ _ inv.served c.add_one.ensures.served;
+      changes = changes_then _ _ _ _ _ _ inv.changes c.add_one.ensures.changes;
+      served = served_then _ _ _ inv.served c.add_one.ensures.served;
     }
 
 pub returns-clause-members : goal.returns-clause-members

@@ -2,8 +2,8 @@ use Rattle.std.proofs.Common.{ℕ, List, ◌≡◌, ◌+◌, [], ◌∷◌, arit
 use Rattle.std.proofs.lemmas.List.{drop_all as drop_whole}
 use Rattle.std.specs.FinMap.{remove, len}
 use Rattle.blocks.specs.Blocks.{Served}
-use Rattle.blocks.proofs.Change.{Changes-same, Changes-then}
-use Rattle.blocks.proofs.Serve.{Served-then}
+use Rattle.blocks.proofs.Change.{changes_same, changes_then}
+use Rattle.blocks.proofs.Serve.{served_then}
 use Rattle.set_object.specs.Members.{members}
 use Rattle.plain_model.specs.SetSteps.{drop_all}
 use Rattle.cmd_sets.proofs.Growing.{rest_from, one_less}
@@ -15,12 +15,12 @@ loop-word-init g c = record {
   settings = record { limits = refl; seed = refl };
   is = refl;
   kept = λ some. refl;
-  changes = Changes-same _ _ c.requires.owned;
+  changes = changes_same _ _ c.requires.owned;
   served = Served.no_step;
 }
 
 pub returns-in_err-drop_one-clause-served : goal.returns-in_err-drop_one-clause-served
-returns-in_err-drop_one-clause-served g c = Served-then _ _ _ c.loop-word.invariant.served c.drop_one.ensures.served
+returns-in_err-drop_one-clause-served g c = served_then _ _ _ c.loop-word.invariant.served c.drop_one.ensures.served
 
 pub loop-word-preserved : goal.loop-word-preserved
 loop-word-preserved g c =
@@ -37,8 +37,8 @@ loop-word-preserved g c =
       settings = record { limits = c.drop_one.ensures.settings.limits ∙ inv.settings.limits; seed = c.drop_one.ensures.settings.seed ∙ inv.settings.seed };
       is = ap (λ s. drop_all s others) one ∙ ap (drop_all set) (sym rest) ∙ inv.is;
       kept = λ some. c.in_ok-drop_one.ensures.form (omega (arith, some, ap len c.in_ok-drop_one.ensures.members)) ∙ inv.kept (omega (arith, some, ap len one, one_less set word));
-      changes = Changes-then _ _ _ _ _ _ inv.changes c.drop_one.ensures.changes;
-      served = Served-then _ _ _ inv.served c.drop_one.ensures.served;
+      changes = changes_then _ _ _ _ _ _ inv.changes c.drop_one.ensures.changes;
+      served = served_then _ _ _ inv.served c.drop_one.ensures.served;
     }
 
 pub returns-clause-members : goal.returns-clause-members

@@ -1,7 +1,7 @@
 use Rattle.std.proofs.Common.{◌≡◌, ◌+◌, ◌∷◌, drop, get_or, refl, sym, ap, ◌∙◌, arith}
 use Rattle.blocks.specs.Blocks.{Served}
-use Rattle.blocks.proofs.Change.{Changes-then}
-use Rattle.blocks.proofs.Serve.{Served-then}
+use Rattle.blocks.proofs.Change.{changes_then}
+use Rattle.blocks.proofs.Serve.{served_then}
 use Rattle.stream_object.specs.Streams.{stream_of}
 use Rattle.plain_model.specs.StreamSteps.{without, without_all}
 use Rattle.cmd_streams.proofs.Rests.{same_changes, rest_at}
@@ -16,7 +16,7 @@ loop-id-init g c = record {
 }
 
 pub returns-in_err-delete_one-clause-served : goal.returns-in_err-delete_one-clause-served
-returns-in_err-delete_one-clause-served g c = Served-then _ _ _ c.loop-id.invariant.served c.delete_one.ensures.served
+returns-in_err-delete_one-clause-served g c = served_then _ _ _ c.loop-id.invariant.served c.delete_one.ensures.served
 
 pub loop-id-preserved : goal.loop-id-preserved
 loop-id-preserved g c =
@@ -29,6 +29,6 @@ loop-id-preserved g c =
     record {
       sound = c.delete_one.ensures.sound;
       is = ap (λ s. without_all s others) is ∙ ap (without_all now) (sym rest) ∙ c.loop-id.invariant.is;
-      changes = Changes-then _ _ _ _ _ _ c.loop-id.invariant.changes c.delete_one.ensures.changes;
-      served = Served-then _ _ _ c.loop-id.invariant.served c.delete_one.ensures.served;
+      changes = changes_then _ _ _ _ _ _ c.loop-id.invariant.changes c.delete_one.ensures.changes;
+      served = served_then _ _ _ c.loop-id.invariant.served c.delete_one.ensures.served;
     }

@@ -3,8 +3,8 @@ use Rattle.std.specs.Prelude.{◌&&◌, if◌then◌else◌}
 use Rattle.std.specs.FinMap.{get}
 use Rattle.std.proofs.lemmas.List.{drop_all}
 use Rattle.blocks.specs.Blocks.{Served}
-use Rattle.blocks.proofs.Change.{Changes-same, Changes-then}
-use Rattle.blocks.proofs.Serve.{Served-then}
+use Rattle.blocks.proofs.Change.{changes_same, changes_then}
+use Rattle.blocks.proofs.Serve.{served_then}
 use Rattle.zset_object.specs.Scored.{scores, form_of}
 use Rattle.plain_model.specs.ZsetSteps.{permits, differs, write_score, write_scores}
 use Rattle.plain_model.specs.ZsetSteps as model
@@ -21,7 +21,7 @@ loop-pair-init g c = record {
   few = omega arith;
   counted = omega arith;
   risen = λ form p. p;
-  changes = Changes-same _ _ c.requires.owned;
+  changes = changes_same _ _ c.requires.owned;
   served = Served.no_step;
 }
 
@@ -29,10 +29,10 @@ pub returns-in_err-other-clause-settings : goal.returns-in_err-other-clause-sett
 returns-in_err-other-clause-settings g c = settings_then _ _ _ c.loop-pair.invariant.settings c.write_one.ensures.settings
 
 pub returns-in_err-other-clause-changes : goal.returns-in_err-other-clause-changes
-returns-in_err-other-clause-changes g c = Changes-then _ _ _ _ _ _ c.loop-pair.invariant.changes c.write_one.ensures.changes
+returns-in_err-other-clause-changes g c = changes_then _ _ _ _ _ _ c.loop-pair.invariant.changes c.write_one.ensures.changes
 
 pub returns-in_err-other-clause-served : goal.returns-in_err-other-clause-served
-returns-in_err-other-clause-served g c = Served-then _ _ _ c.loop-pair.invariant.served c.write_one.ensures.served
+returns-in_err-other-clause-served g c = served_then _ _ _ c.loop-pair.invariant.served c.write_one.ensures.served
 
 pub loop-pair-preserved : goal.loop-pair-preserved
 loop-pair-preserved g c =
@@ -61,8 +61,8 @@ loop-pair-preserved g c =
             subst (λ n. RisesScored score_rules n (form_of c.loop-pair.zset) now pair (form_of c.write_one.new.zset)) c.loop-pair.invariant.settings.limits risen,
             subst (λ m. RisesUnder score_rules limits (form_of c.write_one.new.zset) m others form) is p,
           ));
-      changes = Changes-then _ _ _ _ _ _ c.loop-pair.invariant.changes c.write_one.ensures.changes;
-      served = Served-then _ _ _ c.loop-pair.invariant.served c.write_one.ensures.served;
+      changes = changes_then _ _ _ _ _ _ c.loop-pair.invariant.changes c.write_one.ensures.changes;
+      served = served_then _ _ _ c.loop-pair.invariant.served c.write_one.ensures.served;
     }
 
 pub returns-clause-is : goal.returns-clause-is

@@ -2,7 +2,7 @@ use Rattle.std.proofs.Common.{◌≡◌, refl, ap, ◌∙◌, arith, length, sub
 use Rattle.std.specs.Prelude.{OnOk}
 use Rattle.std.specs.FinMap.{len, remove}
 use Rattle.blocks.specs.Blocks.{no_step}
-use Rattle.blocks.proofs.Change.{Changes-same}
+use Rattle.blocks.proofs.Change.{changes_same}
 use Rattle.zset_object.specs.Scored.{scores, ranked}
 use Rattle.zset_object.proofs.Depends.{scored_laws_hold}
 use Rattle.cmd_zsets.specs.Spans.{rank_of}
@@ -26,7 +26,7 @@ pub returns-in_err-member-clause-settings : goal.returns-in_err-member-clause-se
 returns-in_err-member-clause-settings g c = record { limits = refl; seed = refl }
 
 pub returns-in_err-member-clause-changes : goal.returns-in_err-member-clause-changes
-returns-in_err-member-clause-changes g c = Changes-same _ _ c.requires.sound.owned
+returns-in_err-member-clause-changes g c = changes_same _ _ c.requires.sound.owned
 
 pub returns-in_err-member-clause-served : goal.returns-in_err-member-clause-served
 returns-in_err-member-clause-served g c = no_step

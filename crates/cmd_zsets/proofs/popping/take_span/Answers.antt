@@ -1,8 +1,8 @@
 use Rattle.std.proofs.Common.{◌≡◌, refl, sym, ap, ◌∙◌, arith, length, take, drop, ◌-◌, ◌+◌, ◌<◌, suc}
 use Rattle.std.specs.FinMap.{len}
 use Rattle.blocks.specs.Blocks.{Served}
-use Rattle.blocks.proofs.Change.{Changes-same, Changes-then}
-use Rattle.blocks.proofs.Serve.{Served-then}
+use Rattle.blocks.proofs.Change.{changes_same, changes_then}
+use Rattle.blocks.proofs.Serve.{served_then}
 use Rattle.zset_object.specs.Scored.{scores, ranked}
 use Rattle.zset_object.proofs.Depends.{scored_laws_hold}
 use Rattle.plain_model.specs.ZsetSteps.{members_of, met, without_members}
@@ -23,7 +23,7 @@ loop-init g c =
       many = omega (arith, c.requires.inside, same);
       is = ap (λ n. without_members (scores m c.args.zset.now) (members_of (take n list))) whole;
       form = refl;
-      changes = Changes-same _ _ c.requires.sound.owned;
+      changes = changes_same _ _ c.requires.sound.owned;
       served = Served.no_step;
     }
 
@@ -39,10 +39,10 @@ pub returns-in_err-take_met-clause-form : goal.returns-in_err-take_met-clause-fo
 returns-in_err-take_met-clause-form g c = c.take_met.ensures.form ∙ c.loop.invariant.form
 
 pub returns-in_err-take_met-clause-changes : goal.returns-in_err-take_met-clause-changes
-returns-in_err-take_met-clause-changes g c = Changes-then _ _ _ _ _ _ c.loop.invariant.changes c.take_met.ensures.changes
+returns-in_err-take_met-clause-changes g c = changes_then _ _ _ _ _ _ c.loop.invariant.changes c.take_met.ensures.changes
 
 pub returns-in_err-take_met-clause-served : goal.returns-in_err-take_met-clause-served
-returns-in_err-take_met-clause-served g c = Served-then _ _ _ c.loop.invariant.served c.take_met.ensures.served
+returns-in_err-take_met-clause-served g c = served_then _ _ _ c.loop.invariant.served c.take_met.ensures.served
 
 pub loop-preserved : goal.loop-preserved
 loop-preserved g c =
@@ -61,8 +61,8 @@ loop-preserved g c =
       many = omega (arith, c.loop.invariant.many, t.shorter);
       is = takes_on now then left t.taken list rest t.there t.is ∙ ap (λ n. without_members now (members_of (take n list))) one ∙ c.loop.invariant.is;
       form = c.take_met.ensures.form ∙ c.loop.invariant.form;
-      changes = Changes-then _ _ _ _ _ _ c.loop.invariant.changes c.take_met.ensures.changes;
-      served = Served-then _ _ _ c.loop.invariant.served c.take_met.ensures.served;
+      changes = changes_then _ _ _ _ _ _ c.loop.invariant.changes c.take_met.ensures.changes;
+      served = served_then _ _ _ c.loop.invariant.served c.take_met.ensures.served;
     }
 
 pub returns-clause-is : goal.returns-clause-is

@@ -2,8 +2,8 @@ use Rattle.std.proofs.Common.{◌≡◌, rules, refl, sym, ap, ◌∙◌, arith,
 use Rattle.std.proofs.lemmas.List.{drop_all}
 use Rattle.std.specs.FinMap.{remove}
 use Rattle.blocks.specs.Blocks.{Served}
-use Rattle.blocks.proofs.Change.{Changes-same, Changes-then}
-use Rattle.blocks.proofs.Serve.{Served-then}
+use Rattle.blocks.proofs.Change.{changes_same, changes_then}
+use Rattle.blocks.proofs.Serve.{served_then}
 use Rattle.zset_object.specs.Scored.{scores}
 use Rattle.plain_model.specs.ZsetSteps.{without_members}
 use Rattle.cmd_zsets.proofs.Rests.{settings_then, rest_from}
@@ -15,7 +15,7 @@ loop-member-init g c = record {
   settings = record { limits = refl; seed = refl };
   is = refl;
   form = refl;
-  changes = Changes-same _ _ c.requires.owned;
+  changes = changes_same _ _ c.requires.owned;
   served = Served.no_step;
 }
 
@@ -26,10 +26,10 @@ pub returns-in_err-take_out-clause-form : goal.returns-in_err-take_out-clause-fo
 returns-in_err-take_out-clause-form g c = c.take_out.ensures.form ∙ c.loop-member.invariant.form
 
 pub returns-in_err-take_out-clause-changes : goal.returns-in_err-take_out-clause-changes
-returns-in_err-take_out-clause-changes g c = Changes-then _ _ _ _ _ _ c.loop-member.invariant.changes c.take_out.ensures.changes
+returns-in_err-take_out-clause-changes g c = changes_then _ _ _ _ _ _ c.loop-member.invariant.changes c.take_out.ensures.changes
 
 pub returns-in_err-take_out-clause-served : goal.returns-in_err-take_out-clause-served
-returns-in_err-take_out-clause-served g c = Served-then _ _ _ c.loop-member.invariant.served c.take_out.ensures.served
+returns-in_err-take_out-clause-served g c = served_then _ _ _ c.loop-member.invariant.served c.take_out.ensures.served
 
 pub loop-member-preserved : goal.loop-member-preserved
 loop-member-preserved g c =
@@ -44,8 +44,8 @@ loop-member-preserved g c =
       settings = settings_then _ _ _ c.loop-member.invariant.settings c.take_out.ensures.settings;
       is = ap (λ m. without_members m others) is ∙ ap (without_members now) (sym rest) ∙ c.loop-member.invariant.is;
       form = c.take_out.ensures.form ∙ c.loop-member.invariant.form;
-      changes = Changes-then _ _ _ _ _ _ c.loop-member.invariant.changes c.take_out.ensures.changes;
-      served = Served-then _ _ _ c.loop-member.invariant.served c.take_out.ensures.served;
+      changes = changes_then _ _ _ _ _ _ c.loop-member.invariant.changes c.take_out.ensures.changes;
+      served = served_then _ _ _ c.loop-member.invariant.served c.take_out.ensures.served;
     }
 
 pub returns-clause-is : goal.returns-clause-is

@@ -4,8 +4,8 @@ use Rattle.std.proofs.lemmas.Int.{to_z-of_z}
 use Rattle.std.specs.FinMap.{get, insert}
 use Rattle.std.proofs.lemmas.Bool.{and_parts}
 use Rattle.blocks.specs.Blocks.{Served}
-use Rattle.blocks.proofs.Change.{Changes-same, Changes-then}
-use Rattle.blocks.proofs.Serve.{Served-then}
+use Rattle.blocks.proofs.Change.{changes_same, changes_then}
+use Rattle.blocks.proofs.Serve.{served_then}
 use Rattle.object_codec.specs.Forms.{IsLeast}
 use Rattle.zset_object.specs.Orders.{FitsScored, IsRisen}
 use Rattle.zset_object.specs.Scored.{scores, form_of}
@@ -23,7 +23,7 @@ members-init g c = record {
   range = c.requires.range;
   is = λ q. refl;
   least = λ h. h;
-  changes = Changes-same _ _ c.requires.sound.owned;
+  changes = changes_same _ _ c.requires.sound.owned;
   served = Served.no_step;
 }
 
@@ -38,10 +38,10 @@ pub returns-in_err-give_score-clause-settings : goal.returns-in_err-give_score-c
 returns-in_err-give_score-clause-settings g c = settings_then _ _ _ c.members.invariant.settings c.give_score.ensures.settings
 
 pub returns-in_err-give_score-clause-changes : goal.returns-in_err-give_score-clause-changes
-returns-in_err-give_score-clause-changes g c = Changes-then _ _ _ _ _ _ c.members.invariant.changes c.give_score.ensures.changes
+returns-in_err-give_score-clause-changes g c = changes_then _ _ _ _ _ _ c.members.invariant.changes c.give_score.ensures.changes
 
 pub returns-in_err-give_score-clause-served : goal.returns-in_err-give_score-clause-served
-returns-in_err-give_score-clause-served g c = Served-then _ _ _ c.members.invariant.served c.give_score.ensures.served
+returns-in_err-give_score-clause-served g c = served_then _ _ _ c.members.invariant.served c.give_score.ensures.served
 
 pub members-preserved : goal.members-preserved
 members-preserved g c =
@@ -69,8 +69,8 @@ members-preserved g c =
       is = λ q. ap (λ s. or_else (get (gathered c.pop_first.new.self) q) (get s q)) one
           ∙ one_over c.members.sums c.pop_first.new.self name sum zset c.in-Some.ensures.removal c.in-Some.ensures.updates.1 q ∙ inv.is q;
       least = λ h. subst (λ s. IsLeast (FitsScored limits s) form) (sym one) (least_more limits zset name.items sum from form (inv.least h) risen);
-      changes = Changes-then _ _ _ _ _ _ inv.changes c.give_score.ensures.changes;
-      served = Served-then _ _ _ inv.served c.give_score.ensures.served;
+      changes = changes_then _ _ _ _ _ _ inv.changes c.give_score.ensures.changes;
+      served = served_then _ _ _ inv.served c.give_score.ensures.served;
     }
 
 pub returns-clause-fills : goal.returns-clause-fills

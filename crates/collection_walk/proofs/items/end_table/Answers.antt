@@ -3,7 +3,7 @@ use Rattle.blocks.specs.Blocks.{no_step, Changes, Served}
 use Rattle.rehash_dict.specs.MapOf.{key_refs}
 use Rattle.collection_walk.proofs.Ending.{no_item, refs_from, end_begins, end_skips, end_all, key_live, key_goes_on}
 use Rattle.collection_walk.proofs.items.end_table.Goals.{then-is_entry, else-is_entry}
-use Rattle.blocks.proofs.Serve.{Served-next}
+use Rattle.blocks.proofs.Serve.{served_next}
 use Rattle.collection_walk.proofs.items.end_table.Goals as goal
 
 pub loop-at-init : goal.loop-at-init
@@ -23,7 +23,7 @@ loop-at-preserved g c =
         changes = rw add-one (subst (λ (s : _). Changes m (g.B.BlockStore.blocks s) (key_refs c.args.table) (refs_from (λ _. []) c.args.table (suc c.loop-at.at))) (sym w.store-is)
             (key_goes_on c.args.table c.loop-at.at m mid c.loop-at.invariant.changes w.entry.result.0 w.entry.result.1.now w.entry.ensures (g.B.BlockStore.blocks w.give_back.new.self)
             w.give_back.ensures.ended));
-        served = subst (Served g.B.BlockStore.step c.args.store.now) (sym w.store-is) (Served-next _ _ _ c.loop-at.invariant.served w.give_back.ensures.step);
+        served = subst (Served g.B.BlockStore.step c.args.store.now) (sym w.store-is) (served_next _ _ _ c.loop-at.invariant.served w.give_back.ensures.step);
       }
       | else-is_entry w ↦ record {
         changes = rw add-one (subst (λ (s : _). Changes m (g.B.BlockStore.blocks s) (key_refs c.args.table) (refs_from (λ _. []) c.args.table (suc c.loop-at.at))) (sym w.store-is)

@@ -2,7 +2,7 @@ use Rattle.std.proofs.Common.{◌≡◌, ◌++◌, ◌+◌, ◌%◌, ◌<◌, �
 use Rattle.std.proofs.lemmas.Grind.{common_steps}
 use Rattle.digests.specs.Crc.{crc_of, bit_steps}
 use Rattle.digests.specs.Entries.{eights}
-use Rattle.digests.proofs.Linear.{crc-append, by_table}
+use Rattle.digests.proofs.Linear.{crc_append, by_table}
 use Rattle.digests.proofs.Lookup.{lookup}
 use Rattle.digests.proofs.crc64.bytes_behind.Goals as goal
 
@@ -21,5 +21,5 @@ loop-byte-preserved c =
     let low : bit_xor state byte % 256 < 256 = omega arith in
     let found : c.entry.result ≡ bit_steps 8 (bit_xor state byte % 256) = c.entry.ensures
     ∙ lookup 1 c.args.table.now (bit_xor state byte % 256) c.requires.entries (omega (arith, c.requires.all, low)) in
-    by_table state byte c.entry.result fits found ∙ ap (λ (s : ℕ). crc_of s (byte ∷ [])) c.loop-byte.invariant ∙ crc-append c.args.start (take i c.args.bytes.now) (byte ∷ [])
+    by_table state byte c.entry.result fits found ∙ ap (λ (s : ℕ). crc_of s (byte ∷ [])) c.loop-byte.invariant ∙ crc_append c.args.start (take i c.args.bytes.now) (byte ∷ [])
     ∙ ap (crc_of c.args.start) (sym more)

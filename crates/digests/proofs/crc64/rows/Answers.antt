@@ -1,7 +1,7 @@
 use Rattle.std.proofs.Common.{◌≡◌, ℕ, List, ◌+◌, ◌-◌, ◌*◌, ◌++◌, drop, take, refl, sym, ap, ◌∙◌, arith}
 use Rattle.std.proofs.Math.Seq.{take-add}
 use Rattle.digests.specs.Crc.{crc_of}
-use Rattle.digests.proofs.Linear.{crc-append}
+use Rattle.digests.proofs.Linear.{crc_append}
 use Rattle.digests.proofs.crc64.rows.Goals as goal
 
 pub loop-i-init : goal.loop-i-init
@@ -17,4 +17,4 @@ loop-i-preserved c =
     let row : List ℕ = take (at + 8 - at) (drop at bytes) in
     let more : take at bytes ++ row ≡ take (8 * (c.loop-i.i + 1)) bytes = ap (λ (k : ℕ). take at bytes ++ take k (drop at bytes)) eight ∙ sym (take-add at 8 bytes)
     ∙ ap (λ (k : ℕ). take k bytes) next in
-    c.eight-state.ensures ∙ ap (λ (s : ℕ). crc_of s row) c.loop-i.invariant ∙ crc-append c.args.start (take at bytes) row ∙ ap (crc_of c.args.start) more
+    c.eight-state.ensures ∙ ap (λ (s : ℕ). crc_of s row) c.loop-i.invariant ∙ crc_append c.args.start (take at bytes) row ∙ ap (crc_of c.args.start) more

@@ -1,19 +1,19 @@
 use Rattle.std.proofs.Common.{◌≡◌, ap, ◌∙◌, sym, arith, ◌/◌, length, ℕ, List, [], ◌∷◌, ◌++◌, replicate, ◌-◌, ◌*◌, ◌%◌}
 use Rattle.digests.specs.declared.siphash.State.{State}
 use Rattle.digests.specs.Siphash.{sip, absorbed, compressed, finished, padded, initial, word_at}
-use Rattle.digests.proofs.Rounds.{compressed-zero, compressed-next}
-use Rattle.digests.proofs.Words.{word-in, word-last, take-rest}
+use Rattle.digests.proofs.Rounds.{compressed_zero, compressed_next}
+use Rattle.digests.proofs.Words.{word_in_in_words, word_last_in_words, take-rest}
 use Rattle.digests.proofs.siphash.sip.Goals as goal
 
 pub loop-word-init : goal.loop-word-init
-loop-word-init c = c.new-state.ensures ∙ sym (compressed-zero c.args.c (padded c.args.bytes.now) (initial c.args.k0 c.args.k1))
+loop-word-init c = c.new-state.ensures ∙ sym (compressed_zero c.args.c (padded c.args.bytes.now) (initial c.args.k0 c.args.k1))
 
 pub loop-word-preserved : goal.loop-word-preserved
 loop-word-preserved c =
     c.absorb-state.ensures
-    ∙ (ap (λ (word : ℕ). absorbed c.args.c word c.loop-word.state) (c.word_at.ensures ∙ word-in c.args.bytes.now c.loop-word.word c.loop-word-test.true)
+    ∙ (ap (λ (word : ℕ). absorbed c.args.c word c.loop-word.state) (c.word_at.ensures ∙ word_in_in_words c.args.bytes.now c.loop-word.word c.loop-word-test.true)
     ∙ (ap (λ (s : State). absorbed c.args.c (word_at (padded c.args.bytes.now) c.loop-word.word) s) c.loop-word.invariant
-    ∙ sym (compressed-next c.args.c (padded c.args.bytes.now) c.loop-word.word (initial c.args.k0 c.args.k1))))
+    ∙ sym (compressed_next c.args.c (padded c.args.bytes.now) c.loop-word.word (initial c.args.k0 c.args.k1))))
 
 pub returns : goal.returns
 unfolding sip
@@ -23,7 +23,7 @@ returns c =
     let so_far : c.loop-word.state ≡ compressed c.args.c message (length c.args.bytes.now / 8) (initial c.args.k0 c.args.k1) = c.loop-word.invariant
     ∙ ap (λ (n : ℕ). compressed c.args.c message n (initial c.args.k0 c.args.k1)) all in
     let word : c.read_u64.result ≡ word_at message (length c.args.bytes.now / 8) = c.read_u64.ensures
-    ∙ word-last c.args.bytes.now c.last_bytes-last.result
+    ∙ word_last_in_words c.args.bytes.now c.last_bytes-last.result
     (c.last_bytes-last.ensures ∙ ap (λ (t : List ℕ). t ++ replicate (7 - length t) 0 ++ (length c.args.bytes.now % 256) ∷ [])
     (take-rest c.args.bytes.now (8 * (length c.args.bytes.now / 8)))) in
     c.finish.ensures
@@ -31,4 +31,4 @@ returns c =
     (c.absorb.ensures
     ∙ (ap (λ (w : ℕ). absorbed c.args.c w c.loop-word.state) word
     ∙ (ap (λ (s : State). absorbed c.args.c (word_at message (length c.args.bytes.now / 8)) s) so_far
-    ∙ sym (compressed-next c.args.c message (length c.args.bytes.now / 8) (initial c.args.k0 c.args.k1)))))
+    ∙ sym (compressed_next c.args.c message (length c.args.bytes.now / 8) (initial c.args.k0 c.args.k1)))))

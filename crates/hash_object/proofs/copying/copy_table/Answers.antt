@@ -1,6 +1,6 @@
 use Rattle.std.proofs.Common.{sym, subst, add-one, arith, suc}
 use Rattle.blocks.specs.Blocks.{no_step, Served}
-use Rattle.blocks.proofs.Serve.{Served-then}
+use Rattle.blocks.proofs.Serve.{served_then}
 use Rattle.pack_pairs.specs.Pairs.{map_of_pairs}
 use Rattle.rehash_dict.specs.Table.{item}
 use Rattle.hash_object.specs.Hashed.{IsHashed, no_fields}
@@ -38,7 +38,7 @@ copy_field-requires-clause-absent g c =
     c.requires.owned c.loop-at.invariant.hashed e.0 e.1
 
 pub returns-in-Err-clause-served : goal.returns-in-Err-clause-served
-returns-in-Err-clause-served g c = Served-then _ _ _ (Served-then _ _ _ c.loop-at.invariant.served c.in-Err.ensures.served) c.end_table.ensures.served
+returns-in-Err-clause-served g c = served_then _ _ _ (served_then _ _ _ c.loop-at.invariant.served c.in-Err.ensures.served) c.end_table.ensures.served
 
 pub loop-at-preserved : goal.loop-at-preserved
 loop-at-preserved g c =
@@ -60,7 +60,7 @@ loop-at-preserved g c =
           record {
             hashed = subst (λ s. IsHashed m (g.B.BlockStore.blocks s) (no_fields c.args.seed) c.if-is_entry.table (map_of_pairs (pairs_before m t (suc at)))) (sym w.store-is)
                 (subst (λ v. IsHashed m n (no_fields c.args.seed) v (map_of_pairs (pairs_before m t (suc at)))) (sym w.table-is) next);
-            served = subst (Served g.B.BlockStore.step c.args.store.now) (sym w.store-is) (Served-then _ _ _ inv.served w.copy_field.ensures.served);
+            served = subst (Served g.B.BlockStore.step c.args.store.now) (sym w.store-is) (served_then _ _ _ inv.served w.copy_field.ensures.served);
           })
       | else-is_entry w ↦
           (let same = vacant_same m mid c.args.seed t u at c.requires.keyed c.requires.owned inv.hashed (no_item t at c.is_entry.result w.if-is_entry.false c.is_entry.ensures) in

@@ -1,6 +1,6 @@
 use Rattle.std.proofs.Common.{arith, sym, subst, suc, add-one}
 use Rattle.blocks.specs.Blocks.{no_step, Changes, Served}
-use Rattle.blocks.proofs.Serve.{Served-then}
+use Rattle.blocks.proofs.Serve.{served_then}
 use Rattle.hash_object.specs.Hashed.{blocks_of}
 use Rattle.collection_walk.proofs.Ending.{refs_from, end_begins, end_skips, end_owned, end_goes_on, end_all, no_item}
 use Rattle.hash_object.proofs.Tables.{value_block}
@@ -24,7 +24,7 @@ loop-at-preserved g c =
         changes = rw add-one (subst (λ (s : _). Changes m (g.B.BlockStore.blocks s) (blocks_of c.args.table) (refs_from value_block c.args.table (suc c.loop-at.at))) (sym w.store-is)
             (end_goes_on value_block c.args.table c.loop-at.at m mid c.loop-at.invariant.changes w.entry.result.0 w.entry.result.1.now w.entry.ensures
             (g.B.BlockStore.blocks w.end_entry.new.store) w.end_entry.ensures.changes));
-        served = subst (Served g.B.BlockStore.step c.args.store.now) (sym w.store-is) (Served-then _ _ _ c.loop-at.invariant.served w.end_entry.ensures.served);
+        served = subst (Served g.B.BlockStore.step c.args.store.now) (sym w.store-is) (served_then _ _ _ c.loop-at.invariant.served w.end_entry.ensures.served);
       }
       | else-is_entry w ↦ record {
         changes = rw add-one (subst (λ (s : _). Changes m (g.B.BlockStore.blocks s) (blocks_of c.args.table) (refs_from value_block c.args.table (suc c.loop-at.at))) (sym w.store-is)

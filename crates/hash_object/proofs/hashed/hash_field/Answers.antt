@@ -1,5 +1,5 @@
 use Rattle.std.proofs.Common.{refl}
-use Rattle.blocks.proofs.Serve.{Served-then}
+use Rattle.blocks.proofs.Serve.{served_then}
 use Rattle.hash_object.proofs.Tables.{put_keyed, put_lacks, put_hashed}
 use Rattle.hash_object.proofs.hashed.hash_field.Goals as goal
 
@@ -23,4 +23,4 @@ returns-in-Ok-clause-hashed g c =
     c.insert.new.self c.in-Ok.field-0 _ refl refl c.in-Ok.ensures.added c.in-Ok.ensures.keyed c.in-Ok.ensures.grown
 
 pub returns-in-Err-clause-served : goal.returns-in-Err-clause-served
-returns-in-Err-clause-served g c = Served-then _ _ _ c.place_entry.ensures.served c.end_entry.ensures.served
+returns-in-Err-clause-served g c = served_then _ _ _ c.place_entry.ensures.served c.end_entry.ensures.served

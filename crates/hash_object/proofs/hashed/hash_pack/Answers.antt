@@ -3,8 +3,8 @@ use Rattle.std.specs.Prelude.{MatchOption}
 use Rattle.std.proofs.lemmas.List.{take_all}
 use Rattle.std.specs.FinMap.{get, insert}
 use Rattle.blocks.specs.Blocks.{Blocks, no_step, Changes}
-use Rattle.blocks.proofs.Change.{Changes-then}
-use Rattle.blocks.proofs.Serve.{Served-then}
+use Rattle.blocks.proofs.Change.{changes_then}
+use Rattle.blocks.proofs.Serve.{served_then}
 use Rattle.listpack.specs.Element.{element_text}
 use Rattle.pack_pairs.specs.Pairs.{Pair, IsPairAt, pairs, second_of, map_of_pairs}
 use Rattle.pack_pairs.proofs.Lists.{no_pair}
@@ -43,7 +43,7 @@ hash_elements-requires-clause-absent g c =
     ∙ ap (λ (q : List ℕ). second_of q (take i list)) (c.first.ensures i at) ∙ once_before list i c.requires.once inside)
 
 pub returns-in-Err-clause-served : goal.returns-in-Err-clause-served
-returns-in-Err-clause-served g c = Served-then _ _ _ (Served-then _ _ _ c.loop.invariant.served c.in-Err.ensures.served) c.end_table.ensures.served
+returns-in-Err-clause-served g c = served_then _ _ _ (served_then _ _ _ c.loop.invariant.served c.in-Err.ensures.served) c.end_table.ensures.served
 
 pub returns-in-Err-clause-err_blocks : goal.returns-in-Err-clause-err_blocks
 returns-in-Err-clause-err_blocks g c =
@@ -53,7 +53,7 @@ returns-in-Err-clause-err_blocks g c =
     let ended : Changes mid n (blocks_of c.loop.table) [] =
     subst (λ (b : Blocks). Changes b n (blocks_of c.loop.table) []) c.in-Err.ensures.err_blocks
     (subst (λ t. Changes (g.B.BlockStore.blocks c.hash_elements.new.store) n (blocks_of t) []) c.in-Err.ensures.err_table c.end_table.ensures.changes) in
-    all_same m n (Changes-then m mid n [] (blocks_of c.loop.table) [] c.loop.invariant.hashed.changes ended)
+    all_same m n (changes_then m mid n [] (blocks_of c.loop.table) [] c.loop.invariant.hashed.changes ended)
 
 pub loop-preserved : goal.loop-preserved
 loop-preserved g c =
@@ -78,7 +78,7 @@ loop-preserved g c =
       hashed = subst (λ map. IsHashed m n (no_fields c.args.seed) c.hash_elements.new.table map) more
           (hashed_then m mid n (no_fields c.args.seed) c.loop.table c.hash_elements.new.table (map_of_pairs (take i list)) (insert (fields_in mid c.loop.table) k v) inv.hashed
           c.in_default.ensures.hashed);
-      served = Served-then _ _ _ inv.served c.hash_elements.ensures.served;
+      served = served_then _ _ _ inv.served c.hash_elements.ensures.served;
     }
 
 pub returns-clause-hashed : goal.returns-clause-hashed

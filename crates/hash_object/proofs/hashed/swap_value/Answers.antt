@@ -1,4 +1,4 @@
-use Rattle.blocks.proofs.Serve.{Served-next}
+use Rattle.blocks.proofs.Serve.{served_next}
 use Rattle.hash_object.proofs.Tables.{was_live, swap_hashed, swap_keyed}
 use Rattle.hash_object.proofs.hashed.swap_value.Goals as goal
 
@@ -19,4 +19,4 @@ returns-clause-hashed g c =
     (c.swap_value-old.ensures.tables a)
 
 pub returns-clause-served : goal.returns-clause-served
-returns-clause-served g c = Served-next _ _ _ c.put_block.ensures.served c.give_back.ensures.step
+returns-clause-served g c = served_next _ _ _ c.put_block.ensures.served c.give_back.ensures.step

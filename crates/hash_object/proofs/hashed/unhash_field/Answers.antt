@@ -2,7 +2,7 @@ use Rattle.std.proofs.Common.{is_some, sym, ap, subst}
 use Rattle.blocks.specs.Blocks.{no_step}
 use Rattle.rehash_dict.specs.Tables.{IsSettled}
 use Rattle.rehash_dict.specs.Keyed.{key_tables}
-use Rattle.rehash_dict.proofs.Settled.{shrunk-settled}
+use Rattle.rehash_dict.proofs.Settled.{shrunk_settled}
 use Rattle.hash_object.proofs.Tables.{taken_owned, taken_had, taken_keyed, taken_hashed, fields_lacks}
 use Rattle.hash_object.proofs.hashed.unhash_field.Goals as goal
 
@@ -39,7 +39,7 @@ returns-in_ok-shrink-in-Some-clause-hashed g c = λ _.
 pub returns-in_ok-shrink-in-Some-clause-settled : goal.returns-in_ok-shrink-in-Some-clause-settled
 returns-in_ok-shrink-in-Some-clause-settled g c = λ _.
     let n = g.B.BlockStore.blocks c.end_entry.new.store in
-    subst IsSettled (sym (c.in_ok-shrink-in-Some.ensures.tables n)) (shrunk-settled (key_tables n c.remove.new.self))
+    subst IsSettled (sym (c.in_ok-shrink-in-Some.ensures.tables n)) (shrunk_settled (key_tables n c.remove.new.self))
 
 pub returns-in-None-clause-there : goal.returns-in-None-clause-there
 returns-in-None-clause-there g c = sym (ap is_some (fields_lacks (g.B.BlockStore.blocks c.args.store.now) c.args.table.now c.requires.keyed c.args.field.now c.in-None.ensures.none.1))

@@ -1,6 +1,6 @@
 use Rattle.std.proofs.Common.{◌≤◌, ◌<◌, ◌⊎◌, inl, inr, arith}
-use Rattle.blocks.proofs.Change.{Changes-owned}
-use Rattle.blocks.proofs.Sweeps.{Calmer-same, Calmer-next}
+use Rattle.blocks.proofs.Change.{changes_owned}
+use Rattle.blocks.proofs.Sweeps.{calmer_same, calmer_next}
 use Rattle.hash_object.specs.Hashed.{blocks_of}
 use Rattle.hash_object.proofs.Settling.{settled_same, settled_more, settled_weaker, calm_more}
 use Rattle.hash_object.proofs.relocating.settle_marks.Goals as goal
@@ -9,14 +9,14 @@ pub loop-mark-init : goal.loop-mark-init
 loop-mark-init g c = record {
   settled = settled_same (g.B.BlockStore.blocks c.args.store.now) c.args.table.now _ c.requires.keyed c.requires.owned;
   calm = λ i e low high there. absurd (omega (arith, low, high));
-  calmer = Calmer-same (g.B.BlockStore.heap c.args.store.now);
+  calmer = calmer_same (g.B.BlockStore.heap c.args.store.now);
 }
 
 pub settle_mark-requires-clause-keyed : goal.settle_mark-requires-clause-keyed
 settle_mark-requires-clause-keyed g c = c.loop-mark.invariant.settled.keyed
 
 pub settle_mark-requires-clause-owned : goal.settle_mark-requires-clause-owned
-settle_mark-requires-clause-owned g c = Changes-owned (g.B.BlockStore.blocks c.args.store.now) (g.B.BlockStore.blocks c.loop-mark.store) (blocks_of c.args.table.now)
+settle_mark-requires-clause-owned g c = changes_owned (g.B.BlockStore.blocks c.args.store.now) (g.B.BlockStore.blocks c.loop-mark.store) (blocks_of c.args.table.now)
     (blocks_of c.loop-mark.table) c.loop-mark.invariant.settled.changes
 
 pub loop-mark-preserved : goal.loop-mark-preserved
@@ -29,7 +29,7 @@ loop-mark-preserved g c =
           c.args.part.start c.loop-mark.mark (omega arith) inv.settled one.settled;
       calm = calm_more (g.B.BlockStore.heap c.loop-mark.store) (g.B.BlockStore.heap c.settle_mark.new.store) c.loop-mark.table c.settle_mark.new.table c.args.part.start c.loop-mark.mark
           one.calmer one.settled.others inv.calm one.calm;
-      calmer = Calmer-next (g.B.BlockStore.heap c.args.store.now) (g.B.BlockStore.heap c.loop-mark.store) (g.B.BlockStore.heap c.settle_mark.new.store) inv.calmer one.calmer;
+      calmer = calmer_next (g.B.BlockStore.heap c.args.store.now) (g.B.BlockStore.heap c.loop-mark.store) (g.B.BlockStore.heap c.settle_mark.new.store) inv.calmer one.calmer;
     }
 
 pub returns-clause-settled : goal.returns-clause-settled
@@ -54,4 +54,4 @@ pub returns-then-is_calm-clause-calm : goal.returns-then-is_calm-clause-calm
 returns-then-is_calm-clause-calm g c = λ i e low high there. c.if-is_calm.ensures e
 
 pub returns-then-is_calm-clause-calmer : goal.returns-then-is_calm-clause-calmer
-returns-then-is_calm-clause-calmer g c = Calmer-same (g.B.BlockStore.heap c.args.store.now)
+returns-then-is_calm-clause-calmer g c = calmer_same (g.B.BlockStore.heap c.args.store.now)

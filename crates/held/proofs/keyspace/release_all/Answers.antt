@@ -1,6 +1,6 @@
 use Rattle.std.proofs.Common.{sym, subst, suc, arith, add-one}
 use Rattle.blocks.specs.Blocks.{Served, no_step}
-use Rattle.blocks.proofs.Serve.{Served-then}
+use Rattle.blocks.proofs.Serve.{served_then}
 use Rattle.held.proofs.Releases.{release_begins, release_ends, release_skips, release_owned, release_sound, release_goes_on, no_item, IsReleased}
 use Rattle.held.proofs.keyspace.release_all.Goals as goal
 use Rattle.held.proofs.keyspace.release_all.Goals.{then-is_entry, else-is_entry}
@@ -41,7 +41,7 @@ loop-at-preserved g c =
             (release_goes_on g.V.Stored.refs_of g.V.Stored.value_of g.met.V.Stored.reads_own c.args.table c.loop-at.table c.loop-at.at first mid c.loop-at.invariant.released
             w.swap_value-value.new.self w.swap_value-value.result w.zero.result w.swap_value-value.ensures.swaps w.entry.result.0 w.entry.result.1.now w.entry.ensures
             (g.B.BlockStore.blocks w.release_both.new.store) w.release_both.ensures.changes)));
-        served = subst (Served g.B.BlockStore.step c.args.store.now) (sym w.store-is) (Served-then _ _ _ c.loop-at.invariant.served w.release_both.ensures.served);
+        served = subst (Served g.B.BlockStore.step c.args.store.now) (sym w.store-is) (served_then _ _ _ c.loop-at.invariant.served w.release_both.ensures.served);
       }
       | else-is_entry w ↦ record {
         released = rw add-one

@@ -7,7 +7,7 @@ use Rattle.std.proofs.lemmas.Option.{get_or_from_slice_get, slice_get_within}
 use Rattle.std.specs.Prelude.{◌<ℤ◌}
 use Rattle.intset.specs.Intset.{numbers_of, width_of, count_of}
 use Rattle.intset.specs.Places.{IsEdited, IsPlace}
-use Rattle.intset.proofs.Edited.{cut_edits, edited_intset, length-numbers_of}
+use Rattle.intset.proofs.Edited.{cut_edits, edited_intset, length_numbers_of}
 use Rattle.intset.proofs.Packed.{packed_room, packed_small}
 use Rattle.intset.proofs.Sorted.{absent_without, remove_place}
 use Rattle.intset.proofs.edits.remove.Goals as goal
@@ -23,7 +23,7 @@ cut-requires c =
     let found : slice_get (numbers_of old) c.in-Ok.place ≡ Some c.args.n = rw (to_z-of_z w64 c.args.n c.ranges.n, c.as_slice.ensures.value) at c.in-Ok.ensures.found in
     let within = slice_get_within (numbers_of old) c.in-Ok.place c.args.n found in
     let told : c.told_width-width.result ≡ width_of old = c.told_width-width.ensures ∙ ap width_of c.as_slice-2.ensures.value in
-    let room = packed_room (width_of old) c.in-Ok.place (count_of old) (omega (arith, length-numbers_of old)) in
+    let room = packed_room (width_of old) c.in-Ok.place (count_of old) (omega (arith, length_numbers_of old)) in
     rw told (omega (arith, c.requires.intset.length))
 
 pub overflow_mul-width : goal.overflow_mul-width
@@ -50,7 +50,7 @@ overflow_sub-count c =
     let found : slice_get (numbers_of old) c.in-Ok.place ≡ Some c.args.n = rw (to_z-of_z w64 c.args.n c.ranges.n, c.as_slice.ensures.value) at c.in-Ok.ensures.found in
     let within = slice_get_within (numbers_of old) c.in-Ok.place c.args.n found in
     let counted : c.told_count-count.result ≡ count_of old = c.told_count-count.ensures.value ∙ ap count_of c.as_slice-3.ensures.value in
-    omega (arith, length-numbers_of old)
+    omega (arith, length_numbers_of old)
 
 pub returns : goal.returns
 returns c =
@@ -63,7 +63,7 @@ returns c =
     let told : c.told_width-width.result ≡ width_of old = c.told_width-width.ensures ∙ ap width_of c.as_slice-2.ensures.value in
     let counted : c.told_count-count.result ≡ count_of old = c.told_count-count.ensures.value ∙ ap count_of c.as_slice-3.ensures.value in
     let edited : IsEdited old new (remove numbers c.in-Ok.place) =
-    cut_edits old new c.told_width-width.result c.in-Ok.place c.requires.intset.width c.requires.intset.length told (omega (arith, length-numbers_of old)) (omega (arith, length-numbers_of old))
+    cut_edits old new c.told_width-width.result c.in-Ok.place c.requires.intset.width c.requires.intset.length told (omega (arith, length_numbers_of old)) (omega (arith, length_numbers_of old))
     c.cut.new.set.items c.cut.ensures (rw counted at c.write_count.ensures) in
     record {
       intset = edited_intset old new (remove numbers c.in-Ok.place) edited (all_pairs_remove (λ x y. x <ℤ y) numbers c.in-Ok.place within c.requires.intset.rising);

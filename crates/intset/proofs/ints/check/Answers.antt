@@ -1,6 +1,6 @@
 use Rattle.std.proofs.Common.{arith, refl}
 use Rattle.intset.specs.Intset.{IsWidth}
-use Rattle.intset.proofs.Packed.{numbers_of-is, packed_small}
+use Rattle.intset.proofs.Packed.{numbers_of_is, packed_small}
 use Rattle.intset.proofs.ints.check.Goals as goal
 
 pub overflow_mul-width : goal.overflow_mul-width
@@ -14,7 +14,7 @@ returns-then-not-is_rising c =
     let sized : IsWidth c.told_width.result = c.if-not-is_width.ensures.0 refl in (
       record { told = c.if-bytes-lt4.false; width = rw c.told_width.ensures at sized },
       (rw (← c.told_width-width.ensures, ← c.told_count.ensures.value) (omega arith)),
-      (λ rising. let t = c.is_rising.ensures.1 (rw (c.told_width-width.ensures, c.told_count-count.ensures.value, c.packed_part-packed.ensures, ← numbers_of-is c.args.bytes.now) rising) in
+      (λ rising. let t = c.is_rising.ensures.1 (rw (c.told_width-width.ensures, c.told_count-count.ensures.value, c.packed_part-packed.ensures, ← numbers_of_is c.args.bytes.now) rising) in
           absurd (cc)),
     )
 
@@ -25,6 +25,6 @@ returns c =
     record {
       width = record { told = c.if-bytes-lt4.false; width = rw c.told_width.ensures at sized };
       length = rw (← c.told_width-width.ensures, ← c.told_count.ensures.value) (omega arith);
-      listed = rw (numbers_of-is c.args.bytes.now, ← c.told_width-width.ensures, ← c.told_count-count.ensures.value, ← c.packed_part-packed.ensures) refl;
+      listed = rw (numbers_of_is c.args.bytes.now, ← c.told_width-width.ensures, ← c.told_count-count.ensures.value, ← c.packed_part-packed.ensures) refl;
       rising = rising;
     }

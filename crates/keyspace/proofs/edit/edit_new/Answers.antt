@@ -1,4 +1,4 @@
-use Rattle.blocks.proofs.Serve.{Served-then}
+use Rattle.blocks.proofs.Serve.{served_then}
 use Rattle.keyspace.specs.Scopes.{one_key}
 use Rattle.keyspace.proofs.Running.{same_settings}
 use Rattle.keyspace.proofs.Founding.{new_intact, new_seeks, new_sound, new_within, undone_sound, undone_within, makes_new}
@@ -36,7 +36,7 @@ returns-in-Ok-clause-held g c =
     record {
       sound = new_sound c.args.at.now bases m after c.args.key.now c.args.fresh c.edit.new.value c.requires.ready.sound c.requires.blank c.edit.ensures.changes c.put_sought.new.self.bases
           (blocks c.put_sought.new.self.store) c.put_sought.ensures.sound;
-      served = Served-then _ _ _ c.edit.ensures.served c.put_sought.ensures.served;
+      served = served_then _ _ _ c.edit.ensures.served c.put_sought.ensures.served;
       settings = c.put_sought.ensures.settings;
       within = new_within c.args.at.now bases m after c.args.key.now c.args.fresh c.edit.new.value c.requires.ready.sound c.requires.blank c.edit.ensures.changes
           c.put_sought.new.self.bases (blocks c.put_sought.new.self.store) (one_key c.args.at.now.db c.args.key.now) c.put_sought.ensures.within;
@@ -51,7 +51,7 @@ returns-in-Err-clause-held g c =
     let later = blocks c.release.new.store in
     record {
       sound = undone_sound c.args.at.now bases m after c.args.key.now c.args.fresh c.edit.new.value c.requires.ready.sound c.requires.blank c.edit.ensures.changes later c.release.ensures.changes;
-      served = Served-then _ _ _ c.edit.ensures.served c.release.ensures.served;
+      served = served_then _ _ _ c.edit.ensures.served c.release.ensures.served;
       settings = same_settings bases;
       within = undone_within c.args.at.now bases m after c.args.key.now c.args.fresh c.edit.new.value c.requires.ready.sound c.requires.blank c.edit.ensures.changes later
           c.release.ensures.changes (one_key c.args.at.now.db c.args.key.now);

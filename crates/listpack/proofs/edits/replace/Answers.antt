@@ -1,7 +1,7 @@
 use Rattle.std.proofs.Common.{◌≡◌, ◌+◌, ◌++◌, ◌<◌, ℕ, List, length, take, drop, sym, ap, ◌∙◌, arith}
 use Rattle.listpack.specs.Pack.{offset_of, told}
 use Rattle.listpack.specs.Writing.{entry}
-use Rattle.listpack.proofs.Repacking.{replaced, texts_replaced, element_fits, length-exchanged}
+use Rattle.listpack.proofs.Repacking.{replaced, texts_replaced, element_fits, length_exchanged}
 use Rattle.listpack.proofs.edits.replace.Goals as goal
 
 pub returns-clause-entries : goal.returns-clause-entries
@@ -19,7 +19,7 @@ returns-clause-entries c =
     let inner = put ∙ ap (λ (k : ℕ). take k old ++ (entry text ++ drop (place + size) old)) at ∙ ap (λ (k : ℕ). take (offset_of old i) old ++ (entry text ++ drop k old)) next in
     replaced old c.put.new.pack.items c.write_header.new.pack.items text i c.told_count-count.result c.requires.packed c.requires.index
     (element_fits old text c.requires.fits) inner c.write_header.ensures
-    (length-exchanged old c.put.new.pack.items text place size put c.requires.fits (omega (arith, inside)))
+    (length_exchanged old c.put.new.pack.items text place size put c.requires.fits (omega (arith, inside)))
     (omega arith) (c.told_count-count.ensures ∙ ap told c.deref.ensures.value)
 
 pub returns-clause-list : goal.returns-clause-list

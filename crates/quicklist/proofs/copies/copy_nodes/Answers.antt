@@ -1,7 +1,7 @@
 use Rattle.std.proofs.Common.{◌≡◌, ◌+◌, [], List, length, map, take, sym, subst, arith, rules}
 use Rattle.std.proofs.lemmas.List.{take_all}
 use Rattle.blocks.specs.Blocks.{Blocks, Changes, no_step}
-use Rattle.blocks.proofs.Serve.{Served-then}
+use Rattle.blocks.proofs.Serve.{served_then}
 use Rattle.quicklist.specs.declared.node.Node.{Node}
 use Rattle.quicklist.specs.Nodes.{Placed, refs_of}
 use Rattle.quicklist.proofs.Chains.{none_placed}
@@ -42,7 +42,7 @@ loop-k-preserved g c =
     record {
       placed = subst (λ (xs : List Node). Placed m n (map (piece_for m) (take (c.loop-k.k + 1) c.args.nodes.now.items)) xs) (sym c.push_back_reserved.ensures.items) next;
       room = omega (arith, inv.room, c.push_back_reserved.ensures.capacity);
-      served = Served-then _ _ _ inv.served h.served;
+      served = served_then _ _ _ inv.served h.served;
     }
 
 pub returns-clause-copied : goal.returns-clause-copied
@@ -55,7 +55,7 @@ returns-clause-copied g c =
     copied_is m n nodes c.loop-k.copy.items (subst (λ (xs : List Node). Placed m n (map (piece_for m) xs) c.loop-k.copy.items) all c.loop-k.invariant.placed)
 
 pub returns-in-Err-clause-served : goal.returns-in-Err-clause-served
-returns-in-Err-clause-served g c = Served-then _ _ _ (Served-then _ _ _ c.loop-k.invariant.served c.in-Err.ensures.served) c.end_nodes.ensures.served
+returns-in-Err-clause-served g c = served_then _ _ _ (served_then _ _ _ c.loop-k.invariant.served c.in-Err.ensures.served) c.end_nodes.ensures.served
 
 pub returns-in-Err-clause-err_blocks : goal.returns-in-Err-clause-err_blocks
 returns-in-Err-clause-err_blocks g c =

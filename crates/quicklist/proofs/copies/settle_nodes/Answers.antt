@@ -1,7 +1,7 @@
 use Rattle.std.proofs.Common.{◌≡◌, sym, subst, inl, inr, arith, false}
 use Rattle.std.proofs.lemmas.Bool.{cases_eq}
 use Rattle.blocks.specs.Slabs.{wants}
-use Rattle.blocks.proofs.Sweeps.{Calmer-next}
+use Rattle.blocks.proofs.Sweeps.{calmer_next}
 use Rattle.quicklist.specs.Nodes.{node_at}
 use Rattle.quicklist.proofs.Moving.{more_settled}
 use Rattle.quicklist.proofs.copies.settle_nodes.Goals as goal
@@ -19,5 +19,5 @@ loop-k-preserved g c =
         | inr before' ↦ subst (λ node. wants (g.B.BlockStore.heap c.settle_node.new.store) node.at ≡ false) (sym (c.settle_node.ensures.settled.others i before'))
             (c.settle_node.ensures.calmer.calm (node_at c.loop-k.nodes.items i).at (inv.calm i low (omega (arith, high, before'))))
       ];
-      calmer = Calmer-next (g.B.BlockStore.heap c.args.store.now) (g.B.BlockStore.heap c.loop-k.store) (g.B.BlockStore.heap c.settle_node.new.store) inv.calmer c.settle_node.ensures.calmer;
+      calmer = calmer_next (g.B.BlockStore.heap c.args.store.now) (g.B.BlockStore.heap c.loop-k.store) (g.B.BlockStore.heap c.settle_node.new.store) inv.calmer c.settle_node.ensures.calmer;
     }

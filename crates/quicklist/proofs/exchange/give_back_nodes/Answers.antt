@@ -1,12 +1,12 @@
 use Rattle.std.proofs.Common.{◌+◌, ◌<◌, [], length, arith}
 use Rattle.blocks.specs.Blocks.{no_step}
-use Rattle.blocks.proofs.Change.{Changes-same}
-use Rattle.blocks.proofs.Serve.{Served-next}
+use Rattle.blocks.proofs.Change.{changes_same}
+use Rattle.blocks.proofs.Serve.{served_next}
 use Rattle.quicklist.proofs.Chains.{next_live, one_ended, more_ended}
 use Rattle.quicklist.proofs.exchange.give_back_nodes.Goals as goal
 
 pub loop-i-init : goal.loop-i-init
-loop-i-init g c = record { changes = Changes-same (g.B.BlockStore.blocks c.args.store.now) [] (λ r. omega arith); served = no_step }
+loop-i-init g c = record { changes = changes_same (g.B.BlockStore.blocks c.args.store.now) [] (λ r. omega arith); served = no_step }
 
 pub give_back-requires : goal.give_back-requires
 give_back-requires g c =
@@ -25,5 +25,5 @@ loop-i-preserved g c =
     record {
       changes = more_ended m mid n nodes c.args.k i c.requires.owned c.loop-i.invariant.changes
           (one_ended mid n nodes (c.args.k + i) c.index.result.now inside c.index.ensures was c.give_back.ensures.ended);
-      served = Served-next _ _ _ c.loop-i.invariant.served c.give_back.ensures.step;
+      served = served_next _ _ _ c.loop-i.invariant.served c.give_back.ensures.step;
     }

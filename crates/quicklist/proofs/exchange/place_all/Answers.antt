@@ -1,7 +1,7 @@
 use Rattle.std.proofs.Common.{◌≡◌, ◌+◌, ◌++◌, ◌∷◌, ◌<◌, ◌≤◌, [], ℕ, List, length, take, drop, get_or, ap, sym, subst, arith, rules, length-append, length-drop, deque_len}
 use Rattle.std.proofs.lemmas.List.{length-take-le, take-append-drop, take_more, take_all}
 use Rattle.blocks.specs.Blocks.{Blocks, no_step, times, live, Changes}
-use Rattle.blocks.proofs.Serve.{Served-then}
+use Rattle.blocks.proofs.Serve.{served_then}
 use Rattle.quicklist.specs.declared.node.Container.TheVariants.{Plain}
 use Rattle.quicklist.specs.declared.node.Node.{Node}
 use Rattle.quicklist.specs.declared.piece.Piece.{Piece}
@@ -83,7 +83,7 @@ loop-i-preserved g c =
         length-append ins.0 (c.in-Ok.node ∷ []),
         long,
       );
-      served = Served-then _ _ _ c.loop-i.invariant.served h.served;
+      served = served_then _ _ _ c.loop-i.invariant.served h.served;
     }
 
 pub returns-clause-ok : goal.returns-clause-ok
@@ -94,7 +94,7 @@ returns-clause-ok g c =
     (ins.0, subst (λ ps. Placed (g.B.BlockStore.blocks c.args.store.now) (g.B.BlockStore.blocks c.loop-i.store) ps ins.0) all ins.1, ins.2)
 
 pub returns-in-Err-clause-served : goal.returns-in-Err-clause-served
-returns-in-Err-clause-served g c = Served-then _ _ _ (Served-then _ _ _ c.loop-i.invariant.served c.in-Err.ensures.served) c.end_nodes.ensures.served
+returns-in-Err-clause-served g c = served_then _ _ _ (served_then _ _ _ c.loop-i.invariant.served c.in-Err.ensures.served) c.end_nodes.ensures.served
 
 pub returns-in-Err-clause-err_nodes : goal.returns-in-Err-clause-err_nodes
 returns-in-Err-clause-err_nodes g c =

@@ -2,19 +2,19 @@ use Rattle.std.proofs.Common.{◌≡◌, ◌+◌, ◌≤◌, List, ℕ, length, 
 use Rattle.listpack.specs.Pack.{texts}
 use Rattle.listpack.specs.Writing.{entry}
 use Rattle.quicklist.specs.Nodes.{IsPacked}
-use Rattle.quicklist.proofs.Written.{is_short, pack_len-insert, pack_len-insert-le, packed_len, joined_is, not_long}
+use Rattle.quicklist.proofs.Written.{is_short, pack_len_insert, pack_len_insert_le, packed_len, joined_is, not_long}
 use Rattle.quicklist.proofs.packs.joined_pack.Goals as goal
 
 pub returns-then-is_long-clause-none : goal.returns-then-is_long-clause-none
 returns-then-is_long-clause-none c =
-    omega (arith, pack_len-insert-le (texts c.args.bytes.now) c.args.index c.args.element.now, c.is_long.ensures.0 c.if-is_long.true)
+    omega (arith, pack_len_insert_le (texts c.args.bytes.now) c.args.index c.args.element.now, c.is_long.ensures.0 c.if-is_long.true)
 
 pub entry_size-size-requires : goal.entry_size-size-requires
 entry_size-size-requires c = is_short c.args.element.now (not_long c.args.element.now c.is_long.result c.is_long.ensures c.if-is_long.false)
 
 pub returns-then-bytes-size-gt-PACKED_BYTES-clause-none : goal.returns-then-bytes-size-gt-PACKED_BYTES-clause-none
 returns-then-bytes-size-gt-PACKED_BYTES-clause-none c =
-    omega (arith, pack_len-insert (texts c.args.bytes.now) c.args.index c.args.element.now, packed_len c.args.bytes.now c.requires.packed, c.entry_size-size.ensures.size)
+    omega (arith, pack_len_insert (texts c.args.bytes.now) c.args.index c.args.element.now, packed_len c.args.bytes.now c.requires.packed, c.entry_size-size.ensures.size)
 
 pub returns-clause-some : goal.returns-clause-some
 returns-clause-some c =

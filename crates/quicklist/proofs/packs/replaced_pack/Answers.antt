@@ -1,12 +1,12 @@
 use Rattle.std.proofs.Common.{◌≡◌, List, ℕ, ap, sym, subst, arith, set}
 use Rattle.listpack.specs.Pack.{texts}
 use Rattle.quicklist.specs.Nodes.{IsPacked, pack_len}
-use Rattle.quicklist.proofs.Written.{is_short, pack_len-set, replaced_len, edited_written, not_long}
+use Rattle.quicklist.proofs.Written.{is_short, pack_len_set, replaced_len, edited_written, not_long}
 use Rattle.quicklist.proofs.packs.replaced_pack.Goals as goal
 
 pub returns-then-is_long-clause-none : goal.returns-then-is_long-clause-none
 returns-then-is_long-clause-none c =
-    omega (arith, pack_len-set (texts c.args.bytes.now) c.args.index c.args.element.now c.requires.inside, c.is_long.ensures.0 c.if-is_long.true)
+    omega (arith, pack_len_set (texts c.args.bytes.now) c.args.index c.args.element.now c.requires.inside, c.is_long.ensures.0 c.if-is_long.true)
 
 pub entry_size-requires : goal.entry_size-requires
 entry_size-requires c = is_short c.args.element.now (not_long c.args.element.now c.is_long.result c.is_long.ensures c.if-is_long.false)

@@ -1,14 +1,14 @@
 use Rattle.std.proofs.Common.{refl, ap, ◌∙◌, arith}
 use Rattle.blocks.specs.Blocks.{bytes_at, widened}
 use Rattle.blocks.proofs.Copies.{placed_over}
-use Rattle.blocks.proofs.Serve.{Served-once, Served-next}
-use Rattle.blocks.proofs.Written.{bytes_at-placed, length-placed}
+use Rattle.blocks.proofs.Serve.{served_once, served_next}
+use Rattle.blocks.proofs.Written.{bytes_at_placed, length-placed}
 use Rattle.quicklist.specs.Nodes.{filled}
 use Rattle.quicklist.proofs.Filling.{filled_widened}
 use Rattle.quicklist.proofs.piece.place_piece.Goals as goal
 
 pub returns-in_err-at-clause-served : goal.returns-in_err-at-clause-served
-returns-in_err-at-clause-served g c = Served-once _ _ c.place.ensures.step
+returns-in_err-at-clause-served g c = served_once _ _ c.place.ensures.step
 
 pub write-requires-clause-room : goal.write-requires-clause-room
 write-requires-clause-room g c =
@@ -27,9 +27,9 @@ returns-clause-placed g c =
       block = widened bytes len;
       free = c.in_ok-at.ensures.fresh;
       placed = is;
-      bytes_is = ap (λ k. filled container (bytes_at k at)) is ∙ ap (filled container) (bytes_at-placed m at (widened bytes len))
+      bytes_is = ap (λ k. filled container (bytes_at k at)) is ∙ ap (filled container) (bytes_at_placed m at (widened bytes len))
           ∙ filled_widened container bytes len c.requires.is_held c.block_len.ensures.plain;
     }
 
 pub returns-clause-served : goal.returns-clause-served
-returns-clause-served g c = Served-next _ _ _ (Served-once _ _ c.place.ensures.step) c.write.ensures.step
+returns-clause-served g c = served_next _ _ _ (served_once _ _ c.place.ensures.step) c.write.ensures.step

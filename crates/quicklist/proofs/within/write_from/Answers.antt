@@ -1,6 +1,6 @@
 use Rattle.std.proofs.Common.{◌+◌, ℕ, List, Some, length, ap, ◌∙◌, arith}
 use Rattle.blocks.specs.Blocks.{with_block, overwritten, bytes_at}
-use Rattle.blocks.proofs.Serve.{Served-once, Served-next}
+use Rattle.blocks.proofs.Serve.{served_once, served_next}
 use Rattle.quicklist.proofs.Retelling.{length_header, written_twice, length_written}
 use Rattle.quicklist.proofs.within.write_from.Goals as goal
 
@@ -23,4 +23,4 @@ returns-clause-written g c =
     ∙ ap (λ (head : List ℕ). with_block m c.args.at (Some (overwritten (overwritten (bytes_at m c.args.at) c.args.from c.args.tail.now) 0 head))) c.header_of-head.ensures
 
 pub returns-clause-served : goal.returns-clause-served
-returns-clause-served g c = Served-next _ _ _ (Served-once _ _ c.write.ensures.step) c.write-2.ensures.step
+returns-clause-served g c = served_next _ _ _ (served_once _ _ c.write.ensures.step) c.write-2.ensures.step

@@ -1,6 +1,6 @@
 use Rattle.std.proofs.Common.{◌≡◌, ◌∙◌, suc, ◌+◌, ◌-◌, [], ◌∷◌, length, take, sym, ap, subst, arith, unwrap_or}
 use Rattle.blocks.specs.Blocks.{Blocks, Changes, no_step}
-use Rattle.blocks.proofs.Serve.{Served-then}
+use Rattle.blocks.proofs.Serve.{served_then}
 use Rattle.rax_packed.specs.Nodes.{Link, IsNode, Fits, node_of}
 use Rattle.rax_packed.specs.Trees.{node_at}
 use Rattle.rax_packed.specs.Ways.{links_in, prefix_in}
@@ -100,7 +100,7 @@ loop-place-preserved g t c =
     m3 c.relink.ensures.fits c.relink.ensures.written in
     record {
       copying = subst (λ x. Copying c.spread-count.result.1 c.args.rest (node_at x c.args.at) x m3 new (c.loop-place.place + 1)) (sym base) more;
-      served = Served-then _ _ _ (Served-then _ _ _ c.loop-place.invariant.served c.in-Ok.ensures.served) c.relink.ensures.served;
+      served = served_then _ _ _ (served_then _ _ _ c.loop-place.invariant.served c.in-Ok.ensures.served) c.relink.ensures.served;
     }
 
 pub release_links-requires : goal.release_links-requires
@@ -118,7 +118,7 @@ release_links-requires g t c =
     record { live = now.live; inner = now.inner; count = (let w = now.within in omega (arith, w)); trees = now.trees; owned = now.owned; short = omega (arith, falls, c.requires.short) }
 
 pub returns-in-Err-clause-served : goal.returns-in-Err-clause-served
-returns-in-Err-clause-served g t c = Served-then _ _ _ (Served-then _ _ _ (Served-then _ _ _ c.in_ok-new.ensures.served c.loop-place.invariant.served) c.in-Err.ensures.served)
+returns-in-Err-clause-served g t c = served_then _ _ _ (served_then _ _ _ (served_then _ _ _ c.in_ok-new.ensures.served c.loop-place.invariant.served) c.in-Err.ensures.served)
     c.release_links.ensures.served
 
 pub returns-in-Err-clause-err : goal.returns-in-Err-clause-err
@@ -149,4 +149,4 @@ returns-clause-copied g t c =
     (let past = c.loop-place-test.false in let within = c.loop-place.auto.place-end in omega (arith, past, within, count)) copying
 
 pub returns-clause-served : goal.returns-clause-served
-returns-clause-served g t c = Served-then _ _ _ c.in_ok-new.ensures.served c.loop-place.invariant.served
+returns-clause-served g t c = served_then _ _ _ c.in_ok-new.ensures.served c.loop-place.invariant.served

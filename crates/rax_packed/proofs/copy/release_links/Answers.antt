@@ -1,8 +1,8 @@
 use Rattle.std.proofs.Common.{◌≡◌, ◌∙◌, ◌<◌, ◌≤◌, suc, refl, sym, ap, subst, arith, length, take, get_or, IsSome, []}
 use Rattle.std.proofs.lemmas.List.{length-take-le, get_or-take, take_all}
 use Rattle.blocks.specs.Blocks.{Changes}
-use Rattle.blocks.proofs.Change.{Changes-same}
-use Rattle.blocks.proofs.Serve.{Served-same, Served-next, Served-then}
+use Rattle.blocks.proofs.Change.{changes_same}
+use Rattle.blocks.proofs.Serve.{served_same, served_next, served_then}
 use Rattle.rax_packed.specs.Nodes.{Link, node_of}
 use Rattle.rax_packed.specs.Trees.{node_at}
 use Rattle.rax_packed.specs.Ways.{links_in}
@@ -12,7 +12,7 @@ use Rattle.rax_packed.proofs.Releases.{mid_block, mid_child, mid_own, mid_next, 
 use Rattle.rax_packed.proofs.copy.release_links.Goals as goal
 
 pub loop-place-init : goal.loop-place-init
-loop-place-init g c = record { changes = Changes-same _ [] (λ r. omega arith); served = Served-same _ _ refl }
+loop-place-init g c = record { changes = changes_same _ [] (λ r. omega arith); served = served_same _ _ refl }
 
 no_link : Link
 no_link = record { edge = 0; to = record { slab = 0; slot = 0 } }
@@ -56,7 +56,7 @@ loop-place-preserved g c =
     record {
       changes = mid_next (suc c.args.below) c.args.below b c.args.at first c.requires.trees c.requires.owned mid c.loop-place.place no_link within c.loop-place.invariant.changes
           (g.B.BlockStore.blocks c.release_below.new.store) (rw to at c.release_below.ensures.changes);
-      served = Served-then _ _ _ c.loop-place.invariant.served c.release_below.ensures.served;
+      served = served_then _ _ _ c.loop-place.invariant.served c.release_below.ensures.served;
     }
 
 pub returns-clause-changes : goal.returns-clause-changes
@@ -70,7 +70,7 @@ returns-clause-changes g c =
     all_gone (suc c.args.below) c.args.below b c.args.at first c.requires.trees c.requires.owned mid (g.B.BlockStore.blocks c.give_back.new.self) gone c.give_back.ensures.ended
 
 pub returns-clause-served : goal.returns-clause-served
-returns-clause-served g c = Served-next _ _ _ c.loop-place.invariant.served c.give_back.ensures.step
+returns-clause-served g c = served_next _ _ _ c.loop-place.invariant.served c.give_back.ensures.step
 
 pub give_back-requires : goal.give_back-requires
 give_back-requires g c =

@@ -1,8 +1,8 @@
 use Rattle.std.proofs.Common.{◌<◌, ap, sym, subst, arith, length, IsSome, [], ◌∷◌, drop, refl, ◌∙◌}
 use Rattle.std.proofs.lemmas.List.{take_rest}
-use Rattle.blocks.proofs.Change.{Counts-changed, live_ended}
+use Rattle.blocks.proofs.Change.{counts_changed, live_ended}
 use Rattle.blocks.specs.Blocks.{live}
-use Rattle.blocks.proofs.Serve.{Served-once, Served-then}
+use Rattle.blocks.proofs.Serve.{served_once, served_then}
 use Rattle.rax_packed.proofs.Looks.{node_read, tree_live, tree_node, found_parts, found_missing, found_link, link_below, shorter}
 use Rattle.rax_packed.proofs.Steps.{own_below, link_ready, less_left}
 use Rattle.rax_packed.specs.Trees.{refs_at}
@@ -77,7 +77,7 @@ returns-in-Leaf-clause-ended g t c =
     c.requires.owned c.bytes.ensures c.in-Leaf.ensures c.give_back.ensures.ended
 
 pub returns-in-Leaf-clause-served : goal.returns-in-Leaf-clause-served
-returns-in-Leaf-clause-served g t c = Served-once _ _ c.give_back.ensures.step
+returns-in-Leaf-clause-served g t c = served_once _ _ c.give_back.ensures.step
 
 pub returns-else-not-below-clause-gone : goal.returns-else-not-below-clause-gone
 returns-else-not-below-clause-gone g t c = λ h. (
@@ -110,7 +110,7 @@ returns-else-not-below-clause-kept g t c = λ h. (
     ended (g.B.BlockStore.blocks c.unlink-gone.new.store) (c.unlink-gone.ensures.others h) (c.unlink-gone.ensures.written h))
 
 pub returns-else-not-below-clause-served : goal.returns-else-not-below-clause-served
-returns-else-not-below-clause-served g t c = Served-then _ _ _ c.cut_below-below.ensures.served c.unlink-gone.ensures.served
+returns-else-not-below-clause-served g t c = served_then _ _ _ c.cut_below-below.ensures.served c.unlink-gone.ensures.served
 
 pub returns-in-Leaf-clause-ended_fewer : goal.returns-in-Leaf-clause-ended_fewer
 returns-in-Leaf-clause-ended_fewer g t c =
@@ -197,7 +197,7 @@ returns-else-not-below-clause-ended_fewer g t c = λ h. (
     ended later (c.unlink-gone.ensures.alone h) (c.unlink-gone.ensures.ended h) in
     let low = refs_at (length (drop c.in-Link.from key)) b c.in-Link.to in
     let sum = many b later (refs_at (length key) b c.args.at) [] (c.args.at ∷ low) [] c.requires.owned done
-    (λ r. omega (arith, (Counts-changed b mid low [] part ended).balance r, live_ended mid c.args.at ready.live r, ap (λ m. live m r) (c.unlink-gone.ensures.ended h))) in
+    (λ r. omega (arith, (counts_changed b mid low [] part ended).balance r, live_ended mid c.args.at ready.live r, ap (λ m. live m r) (c.unlink-gone.ensures.ended h))) in
     omega (arith, sum, fewer, c.with_one.ensures.gone h))
 
 pub returns-else-not-below-clause-kept_fewer : goal.returns-else-not-below-clause-kept_fewer

@@ -1,11 +1,11 @@
 use Rattle.std.proofs.Common.{◌≡◌, ◌∙◌, ap, arith, length, unwrap_or, []}
 use Rattle.blocks.specs.Blocks.{bytes_at}
-use Rattle.blocks.proofs.Serve.{Served-once}
+use Rattle.blocks.proofs.Serve.{served_once}
 use Rattle.rax_packed.proofs.Cuts.{narrow_room}
 use Rattle.rax_packed.proofs.cut.unlink.Goals as goal
 
 pub returns-then-node-eq1-clause-served : goal.returns-then-node-eq1-clause-served
-returns-then-node-eq1-clause-served g c = Served-once _ _ c.give_back.ensures.step
+returns-then-node-eq1-clause-served g c = served_once _ _ c.give_back.ensures.step
 
 pub write-requires-clause-room : goal.write-requires-clause-room
 write-requires-clause-room g c =
@@ -15,4 +15,4 @@ write-requires-clause-room g c =
     omega (arith, ap length (rw (← read) at is))
 
 pub returns-clause-served : goal.returns-clause-served
-returns-clause-served g c = Served-once _ _ c.write.ensures.step
+returns-clause-served g c = served_once _ _ c.write.ensures.step

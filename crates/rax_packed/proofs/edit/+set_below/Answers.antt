@@ -1,8 +1,8 @@
 use Rattle.std.proofs.Common.{◌≡◌, ◌∙◌, ◌<◌, sym, ap, subst, arith, length, refl}
 use Rattle.std.proofs.lemmas.List.{take_rest}
 use Rattle.std.proofs.lemmas.Option.{IfSome_then}
-use Rattle.rax_packed.proofs.Spellings.{length-ref_bytes}
-use Rattle.blocks.proofs.Serve.{Served-same, Served-once}
+use Rattle.rax_packed.proofs.Spellings.{length_ref_bytes}
+use Rattle.blocks.proofs.Serve.{served_same, served_once}
 use Rattle.rax_packed.proofs.Looks.{tree_live, tree_node, found_leaf, found_parts, found_missing, found_link, link_below, shorter, leaf_room}
 use Rattle.rax_packed.proofs.Steps.{own_below, set_link, set_leaf}
 use Rattle.rax_packed.proofs.Settings.{both, leaf_marks_stay, leaf_keys_stay, link_keys_stay, link_marks_stay}
@@ -17,7 +17,7 @@ way_of-requires g t c = tree_node _ _ _ _ c.bytes.result.now c.requires.tree c.b
 
 pub write-requires-clause-room : goal.write-requires-clause-room
 write-requires-clause-room g t c =
-    let long : length c.pack.result ≡ 12 = ap length c.pack.ensures.bytes ∙ length-ref_bytes c.args.value in
+    let long : length c.pack.result ≡ 12 = ap length c.pack.ensures.bytes ∙ length_ref_bytes c.args.value in
     let room = leaf_room (g.B.BlockStore.blocks c.args.store.now) c.args.at c.in-Leaf.old c.bytes.result.now c.args.rest.now c.requires.tree c.bytes.ensures c.in-Leaf.ensures in
     omega arith
 
@@ -45,19 +45,19 @@ returns-in-Leaf-clause-set g t c =
     (rw c.pack.ensures.bytes at c.write.ensures.written)
 
 pub returns-in-Leaf-clause-served : goal.returns-in-Leaf-clause-served
-returns-in-Leaf-clause-served g t c = Served-once _ _ c.write.ensures.step
+returns-in-Leaf-clause-served g t c = served_once _ _ c.write.ensures.step
 
 pub returns-in-Parts-clause-old : goal.returns-in-Parts-clause-old
 returns-in-Parts-clause-old g t c = sym (found_parts _ _ c.bytes.result.now c.args.rest.now c.requires.tree c.bytes.ensures c.in-Parts.field-0 c.in-Parts.ensures)
 
 pub returns-in-Parts-clause-served : goal.returns-in-Parts-clause-served
-returns-in-Parts-clause-served g t c = Served-same _ _ refl
+returns-in-Parts-clause-served g t c = served_same _ _ refl
 
 pub returns-in-Missing-clause-old : goal.returns-in-Missing-clause-old
 returns-in-Missing-clause-old g t c = sym (found_missing _ _ c.bytes.result.now c.args.rest.now c.requires.tree c.bytes.ensures c.in-Missing.field-0 c.in-Missing.field-1 c.in-Missing.ensures)
 
 pub returns-in-Missing-clause-served : goal.returns-in-Missing-clause-served
-returns-in-Missing-clause-served g t c = Served-same _ _ refl
+returns-in-Missing-clause-served g t c = served_same _ _ refl
 
 pub returns-in-Link-clause-old : goal.returns-in-Link-clause-old
 returns-in-Link-clause-old g t c =

@@ -1,6 +1,6 @@
 use Rattle.std.proofs.Common.{◌∙◌, ◌<◌, refl, sym, subst, arith, length, drop}
 use Rattle.std.proofs.lemmas.List.{take_rest}
-use Rattle.blocks.proofs.Serve.{Served-then}
+use Rattle.blocks.proofs.Serve.{served_then}
 use Rattle.rax_packed.specs.Trees.{refs_at}
 use Rattle.rax_packed.proofs.Looks.{tree_live, tree_node, found_leaf, found_link, link_below, shorter}
 use Rattle.rax_packed.proofs.Steps.{own_below, kept_block, add_link, link_ready}
@@ -60,7 +60,7 @@ returns-in_ok-new-in-Link-clause-added g t c =
     c.args.value c.requires.tree c.bytes.ensures c.in-Link.ensures c.requires.owned below c.relink.ensures.fits c.relink.ensures.written
 
 pub returns-in_ok-new-in-Link-clause-served : goal.returns-in_ok-new-in-Link-clause-served
-returns-in_ok-new-in-Link-clause-served g t c = Served-then _ _ _ c.in_ok-new-in-Link.ensures.served c.relink.ensures.served
+returns-in_ok-new-in-Link-clause-served g t c = served_then _ _ _ c.in_ok-new-in-Link.ensures.served c.relink.ensures.served
 
 pub returns-in_ok-new-in-Link-clause-more : goal.returns-in_ok-new-in-Link-clause-more
 returns-in_ok-new-in-Link-clause-more g t c =

@@ -1,6 +1,6 @@
 use Rattle.std.proofs.Common.{◌∙◌, ap, sym, arith, IsSome, subst, [], ◌∷◌, ◌-◌, length, drop, get_or}
 use Rattle.std.proofs.lemmas.List.{take_rest}
-use Rattle.blocks.proofs.Serve.{Served-next, Served-then}
+use Rattle.blocks.proofs.Serve.{served_next, served_then}
 use Rattle.std.specs.List.{insert}
 use Rattle.rax_packed.specs.Nodes.{Leaf, Inner, node_of, spelled}
 use Rattle.rax_packed.specs.Ways.{links_in, prefix_in}
@@ -41,10 +41,10 @@ returns-in-Ok-clause-added g c =
     c.in-Ok.ensures.fresh c.in-Ok.ensures.placed c.give_back.ensures.ended (λ i. omega (arith, c.type_inv.rest i)) c.widened-wider.ensures.fits c.leaf_bytes.ensures.fits
 
 pub returns-in-Ok-clause-served : goal.returns-in-Ok-clause-served
-returns-in-Ok-clause-served g c = Served-next _ _ _ (Served-then _ _ _ c.in_ok-leaf.ensures.served c.in-Ok.ensures.served) c.give_back.ensures.step
+returns-in-Ok-clause-served g c = served_next _ _ _ (served_then _ _ _ c.in_ok-leaf.ensures.served c.in-Ok.ensures.served) c.give_back.ensures.step
 
 pub returns-in-Err-clause-served : goal.returns-in-Err-clause-served
-returns-in-Err-clause-served g c = Served-next _ _ _ (Served-then _ _ _ c.in_ok-leaf.ensures.served c.in-Err.ensures.served) c.give_back-in-Err.ensures.step
+returns-in-Err-clause-served g c = served_next _ _ _ (served_then _ _ _ c.in_ok-leaf.ensures.served c.in-Err.ensures.served) c.give_back-in-Err.ensures.step
 
 pub returns-in-Ok-clause-more : goal.returns-in-Ok-clause-more
 returns-in-Ok-clause-more g c =

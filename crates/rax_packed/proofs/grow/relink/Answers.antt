@@ -1,5 +1,5 @@
-use Rattle.blocks.proofs.Serve.{Served-once}
+use Rattle.blocks.proofs.Serve.{served_once}
 use Rattle.rax_packed.proofs.grow.relink.Goals as goal
 
 pub returns-clause-served : goal.returns-clause-served
-returns-clause-served g c = Served-once _ _ c.write.ensures.step
+returns-clause-served g c = served_once _ _ c.write.ensures.step

@@ -1,6 +1,6 @@
 use Rattle.std.proofs.Common.{◌∙◌, ◌+◌, ap, sym, arith, IsSome, subst, [], ◌∷◌, length, drop, take, get_or}
 use Rattle.std.proofs.lemmas.List.{take_rest}
-use Rattle.blocks.proofs.Serve.{Served-next, Served-then}
+use Rattle.blocks.proofs.Serve.{served_next, served_then}
 use Rattle.rax_packed.specs.Nodes.{Leaf, Inner, node_of, spelled}
 use Rattle.rax_packed.specs.Ways.{fork_links, shortened_by}
 use Rattle.rax_packed.proofs.Looks.{tree_live}
@@ -35,7 +35,7 @@ shortened-short-requires g c =
     record { few = ready.node; from = ready.from }
 
 pub returns-in-Err-clause-served : goal.returns-in-Err-clause-served
-returns-in-Err-clause-served g c = Served-next _ _ _ (Served-then _ _ _ c.in_ok-leaf.ensures.served c.in-Err.ensures.served) c.give_back.ensures.step
+returns-in-Err-clause-served g c = served_next _ _ _ (served_then _ _ _ c.in_ok-leaf.ensures.served c.in-Err.ensures.served) c.give_back.ensures.step
 
 pub returns-in-Ok-put_block-clause-added : goal.returns-in-Ok-put_block-clause-added
 returns-in-Ok-put_block-clause-added g c =
@@ -55,12 +55,12 @@ returns-in-Ok-put_block-clause-added g c =
 
 pub returns-in-Ok-put_block-clause-served : goal.returns-in-Ok-put_block-clause-served
 returns-in-Ok-put_block-clause-served g c =
-    Served-next _ _ _ (Served-then _ _ _ (Served-then _ _ _ c.in_ok-leaf.ensures.served c.in-Ok.ensures.served) c.in-Ok-put_block.ensures.served) c.give_back-in-Ok-put_block.ensures.step
+    served_next _ _ _ (served_then _ _ _ (served_then _ _ _ c.in_ok-leaf.ensures.served c.in-Ok.ensures.served) c.in-Ok-put_block.ensures.served) c.give_back-in-Ok-put_block.ensures.step
 
 pub returns-in-Err-put_block-clause-served : goal.returns-in-Err-put_block-clause-served
 returns-in-Err-put_block-clause-served g c =
-    Served-next _ _ _
-    (Served-next _ _ _ (Served-then _ _ _ (Served-then _ _ _ c.in_ok-leaf.ensures.served c.in-Ok.ensures.served) c.in-Err-put_block.ensures.served)
+    served_next _ _ _
+    (served_next _ _ _ (served_then _ _ _ (served_then _ _ _ c.in_ok-leaf.ensures.served c.in-Ok.ensures.served) c.in-Err-put_block.ensures.served)
     c.give_back-in-Err-put_block.ensures.step) c.give_back-in-Err-put_block-2.ensures.step
 
 pub returns-in-Err-put_block-clause-err : goal.returns-in-Err-put_block-clause-err

@@ -1,6 +1,6 @@
 use Rattle.std.proofs.Common.{◌∙◌, ap, sym, refl, arith, length, take, drop}
 use Rattle.byteorder.specs.Endian.{little_number}
-use Rattle.rax_packed.proofs.Keys.{equal-cmp}
+use Rattle.rax_packed.proofs.Keys.{equal_cmp}
 use Rattle.rax_packed.specs.Nodes.{Leaf, ref_from}
 use Rattle.rax_packed.proofs.Spellings.{as_leaf, as_inner}
 use Rattle.rax_packed.proofs.Choices.{parts_within, prefix_told, prefix_within, parts_at, leaf_way, links_within, link_within, read_of, link_way, missing_way, edges_rise}
@@ -50,7 +50,7 @@ returns-in-Ok c =
     rw c.link.ensures
     (link_way _ c.args.bytes.now c.args.rest.now c.links.result.0.now c.links.result.1.now c.common-shared.result c.in-Ok.place inner read refl (omega arith)
     (rw c.parts.ensures.prefix at c.common-shared.ensures.alike)
-    c.in-Ok.ensures.bound (equal-cmp _ _ (c.in-Ok.ensures.ok 0)))
+    c.in-Ok.ensures.bound (equal_cmp _ _ (c.in-Ok.ensures.ok 0)))
 
 pub returns-in-Err : goal.returns-in-Err
 returns-in-Err c =

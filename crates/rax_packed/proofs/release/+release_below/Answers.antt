@@ -1,8 +1,8 @@
 use Rattle.std.proofs.Common.{◌≡◌, ◌∙◌, ◌-◌, ◌<◌, ◌≤◌, sym, ap, subst, refl, arith, suc, length, get_or, IsSome, []}
 use Rattle.std.proofs.lemmas.List.{take_all}
 use Rattle.blocks.specs.Blocks.{Changes}
-use Rattle.blocks.proofs.Change.{Changes-same}
-use Rattle.blocks.proofs.Serve.{Served-same, Served-next, Served-then}
+use Rattle.blocks.proofs.Change.{changes_same}
+use Rattle.blocks.proofs.Serve.{served_same, served_next, served_then}
 use Rattle.rax_packed.specs.Nodes.{Link, node_of}
 use Rattle.rax_packed.specs.Trees.{node_at}
 use Rattle.rax_packed.specs.Ways.{IsInnerBytes, links_in, prefix_in}
@@ -18,7 +18,7 @@ pub spread-count-requires-clause-node : goal.spread-count-requires-clause-node
 spread-count-requires-clause-node g t c = tree_node _ _ _ _ c.bytes.result.now c.requires.tree c.bytes.ensures
 
 pub loop-place-init : goal.loop-place-init
-loop-place-init g t c = record { changes = Changes-same _ [] (λ r. omega arith); served = Served-same _ _ refl }
+loop-place-init g t c = record { changes = changes_same _ [] (λ r. omega arith); served = served_same _ _ refl }
 
 no_link : Link
 no_link = record { edge = 0; to = record { slab = 0; slot = 0 } }
@@ -106,7 +106,7 @@ loop-place-preserved g t c =
       changes = mid_next c.args.rest (c.args.rest - suc (length (prefix_in (node_at b c.args.at)))) b c.args.at (links_in (node_at b c.args.at))
           (node_trees c.args.rest b c.args.at c.requires.tree) (node_own c.args.rest b c.args.at c.requires.owned) mid c.loop-place.place no_link within gone
           (g.B.BlockStore.blocks c.release_below.new.store) (rw (below, to) at c.release_below.ensures.changes);
-      served = Served-then _ _ _ c.loop-place.invariant.served c.release_below.ensures.served;
+      served = served_then _ _ _ c.loop-place.invariant.served c.release_below.ensures.served;
     }
 
 pub give_back-requires : goal.give_back-requires
@@ -138,4 +138,4 @@ returns-clause-changes g t c =
     c.give_back.ensures.ended)
 
 pub returns-clause-served : goal.returns-clause-served
-returns-clause-served g t c = Served-next _ _ _ c.loop-place.invariant.served c.give_back.ensures.step
+returns-clause-served g t c = served_next _ _ _ c.loop-place.invariant.served c.give_back.ensures.step

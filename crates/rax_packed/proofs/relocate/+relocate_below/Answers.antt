@@ -5,7 +5,7 @@ use Rattle.rax_packed.proofs.Looks.{tree_live, tree_node, node_read, found_parts
 use Rattle.rax_packed.proofs.Steps.{own_below, kept_block, link_ready}
 use Rattle.blocks.specs.Blocks.{ref_eq}
 use Rattle.blocks.specs.Slabs.{Calmer, wants}
-use Rattle.blocks.proofs.Sweeps.{Calmer-next}
+use Rattle.blocks.proofs.Sweeps.{calmer_next}
 use Rattle.rax_packed.proofs.Paths.{leaf_first}
 use Rattle.rax_packed.proofs.Relocations.{moved_becomes, leaf_passed, leaf_moved, relocated, relocated_passed, relocated_moved, relocated_least}
 use Rattle.rax_packed.proofs.relocate.+relocate_below.Goals as goal
@@ -139,5 +139,5 @@ returns-in-Link-clause-moved g t c =
 
 pub returns-in-Link-clause-calmer : goal.returns-in-Link-clause-calmer
 returns-in-Link-clause-calmer g t c =
-    Calmer-next (g.B.BlockStore.heap c.args.store.now) (g.B.BlockStore.heap c.relocate_below-below.new.store) (g.B.BlockStore.heap c.pass_node-in-Link.new.store) c.relocate_below-below.ensures.calmer
+    calmer_next (g.B.BlockStore.heap c.args.store.now) (g.B.BlockStore.heap c.relocate_below-below.new.store) (g.B.BlockStore.heap c.pass_node-in-Link.new.store) c.relocate_below-below.ensures.calmer
     (subst (λ h. Calmer h (g.B.BlockStore.heap c.pass_node-in-Link.new.store)) c.relink.ensures.slabs c.pass_node-in-Link.ensures.calmer)

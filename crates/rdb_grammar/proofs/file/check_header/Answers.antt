@@ -1,11 +1,11 @@
 use Rattle.std.proofs.Common.{arith}
 use Rattle.rdb_grammar.specs.Files.{header}
-use Rattle.rdb_grammar.proofs.HeaderExact.{header-exact}
+use Rattle.rdb_grammar.proofs.HeaderExact.{header_exact}
 use Rattle.rdb_grammar.proofs.Standing.{broken}
 use Rattle.rdb_grammar.proofs.file.check_header.Goals as goal
 
 pub overflow_sub-result-in-Err : goal.overflow_sub-result-in-Err
-overflow_sub-result-in-Err c = (broken header header-exact c.args.bytes.now 0 c.in-Err.e.kind c.in-Err.e.left (omega arith) c.in-Err.ensures).fits
+overflow_sub-result-in-Err c = (broken header header_exact c.args.bytes.now 0 c.in-Err.e.kind c.in-Err.e.left (omega arith) c.in-Err.ensures).fits
 
 pub returns-in-Err-clause-fault : goal.returns-in-Err-clause-fault
-returns-in-Err-clause-fault c = (broken header header-exact c.args.bytes.now 0 c.in-Err.e.kind c.in-Err.e.left (omega arith) c.in-Err.ensures).fails
+returns-in-Err-clause-fault c = (broken header header_exact c.args.bytes.now 0 c.in-Err.e.kind c.in-Err.e.left (omega arith) c.in-Err.ensures).fails

@@ -2,26 +2,26 @@ use Rattle.std.proofs.Common.{◌∙◌, sym, ap}
 use Rattle.std.proofs.lemmas.List.{take_rest}
 use Rattle.rdb_grammar.specs.StreamParts.{two_lengths}
 use Rattle.rdb_grammar.specs.Views.{pair_of}
-use Rattle.rdb_grammar.proofs.StreamsExact.{two_lengths-exact}
+use Rattle.rdb_grammar.proofs.StreamsExact.{two_lengths_exact}
 use Rattle.rdb_grammar.proofs.Standing.{found, broken}
 use Rattle.rdb_grammar.proofs.streams.next_id.Goals as goal
 
 pub overflow_sub-result : goal.overflow_sub-result
 overflow_sub-result c =
-    (found two_lengths two_lengths-exact c.args.bytes.now c.args.at (pair_of c.in-Ok.id) c.in-Ok.rest.now c.requires
+    (found two_lengths two_lengths_exact c.args.bytes.now c.args.at (pair_of c.in-Ok.id) c.in-Ok.rest.now c.requires
     (ap two_lengths.read (sym (take_rest c.args.bytes.now c.args.at)) ∙ c.in-Ok.ensures)).fits
 
 pub overflow_sub-result-in-Err : goal.overflow_sub-result-in-Err
 overflow_sub-result-in-Err c =
-    (broken two_lengths two_lengths-exact c.args.bytes.now c.args.at c.in-Err.e.kind c.in-Err.e.left c.requires
+    (broken two_lengths two_lengths_exact c.args.bytes.now c.args.at c.in-Err.e.kind c.in-Err.e.left c.requires
     (ap two_lengths.read (sym (take_rest c.args.bytes.now c.args.at)) ∙ c.in-Err.ensures)).fits
 
 pub returns-in-Ok-clause-id : goal.returns-in-Ok-clause-id
 returns-in-Ok-clause-id c =
-    (found two_lengths two_lengths-exact c.args.bytes.now c.args.at (pair_of c.in-Ok.id) c.in-Ok.rest.now c.requires
+    (found two_lengths two_lengths_exact c.args.bytes.now c.args.at (pair_of c.in-Ok.id) c.in-Ok.rest.now c.requires
     (ap two_lengths.read (sym (take_rest c.args.bytes.now c.args.at)) ∙ c.in-Ok.ensures)).stands
 
 pub returns-in-Err-clause-fault : goal.returns-in-Err-clause-fault
 returns-in-Err-clause-fault c =
-    (broken two_lengths two_lengths-exact c.args.bytes.now c.args.at c.in-Err.e.kind c.in-Err.e.left c.requires
+    (broken two_lengths two_lengths_exact c.args.bytes.now c.args.at c.in-Err.e.kind c.in-Err.e.left c.requires
     (ap two_lengths.read (sym (take_rest c.args.bytes.now c.args.at)) ∙ c.in-Err.ensures)).fails

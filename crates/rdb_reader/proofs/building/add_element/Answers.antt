@@ -1,5 +1,5 @@
 use Rattle.std.proofs.Common.{sym, ap, subst, ◌∙◌}
-use Rattle.blocks.proofs.Change.{Changes-same}
+use Rattle.blocks.proofs.Change.{changes_same}
 use Rattle.object_codec.specs.declared.limits.Limits.{Limits}
 use Rattle.object_codec.specs.Forms.{IsLeast, FitsList}
 use Rattle.quicklist.specs.Nodes.{pack_len}
@@ -21,13 +21,13 @@ pub returns-in-Text-clause-adds : goal.returns-in-Text-clause-adds
 returns-in-Text-clause-adds g c = rw c.in-Text.is (nothing_added (Str _) c.args.bytes.now c.args.at c.requires.at)
 
 pub returns-in-Text-clause-changes : goal.returns-in-Text-clause-changes
-returns-in-Text-clause-changes g c = Changes-same _ _ c.requires.owned
+returns-in-Text-clause-changes g c = changes_same _ _ c.requires.owned
 
 pub returns-in-Stream-clause-adds : goal.returns-in-Stream-clause-adds
 returns-in-Stream-clause-adds g c = rw c.in-Stream.is (nothing_added (StreamOf _) c.args.bytes.now c.args.at c.requires.at)
 
 pub returns-in-Stream-clause-changes : goal.returns-in-Stream-clause-changes
-returns-in-Stream-clause-changes g c = Changes-same _ _ c.requires.owned
+returns-in-Stream-clause-changes g c = changes_same _ _ c.requires.owned
 
 pub returns-in-List-clause-adds : goal.returns-in-List-clause-adds
 returns-in-List-clause-adds g c =

@@ -1,8 +1,8 @@
 use Rattle.std.proofs.Common.{ℕ, List, [], refl, sym, ap, ◌∙◌, subst}
 use Rattle.blocks.specs.declared.BlockRef.{BlockRef}
 use Rattle.blocks.specs.Blocks.{Changes, Owned, no_step}
-use Rattle.blocks.proofs.Change.{Changes-owned}
-use Rattle.blocks.proofs.Serve.{Served-then}
+use Rattle.blocks.proofs.Change.{changes_owned}
+use Rattle.blocks.proofs.Serve.{served_then}
 use Rattle.object_codec.specs.Limits.{AreInRange}
 use Rattle.object_codec.specs.declared.limits.Limits.{Limits}
 use Rattle.plain_world.specs.Worlds.{World, Entry}
@@ -10,7 +10,7 @@ use Rattle.plain_world.specs.Worlds as model
 use Rattle.keyspace.specs.Databases.{means}
 use Rattle.keyspace.specs.Values.{value_of, value_refs, IsSound}
 use Rattle.keyspace.proofs.Serving.{unmoved, further}
-use Rattle.keyspace.proofs.Uses.{Made-sound, Made-means}
+use Rattle.keyspace.proofs.Uses.{made_sound, made_means}
 use Rattle.rdb_grammar.specs.Layouts.{laid_on}
 use Rattle.rdb_grammar.specs.Places.{Stands}
 use Rattle.rdb_grammar.specs.Views.{text_of}
@@ -56,7 +56,7 @@ pub read_laid-requires-clause-at : goal.read_laid-requires-clause-at
 read_laid-requires-clause-at g c = c.requires.at
 
 pub release-requires-clause-owned : goal.release-requires-clause-owned
-release-requires-clause-owned g c = Changes-owned _ _ _ _ c.read_laid.ensures.changes
+release-requires-clause-owned g c = changes_owned _ _ _ _ c.read_laid.ensures.changes
 
 pub release-requires-clause-sound : goal.release-requires-clause-sound
 release-requires-clause-sound g c =
@@ -82,10 +82,10 @@ returns-in-Err-read_laid-clause-sound g c =
     let mid = g.B.BlockStore.blocks c.read_laid.new.store in
     let made = c.read_laid.new.value in
     let changes = subst (λ (xs : List BlockRef). Changes m mid xs (value_refs mid made)) (c.in-Ok.ensures.refs m) c.read_laid.ensures.changes in
-    given_sound bases mid (g.B.BlockStore.blocks c.release.new.store) (value_refs mid made) (Made-sound bases m mid made c.requires.sound changes) c.release.ensures.changes
+    given_sound bases mid (g.B.BlockStore.blocks c.release.new.store) (value_refs mid made) (made_sound bases m mid made c.requires.sound changes) c.release.ensures.changes
 
 pub returns-in-Err-read_laid-clause-served : goal.returns-in-Err-read_laid-clause-served
-returns-in-Err-read_laid-clause-served g c = Served-then _ _ _ c.read_laid.ensures.served c.release.ensures.served
+returns-in-Err-read_laid-clause-served g c = served_then _ _ _ c.read_laid.ensures.served c.release.ensures.served
 
 pub returns-in-Err-read_laid-clause-settings : goal.returns-in-Err-read_laid-clause-settings
 returns-in-Err-read_laid-clause-settings g c = record { limits = refl; seed = refl; turn = refl }
@@ -99,7 +99,7 @@ returns-in-Err-read_laid-clause-within g c =
     let changes = subst (λ (xs : List BlockRef). Changes m mid xs (value_refs mid made)) (c.in-Ok.ensures.refs m) c.read_laid.ensures.changes in
     let after = g.B.BlockStore.blocks c.release.new.store in
     further any_key bases bases bases m mid after (store_within bases m mid [] [] (value_refs mid made) c.requires.sound changes (whole_part []))
-    (given_within bases mid after (value_refs mid made) (Made-sound bases m mid made c.requires.sound changes) c.release.ensures.changes)
+    (given_within bases mid after (value_refs mid made) (made_sound bases m mid made c.requires.sound changes) c.release.ensures.changes)
 
 pub put_made-requires-clause-db : goal.put_made-requires-clause-db
 put_made-requires-clause-db g c = c.requires.db
@@ -114,7 +114,7 @@ put_made-requires-clause-beside g c =
     let mid = g.B.BlockStore.blocks c.read_laid.new.store in
     let made = c.read_laid.new.value in
     let changes = subst (λ (xs : List BlockRef). Changes m mid xs (value_refs mid made)) (c.in-Ok.ensures.refs m) c.read_laid.ensures.changes in
-    Made-sound bases m mid made c.requires.sound changes
+    made_sound bases m mid made c.requires.sound changes
 
 pub put_made-requires-clause-own : goal.put_made-requires-clause-own
 put_made-requires-clause-own g c =
@@ -140,7 +140,7 @@ returns-in-Ok-put_made-clause-reads g c =
       stands = subst (λ (v : model.Value). Stands (laid_on c.args.layout v) (value_of mid made) c.args.bytes.now c.args.at c.in-Ok-read_laid.next)
           (c.in-Ok.ensures.means m ∙ ap without_any c.kind_of.ensures) c.in-Ok-read_laid.ensures.fills;
       puts = subst (λ (name : List ℕ). Puts c.args.moment (means c.args.db bases m) new name entry c.in-Ok-put_made.put) c.text-name.ensures
-          (subst (λ (w : World). Puts c.args.moment w new c.text-name.result.now entry c.in-Ok-put_made.put) (Made-means bases m mid made c.requires.sound changes c.args.db)
+          (subst (λ (w : World). Puts c.args.moment w new c.text-name.result.now entry c.in-Ok-put_made.put) (made_means bases m mid made c.requires.sound changes c.args.db)
           c.in-Ok-put_made.ensures.puts);
     }
 
@@ -148,7 +148,7 @@ pub returns-in-Ok-put_made-clause-sound : goal.returns-in-Ok-put_made-clause-sou
 returns-in-Ok-put_made-clause-sound g c = c.put_made.ensures.sound
 
 pub returns-in-Ok-put_made-clause-served : goal.returns-in-Ok-put_made-clause-served
-returns-in-Ok-put_made-clause-served g c = Served-then _ _ _ c.read_laid.ensures.served c.put_made.ensures.served
+returns-in-Ok-put_made-clause-served g c = served_then _ _ _ c.read_laid.ensures.served c.put_made.ensures.served
 
 pub returns-in-Ok-put_made-clause-settings : goal.returns-in-Ok-put_made-clause-settings
 returns-in-Ok-put_made-clause-settings g c = c.put_made.ensures.settings
@@ -167,7 +167,7 @@ pub returns-in-Err-put_made-clause-sound : goal.returns-in-Err-put_made-clause-s
 returns-in-Err-put_made-clause-sound g c = c.put_made.ensures.sound
 
 pub returns-in-Err-put_made-clause-served : goal.returns-in-Err-put_made-clause-served
-returns-in-Err-put_made-clause-served g c = Served-then _ _ _ c.read_laid.ensures.served c.put_made.ensures.served
+returns-in-Err-put_made-clause-served g c = served_then _ _ _ c.read_laid.ensures.served c.put_made.ensures.served
 
 pub returns-in-Err-put_made-clause-settings : goal.returns-in-Err-put_made-clause-settings
 returns-in-Err-put_made-clause-settings g c = c.put_made.ensures.settings

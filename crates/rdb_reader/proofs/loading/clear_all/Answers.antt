@@ -1,6 +1,6 @@
 use Rattle.std.proofs.Common.{[], arith, refl}
 use Rattle.blocks.specs.Blocks.{no_step}
-use Rattle.blocks.proofs.Serve.{Served-then}
+use Rattle.blocks.proofs.Serve.{served_then}
 use Rattle.keyspace.specs.Scopes.{all_keys, anything}
 use Rattle.keyspace.proofs.Calls.{settings_then}
 use Rattle.keyspace.proofs.Serving.{unmoved, further, unbound}
@@ -25,7 +25,7 @@ databases-preserved g c =
     record {
       cleared = next_cleared before.bases after.bases (blocks before.store) (blocks after.store) c.databases.db c.clear.ensures.means c.databases.invariant.cleared;
       sound = c.clear.ensures.sound [] c.databases.invariant.sound;
-      served = Served-then _ _ _ c.databases.invariant.served c.clear.ensures.served;
+      served = served_then _ _ _ c.databases.invariant.served c.clear.ensures.served;
       within = further anything c.args.keyspace.now.bases before.bases after.bases (blocks c.args.keyspace.now.store) (blocks before.store) (blocks after.store)
           c.databases.invariant.within (unbound (all_keys c.databases.db) before.bases after.bases (blocks before.store) (blocks after.store) c.clear.ensures.within);
       settings = settings_then c.args.keyspace.now.bases before.bases after.bases c.databases.invariant.settings c.clear.ensures.settings;

@@ -1,8 +1,8 @@
 use Rattle.std.proofs.Common.{◌≡◌, ℕ, ◌+◌, List, [], ◌∷◌, ◌++◌, Option, length, get_or, ap, subst, ◌∙◌, refl, arith, rules}
 use Rattle.std.specs.Prelude.{MatchOption}
 use Rattle.blocks.specs.Blocks.{no_step}
-use Rattle.blocks.proofs.Change.{Changes-same, Changes-then}
-use Rattle.blocks.proofs.Serve.{Served-then}
+use Rattle.blocks.proofs.Change.{changes_same, changes_then}
+use Rattle.blocks.proofs.Serve.{served_then}
 use Rattle.listpack.specs.Pack.{IsAt, texts}
 use Rattle.plain_world.specs.Worlds.{ListOf}
 use Rattle.quicklist.specs.Chain.{elements}
@@ -16,7 +16,7 @@ loop-init g c = record {
   turns = refl;
   sound = c.requires;
   form = λ least. least;
-  changes = Changes-same _ _ c.requires.chain.owned;
+  changes = changes_same _ _ c.requires.chain.owned;
   served = no_step;
 }
 
@@ -37,15 +37,15 @@ loop-preserved g c =
       turns = put_one with_text (ListOf (elements (blocks c.args.store.now) c.args.list.now)) list i [] (ListOf old) (ListOf new) at.0 inv.turns (list_more old new (get_or list i []) more);
       sound = c.push.ensures.sound;
       form = λ least. c.in-Ok.ensures.form (inv.form least);
-      changes = Changes-then _ _ _ _ _ _ inv.changes c.push.ensures.changes;
-      served = Served-then _ _ _ inv.served c.push.ensures.served;
+      changes = changes_then _ _ _ _ _ _ inv.changes c.push.ensures.changes;
+      served = served_then _ _ _ inv.served c.push.ensures.served;
     }
 
 pub returns-in-Err-clause-makes : goal.returns-in-Err-clause-makes
 returns-in-Err-clause-makes g c = rw c.in-Err.ensures.memory tt
 
 pub returns-in-Err-clause-changes : goal.returns-in-Err-clause-changes
-returns-in-Err-clause-changes g c = Changes-then _ _ _ _ _ _ c.loop.invariant.changes c.push.ensures.changes
+returns-in-Err-clause-changes g c = changes_then _ _ _ _ _ _ c.loop.invariant.changes c.push.ensures.changes
 
 pub returns-clause-makes : goal.returns-clause-makes
 returns-clause-makes g c =

@@ -1,5 +1,5 @@
 use Rattle.std.proofs.Common.{Bool, List, ℕ, Ok, ap, ◌∙◌, sym, subst}
-use Rattle.blocks.proofs.Serve.{Served-then}
+use Rattle.blocks.proofs.Serve.{served_then}
 use Rattle.listpack.specs.Pack.{texts}
 use Rattle.object_codec.specs.Forms.{FitsList, IsLeast}
 use Rattle.quicklist.specs.Chain.{elements}
@@ -39,5 +39,5 @@ returns-in-Ok-false g c =
       sound = e.sound;
       form = rw (same_list, same_blocks) at e.form;
       changes = rw (same_list, same_blocks) at e.changes;
-      served = Served-then _ _ _ c.take_pack.ensures.served e.served;
+      served = served_then _ _ _ c.take_pack.ensures.served e.served;
     }

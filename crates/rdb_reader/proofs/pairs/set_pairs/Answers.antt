@@ -1,8 +1,8 @@
 use Rattle.std.proofs.Common.{◌≡◌, ℕ, ◌+◌, ◌*◌, ◌/◌, ◌<◌, List, Result, Err, length, get_or, sym, ap, subst, ◌∙◌, refl, arith, rules}
 use Rattle.std.specs.Prelude.{MatchOption}
 use Rattle.blocks.specs.Blocks.{no_step}
-use Rattle.blocks.proofs.Change.{Changes-same, Changes-then}
-use Rattle.blocks.proofs.Serve.{Served-then}
+use Rattle.blocks.proofs.Change.{changes_same, changes_then}
+use Rattle.blocks.proofs.Serve.{served_then}
 use Rattle.listpack.specs.Pack.{IsAt, texts}
 use Rattle.object_codec.specs.Forms.{IsLeast}
 use Rattle.object_codec.specs.declared.limits.Limits.{Limits}
@@ -27,7 +27,7 @@ loop-init g c =
       sound = c.requires;
       settings = record { limits = refl; seed = refl };
       form = λ least. least;
-      changes = Changes-same _ _ c.requires.owned;
+      changes = changes_same _ _ c.requires.owned;
       served = no_step;
     }
 
@@ -67,8 +67,8 @@ loop-preserved g c =
           (λ (limits : Limits). IsLeast (FitsFields limits (fields (blocks c.loop.store) c.loop.fields)) (form_of c.loop.fields)
           → IsLeast (FitsFields limits (fields (blocks c.set_pair.new.store) c.set_pair.new.fields)) (form_of c.set_pair.new.fields)) inv.settings.limits c.in-Ok.ensures.form
           (inv.form least);
-      changes = Changes-then _ _ _ _ _ _ inv.changes c.set_pair.ensures.changes;
-      served = Served-then _ _ _ inv.served c.set_pair.ensures.served;
+      changes = changes_then _ _ _ _ _ _ inv.changes c.set_pair.ensures.changes;
+      served = served_then _ _ _ inv.served c.set_pair.ensures.served;
     }
 
 pub returns-in-Err-clause-makes : goal.returns-in-Err-clause-makes
@@ -98,7 +98,7 @@ pub returns-in-Err-clause-settings : goal.returns-in-Err-clause-settings
 returns-in-Err-clause-settings g c = record { limits = c.set_pair.ensures.settings.limits ∙ c.loop.invariant.settings.limits; seed = c.set_pair.ensures.settings.seed ∙ c.loop.invariant.settings.seed }
 
 pub returns-in-Err-clause-changes : goal.returns-in-Err-clause-changes
-returns-in-Err-clause-changes g c = Changes-then _ _ _ _ _ _ c.loop.invariant.changes c.set_pair.ensures.changes
+returns-in-Err-clause-changes g c = changes_then _ _ _ _ _ _ c.loop.invariant.changes c.set_pair.ensures.changes
 
 pub returns-clause-makes : goal.returns-clause-makes
 returns-clause-makes g c =

@@ -3,7 +3,7 @@ use Rattle.std.specs.Int.{w64}
 use Rattle.std.proofs.lemmas.Int.{to_z-of_z}
 use Rattle.std.specs.FinMap.{get, insert}
 use Rattle.blocks.specs.Blocks.{Blocks, Changes}
-use Rattle.blocks.proofs.Change.{Changes-same}
+use Rattle.blocks.proofs.Change.{changes_same}
 use Rattle.object_codec.specs.Forms.{IsLeast}
 use Rattle.zset_object.specs.declared.scored.Scored.{Scored}
 use Rattle.zset_object.specs.Scored.{scores, form_of, refs}
@@ -37,4 +37,4 @@ returns-in-Err-clause-changes g c =
     let m = g.B.BlockStore.blocks c.args.store.now in
     let own = refs c.args.scored.now in
     subst (λ (z : Scored). Changes m (g.B.BlockStore.blocks c.set.new.store) own (refs z)) (sym c.in-Err.ensures.err_scored)
-    (subst (λ (b : Blocks). Changes m b own own) (sym c.in-Err.ensures.err_blocks) (Changes-same m own c.requires.owned))
+    (subst (λ (b : Blocks). Changes m b own own) (sym c.in-Err.ensures.err_blocks) (changes_same m own c.requires.owned))

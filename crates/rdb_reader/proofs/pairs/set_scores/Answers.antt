@@ -2,8 +2,8 @@ use Rattle.std.proofs.Common.{◌≡◌, ℕ, ◌+◌, ◌*◌, ◌/◌, ◌<◌
 use Rattle.std.proofs.lemmas.Int.{to_z-of_z}
 use Rattle.std.specs.Prelude.{MatchOption}
 use Rattle.blocks.specs.Blocks.{no_step}
-use Rattle.blocks.proofs.Change.{Changes-same, Changes-then}
-use Rattle.blocks.proofs.Serve.{Served-then}
+use Rattle.blocks.proofs.Change.{changes_same, changes_then}
+use Rattle.blocks.proofs.Serve.{served_then}
 use Rattle.listpack.specs.Pack.{IsAt, texts}
 use Rattle.object_codec.specs.Forms.{IsLeast}
 use Rattle.object_codec.specs.declared.limits.Limits.{Limits}
@@ -31,7 +31,7 @@ loop-init g c =
       sound = c.requires;
       settings = record { limits = refl; seed = refl };
       form = λ least. least;
-      changes = Changes-same _ _ c.requires.owned;
+      changes = changes_same _ _ c.requires.owned;
       served = no_step;
     }
 
@@ -77,8 +77,8 @@ loop-preserved g c =
           (λ (limits : Limits). IsLeast (FitsScored limits (scores (blocks c.loop.store) c.loop.scored)) (form_of c.loop.scored)
           → IsLeast (FitsScored limits (scores (blocks c.set_scored.new.store) c.set_scored.new.scored)) (form_of c.set_scored.new.scored)) inv.settings.limits
           c.in-Ok-set_scored.ensures.form (inv.form least);
-      changes = Changes-then _ _ _ _ _ _ inv.changes c.set_scored.ensures.changes;
-      served = Served-then _ _ _ inv.served c.set_scored.ensures.served;
+      changes = changes_then _ _ _ _ _ _ inv.changes c.set_scored.ensures.changes;
+      served = served_then _ _ _ inv.served c.set_scored.ensures.served;
     }
 
 pub returns-in-Err-set_scored-clause-makes : goal.returns-in-Err-set_scored-clause-makes
@@ -116,7 +116,7 @@ returns-in-Err-set_scored-clause-settings g c = record
     { limits = c.set_scored.ensures.settings.limits ∙ c.loop.invariant.settings.limits; seed = c.set_scored.ensures.settings.seed ∙ c.loop.invariant.settings.seed }
 
 pub returns-in-Err-set_scored-clause-changes : goal.returns-in-Err-set_scored-clause-changes
-returns-in-Err-set_scored-clause-changes g c = Changes-then _ _ _ _ _ _ c.loop.invariant.changes c.set_scored.ensures.changes
+returns-in-Err-set_scored-clause-changes g c = changes_then _ _ _ _ _ _ c.loop.invariant.changes c.set_scored.ensures.changes
 
 pub returns-clause-makes : goal.returns-clause-makes
 returns-clause-makes g c =

@@ -1,5 +1,5 @@
 use Rattle.std.proofs.Common.{Bool, Ok, ap, ◌∙◌}
-use Rattle.blocks.proofs.Serve.{Served-then}
+use Rattle.blocks.proofs.Serve.{served_then}
 use Rattle.listpack.specs.Pack.{texts}
 use Rattle.hash_object.specs.Fields.{fields}
 use Rattle.rdb_reader.proofs.AtOnce.{told_at_once}
@@ -37,5 +37,5 @@ returns-in-Ok-false g c =
       settings = rw same_fields at e.settings;
       form = rw (same_fields, same_blocks) at e.form;
       changes = rw (same_fields, same_blocks) at e.changes;
-      served = Served-then _ _ _ c.take_pack.ensures.served e.served;
+      served = served_then _ _ _ c.take_pack.ensures.served e.served;
     }

@@ -4,8 +4,8 @@ use Rattle.std.specs.Int.{w64}
 use Rattle.std.proofs.lemmas.Int.{to_z-of_z}
 use Rattle.int_text.specs.Decimal.{canonical}
 use Rattle.blocks.specs.Blocks.{no_step}
-use Rattle.blocks.proofs.Change.{Changes-same, Changes-then}
-use Rattle.blocks.proofs.Serve.{Served-then}
+use Rattle.blocks.proofs.Change.{changes_same, changes_then}
+use Rattle.blocks.proofs.Serve.{served_then}
 use Rattle.object_codec.specs.Forms.{IsLeast}
 use Rattle.object_codec.specs.declared.limits.Limits.{Limits}
 use Rattle.plain_world.specs.Worlds.{SetOf}
@@ -23,7 +23,7 @@ loop-index-init g c = record {
   sound = c.requires;
   settings = record { limits = refl; seed = refl };
   form = λ least. least;
-  changes = Changes-same _ _ c.requires.owned;
+  changes = changes_same _ _ c.requires.owned;
   served = no_step;
 }
 
@@ -48,8 +48,8 @@ loop-index-preserved g c =
           subst
           (λ (limits : Limits). IsLeast (FitsMembers limits (members (blocks c.loop-index.store) c.loop-index.members)) (form_of c.loop-index.members)
           → IsLeast (FitsMembers limits (members (blocks c.join.new.store) c.join.new.members)) (form_of c.join.new.members)) inv.settings.limits c.in-Ok.ensures.form (inv.form least);
-      changes = Changes-then _ _ _ _ _ _ inv.changes c.join.ensures.changes;
-      served = Served-then _ _ _ inv.served c.join.ensures.served;
+      changes = changes_then _ _ _ _ _ _ inv.changes c.join.ensures.changes;
+      served = served_then _ _ _ inv.served c.join.ensures.served;
     }
 
 pub returns-in-Err-clause-makes : goal.returns-in-Err-clause-makes
@@ -71,7 +71,7 @@ returns-in-Err-clause-settings g c = record
     { limits = c.join.ensures.settings.limits ∙ c.loop-index.invariant.settings.limits; seed = c.join.ensures.settings.seed ∙ c.loop-index.invariant.settings.seed }
 
 pub returns-in-Err-clause-changes : goal.returns-in-Err-clause-changes
-returns-in-Err-clause-changes g c = Changes-then _ _ _ _ _ _ c.loop-index.invariant.changes c.join.ensures.changes
+returns-in-Err-clause-changes g c = changes_then _ _ _ _ _ _ c.loop-index.invariant.changes c.join.ensures.changes
 
 pub returns-clause-makes : goal.returns-clause-makes
 returns-clause-makes g c =

@@ -2,8 +2,8 @@ use Rattle.std.proofs.Common.{◌≡◌, ℕ, List, [], Option, length, sym, ap,
 use Rattle.std.specs.Prelude.{MatchOption}
 use Rattle.listpack.specs.Pack.{IsAt, texts}
 use Rattle.blocks.specs.Blocks.{no_step}
-use Rattle.blocks.proofs.Change.{Changes-same, Changes-then}
-use Rattle.blocks.proofs.Serve.{Served-then}
+use Rattle.blocks.proofs.Change.{changes_same, changes_then}
+use Rattle.blocks.proofs.Serve.{served_then}
 use Rattle.object_codec.specs.Forms.{IsLeast}
 use Rattle.object_codec.specs.declared.limits.Limits.{Limits}
 use Rattle.plain_world.specs.Worlds.{SetOf}
@@ -20,7 +20,7 @@ loop-init g c = record {
   sound = c.requires;
   settings = record { limits = refl; seed = refl };
   form = λ least. least;
-  changes = Changes-same _ _ c.requires.owned;
+  changes = changes_same _ _ c.requires.owned;
   served = no_step;
 }
 
@@ -45,8 +45,8 @@ loop-preserved g c =
           subst
           (λ (limits : Limits). IsLeast (FitsMembers limits (members (blocks c.loop.store) c.loop.members)) (form_of c.loop.members)
           → IsLeast (FitsMembers limits (members (blocks c.join.new.store) c.join.new.members)) (form_of c.join.new.members)) inv.settings.limits c.in-Ok.ensures.form (inv.form least);
-      changes = Changes-then _ _ _ _ _ _ inv.changes c.join.ensures.changes;
-      served = Served-then _ _ _ inv.served c.join.ensures.served;
+      changes = changes_then _ _ _ _ _ _ inv.changes c.join.ensures.changes;
+      served = served_then _ _ _ inv.served c.join.ensures.served;
     }
 
 pub returns-in-Err-clause-makes : goal.returns-in-Err-clause-makes
@@ -66,7 +66,7 @@ pub returns-in-Err-clause-settings : goal.returns-in-Err-clause-settings
 returns-in-Err-clause-settings g c = record { limits = c.join.ensures.settings.limits ∙ c.loop.invariant.settings.limits; seed = c.join.ensures.settings.seed ∙ c.loop.invariant.settings.seed }
 
 pub returns-in-Err-clause-changes : goal.returns-in-Err-clause-changes
-returns-in-Err-clause-changes g c = Changes-then _ _ _ _ _ _ c.loop.invariant.changes c.join.ensures.changes
+returns-in-Err-clause-changes g c = changes_then _ _ _ _ _ _ c.loop.invariant.changes c.join.ensures.changes
 
 pub returns-clause-makes : goal.returns-clause-makes
 returns-clause-makes g c =

@@ -8,7 +8,7 @@ use Rattle.rdb_streams.specs.Claims.{Claims}
 use Rattle.rdb_streams.specs.Grouped.{group_in, begun_in}
 use Rattle.rdb_streams.specs.Reading.{Reads}
 use Rattle.rdb_streams.proofs.Claimed.{last_fails, pendings_fail, consumers_read}
-use Rattle.rdb_streams.proofs.Grouped.{changes-created, changes-then, changes-there, group-created, ok-held}
+use Rattle.rdb_streams.proofs.Grouped.{changes_created, changes_then_in_grouped, changes_there, group_created, ok_held}
 use Rattle.rdb_streams.proofs.groups.read_behind_name.Goals as goal
 
 pub returns-in-Err-clause-reads : goal.returns-in-Err-clause-reads
@@ -31,8 +31,8 @@ read_consumers-requires-clause-at c = (c.in-Ok-read_pendings.ensures (new_group 
 
 pub read_consumers-requires-clause-there : goal.read_consumers-requires-clause-there
 read_consumers-requires-clause-there c =
-    changes-there c.args.name.now c.args.stream.now c.group_create.new.self
-    (changes-created c.args.name.now c.args.stream.now c.group_create.new.self (pair_of c.in-Ok.read.0) c.requires.free c.in-Ok-group_create.ensures.ok)
+    changes_there c.args.name.now c.args.stream.now c.group_create.new.self
+    (changes_created c.args.name.now c.args.stream.now c.group_create.new.self (pair_of c.in-Ok.read.0) c.requires.free c.in-Ok-group_create.ensures.ok)
 
 pub returns-in-Ok-group_create-clause-reads : goal.returns-in-Ok-group_create-clause-reads
 returns-in-Ok-group_create-clause-reads c =
@@ -47,7 +47,7 @@ returns-in-Ok-group_create-clause-reads c =
     let t = subst (λ (u : Claims). Stands (counted with_unclaimed (record { group = new_group last; unclaimed = u })) pending bytes next middle) c.requires.none
     (c.in-Ok-read_pendings.ensures (new_group last)) in
     let group : group_in c.group_create.new.self.groups name ≡ new_group last =
-    ap (λ (s : Log). group_in s.groups name) c.in-Ok-group_create.ensures.ok ∙ group-created c.args.stream.now.groups name last c.requires.free in
+    ap (λ (s : Log). group_in s.groups name) c.in-Ok-group_create.ensures.ok ∙ group_created c.args.stream.now.groups name last c.requires.free in
     let r = subst (λ (g : Group). Reads (counted (with_consumer type) (record { group = g; unclaimed = c.read_pendings.new.unclaimed })) bytes middle new c.read_consumers.result) group
     c.read_consumers.ensures.reads in
     consumers_read type name bytes c.args.at next last c.in-Ok.ensures.last middle pending t new c.read_consumers.result r
@@ -57,6 +57,6 @@ returns-in-Ok-group_create-clause-added c =
     let name = c.args.name.now in
     let old = c.args.stream.now in
     let middle = c.group_create.new.self in
-    ok-held c.read_consumers.result
-    (changes-then name old middle (changes-created name old middle (pair_of c.in-Ok.read.0) c.requires.free c.in-Ok-group_create.ensures.ok) c.read_consumers.new.stream
+    ok_held c.read_consumers.result
+    (changes_then_in_grouped name old middle (changes_created name old middle (pair_of c.in-Ok.read.0) c.requires.free c.in-Ok-group_create.ensures.ok) c.read_consumers.new.stream
     c.read_consumers.ensures.others)

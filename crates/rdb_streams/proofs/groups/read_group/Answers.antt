@@ -8,7 +8,7 @@ use Rattle.rdb_grammar.specs.StreamParts.{with_group}
 use Rattle.rdb_grammar.specs.Strings.{string}
 use Rattle.rdb_streams.specs.Grouped.{begun_in}
 use Rattle.rdb_streams.proofs.Claimed.{name_fails, name_twice, group_fails, group_put, group_unclaimed}
-use Rattle.rdb_streams.proofs.Grouped.{last-told}
+use Rattle.rdb_streams.proofs.Grouped.{last_told}
 use Rattle.rdb_streams.proofs.groups.read_group.Goals as goal
 
 pub returns-in-Err-clause-reads : goal.returns-in-Err-clause-reads
@@ -21,7 +21,7 @@ returns-then-is_some-clause-reads c =
     let groups = c.args.stream.now.groups in
     let name = c.text-name.result.now in
     let s = subst (λ (text : List ℕ). Stands string text bytes c.args.at c.in-Ok.read.1) (sym c.text-name.ensures) c.in-Ok.ensures.string in
-    let old : is_none (get groups name) ≡ false = last-told (get groups name) c.group_last.result c.is_some.result c.group_last.ensures c.is_some.ensures ∙ ap not c.if-is_some.true in
+    let old : is_none (get groups name) ≡ false = last_told (get groups name) c.group_last.result c.is_some.result c.group_last.ensures c.is_some.ensures ∙ ap not c.if-is_some.true in
     rw c.no_group.ensures (name_twice c.args.stream_type groups bytes c.args.at c.in-Ok.read.1 name s old)
 
 pub returns-then-is_empty-clause-reads : goal.returns-then-is_empty-clause-reads
@@ -30,7 +30,7 @@ returns-then-is_empty-clause-reads c =
     let groups = c.args.stream.now.groups in
     let name = c.text-name.result.now in
     let s = subst (λ (text : List ℕ). Stands string text bytes c.args.at c.in-Ok.read.1) (sym c.text-name.ensures) c.in-Ok.ensures.string in
-    let free : is_none (get groups name) ≡ true = last-told (get groups name) c.group_last.result c.is_some.result c.group_last.ensures c.is_some.ensures ∙ ap not c.if-is_some.false in
+    let free : is_none (get groups name) ≡ true = last_told (get groups name) c.group_last.result c.is_some.result c.group_last.ensures c.is_some.ensures ∙ ap not c.if-is_some.false in
     let made = begun_in c.read_behind_name.new.stream.groups name c.read_behind_name.new.unclaimed in
     let last = c.in-Ok-read_behind_name.next in
     let none : (len made.unclaimed == 0) ≡ true = sym c.is_empty.ensures ∙ c.if-is_empty.true in
@@ -43,7 +43,7 @@ returns-in-Ok-read_behind_name-clause-reads c =
     let groups = c.args.stream.now.groups in
     let name = c.text-name.result.now in
     let s = subst (λ (text : List ℕ). Stands string text bytes c.args.at c.in-Ok.read.1) (sym c.text-name.ensures) c.in-Ok.ensures.string in
-    let free : is_none (get groups name) ≡ true = last-told (get groups name) c.group_last.result c.is_some.result c.group_last.ensures c.is_some.ensures ∙ ap not c.if-is_some.false in
+    let free : is_none (get groups name) ≡ true = last_told (get groups name) c.group_last.result c.is_some.result c.group_last.ensures c.is_some.ensures ∙ ap not c.if-is_some.false in
     let made = begun_in c.read_behind_name.new.stream.groups name c.read_behind_name.new.unclaimed in
     let some : (len made.unclaimed == 0) ≡ false = sym c.is_empty.ensures ∙ c.if-is_empty.false in
     rw c.no_group-else-is_empty.ensures
@@ -55,7 +55,7 @@ returns-clause-reads c =
     let groups = c.args.stream.now.groups in
     let name = c.text-name.result.now in
     let s = subst (λ (text : List ℕ). Stands string text bytes c.args.at c.in-Ok.read.1) (sym c.text-name.ensures) c.in-Ok.ensures.string in
-    let free : is_none (get groups name) ≡ true = last-told (get groups name) c.group_last.result c.is_some.result c.group_last.ensures c.is_some.ensures ∙ ap not c.if-is_some.false in
+    let free : is_none (get groups name) ≡ true = last_told (get groups name) c.group_last.result c.is_some.result c.group_last.ensures c.is_some.ensures ∙ ap not c.if-is_some.false in
     let new = c.read_behind_name.new.stream.groups in
     let made = begun_in new name c.read_behind_name.new.unclaimed in
     group_fails c.args.stream_type groups bytes c.args.at c.in-Ok.read.1 name s free (name, made) new c.in-Err-read_behind_name.fault c.in-Err-read_behind_name.ensures.reads

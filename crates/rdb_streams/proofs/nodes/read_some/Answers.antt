@@ -1,10 +1,10 @@
 use Rattle.std.proofs.Common.{◌≡◌, ℕ, suc, ◌-◌, ◌+◌, sym, ap, subst, ◌∙◌, refl, drop, arith}
 use Rattle.blocks.specs.Blocks.{no_step}
-use Rattle.blocks.proofs.Change.{Changes-then}
-use Rattle.blocks.proofs.Serve.{Served-then}
+use Rattle.blocks.proofs.Change.{changes_then}
+use Rattle.blocks.proofs.Serve.{served_then}
 use Rattle.rdb_grammar.specs.Format.{in_turn}
 use Rattle.rdb_grammar.specs.StreamParts.{Nodes, with_node, no_nodes}
-use Rattle.rdb_grammar.proofs.StreamsExact.{with_node-exact}
+use Rattle.rdb_grammar.proofs.StreamsExact.{with_node_exact}
 use Rattle.rdb_grammar.proofs.Turns.{GoesOn, all_stand}
 use Rattle.rdb_streams.specs.Reading.{so_far}
 use Rattle.rdb_streams.proofs.NodeParts.{nodes_on, nodes_fail}
@@ -41,8 +41,8 @@ nodes-preserved g c =
       inside = c.in-Ok.ensures.reads.0.inside;
       sees = c.in-Ok.ensures.reads.1;
       groups = c.read_node.ensures.groups ∙ inv.groups;
-      changes = Changes-then _ _ _ _ _ _ inv.changes c.read_node.ensures.changes;
-      served = Served-then _ _ _ inv.served c.read_node.ensures.served;
+      changes = changes_then _ _ _ _ _ _ inv.changes c.read_node.ensures.changes;
+      served = served_then _ _ _ inv.served c.read_node.ensures.served;
     }
 
 pub read_node-requires-clause-sees : goal.read_node-requires-clause-sees
@@ -64,17 +64,17 @@ pub returns-in-Err-clause-groups : goal.returns-in-Err-clause-groups
 returns-in-Err-clause-groups g c = c.read_node.ensures.groups ∙ c.nodes.invariant.groups
 
 pub returns-in-Err-clause-changes : goal.returns-in-Err-clause-changes
-returns-in-Err-clause-changes g c = Changes-then _ _ _ _ _ _ c.nodes.invariant.changes c.read_node.ensures.changes
+returns-in-Err-clause-changes g c = changes_then _ _ _ _ _ _ c.nodes.invariant.changes c.read_node.ensures.changes
 
 pub returns-in-Err-clause-served : goal.returns-in-Err-clause-served
-returns-in-Err-clause-served g c = Served-then _ _ _ c.nodes.invariant.served c.read_node.ensures.served
+returns-in-Err-clause-served g c = served_then _ _ _ c.nodes.invariant.served c.read_node.ensures.served
 
 pub returns-clause-reads : goal.returns-clause-reads
 returns-clause-reads g c =
     let blocks = g.B.BlockStore.blocks in
     let made = so_far (blocks c.nodes.store) c.nodes.stream c.nodes.seen.before in
     let none : c.args.count - c.nodes.counter ≡ 0 = omega (arith, c.nodes-test.false) in (
-      all_stand with_node with_node-exact c.args.bytes.now c.args.at c.args.count no_nodes c.nodes.next made c.requires.at c.nodes.invariant.inside
+      all_stand with_node with_node_exact c.args.bytes.now c.args.at c.args.count no_nodes c.nodes.next made c.requires.at c.nodes.invariant.inside
           (subst (λ (n : ℕ). GoesOn with_node c.args.bytes.now c.args.at c.args.count no_nodes c.nodes.next n made) none c.nodes.invariant.turns),
       c.nodes.invariant.sees,
     )

@@ -1,7 +1,7 @@
 use Rattle.std.proofs.Common.{◌∙◌, ◌++◌, ◌∷◌, [], sym, ap, refl, arith, append_assoc, append-nil}
 use Rattle.rev_cursor.specs.Span.{times}
 use Rattle.rehash_dict.specs.Chains.{chain_left}
-use Rattle.rehash_dict.proofs.Counts.{times-append, times-here, times-past}
+use Rattle.rehash_dict.proofs.Counts.{times-append, times_here, times_past}
 use Rattle.rehash_dict.proofs.scan.contains.Goals as goal
 
 pub loop-other-init : goal.loop-other-init
@@ -16,7 +16,7 @@ returns-then-other-at g c =
         times-append c.args.at c.loop-other.yielded (c.in-Some.other ∷ chain_left c.next.new.self),
         ap
             (λ n. times c.args.at (n ∷ chain_left c.next.new.self)) c.if-other-at.true,
-        times-here c.args.at (chain_left c.next.new.self),
+        times_here c.args.at (chain_left c.next.new.self),
       )),
       λ h. refl,
     )
@@ -24,7 +24,7 @@ returns-then-other-at g c =
 pub loop-other-preserved : goal.loop-other-preserved
 loop-other-preserved g c = record {
   row = append_assoc c.loop-other.yielded (c.in-Some.other ∷ []) _ ∙ ap (λ r. c.loop-other.yielded ++ r) (sym c.in-Some.ensures.steps) ∙ c.loop-other.invariant.row;
-  none = omega (arith, c.loop-other.invariant.none, times-append c.args.at c.loop-other.yielded (c.in-Some.other ∷ []), times-past c.args.at c.in-Some.other [] c.if-other-at.false);
+  none = omega (arith, c.loop-other.invariant.none, times-append c.args.at c.loop-other.yielded (c.in-Some.other ∷ []), times_past c.args.at c.in-Some.other [] c.if-other-at.false);
 }
 
 pub returns : goal.returns

@@ -1,7 +1,7 @@
 use Rattle.std.proofs.Common.{inl, inr, sym, arith, refl, ap, ◌∙◌}
 use Rattle.std.proofs.lemmas.Bool.{cases_eq, cases_lt}
 use Rattle.rehash_dict.specs.Tables.{bucket}
-use Rattle.rehash_dict.proofs.Counts.{bucket-past}
+use Rattle.rehash_dict.proofs.Counts.{bucket_past}
 use Rattle.rehash_dict.proofs.Fulls.{full_found, full_none}
 use Rattle.rehash_dict.proofs.tables.first_full.Goals as goal
 
@@ -23,5 +23,5 @@ loop-at-preserved g c k from to = elim (cases_eq k c.loop-at.at) [
 pub returns : goal.returns
 returns g c = sym (full_none c.args.chains.now.older 10 c.args.position (λ k from to. elim (cases_lt k c.loop-at.at) [
   | inl before ↦ c.loop-at.invariant k from before
-  | inr over ↦ bucket-past c.args.chains.now.older k (omega (arith, c.buckets-buckets.ensures, c.min-at-end.ensures, c.saturating_add.ensures))
+  | inr over ↦ bucket_past c.args.chains.now.older k (omega (arith, c.buckets-buckets.ensures, c.min-at-end.ensures, c.saturating_add.ensures))
 ]))

@@ -1,6 +1,6 @@
 use Rattle.std.proofs.Common.{sym, subst, add-one, arith, suc}
 use Rattle.blocks.specs.Blocks.{no_step, Served}
-use Rattle.blocks.proofs.Serve.{Served-then}
+use Rattle.blocks.proofs.Serve.{served_then}
 use Rattle.rehash_dict.specs.Table.{item}
 use Rattle.set_object.specs.Hashed.{IsHashed, no_members}
 use Rattle.set_object.specs.Strings.{set_of}
@@ -31,7 +31,7 @@ copy_member-requires-clause-absent g c =
     c.loop-at.invariant.hashed e.0 e.1
 
 pub returns-in-Err-clause-served : goal.returns-in-Err-clause-served
-returns-in-Err-clause-served g c = Served-then _ _ _ (Served-then _ _ _ c.loop-at.invariant.served c.in-Err.ensures.served) c.end_table.ensures.served
+returns-in-Err-clause-served g c = served_then _ _ _ (served_then _ _ _ c.loop-at.invariant.served c.in-Err.ensures.served) c.end_table.ensures.served
 
 pub loop-at-preserved : goal.loop-at-preserved
 loop-at-preserved g c =
@@ -52,7 +52,7 @@ loop-at-preserved g c =
           record {
             hashed = subst (λ s. IsHashed m (g.B.BlockStore.blocks s) (no_members c.args.seed) c.if-is_entry.table (set_of (keys_before m t (suc at)))) (sym w.store-is)
                 (subst (λ v. IsHashed m n (no_members c.args.seed) v (set_of (keys_before m t (suc at)))) (sym w.table-is) next);
-            served = subst (Served g.B.BlockStore.step c.args.store.now) (sym w.store-is) (Served-then _ _ _ inv.served w.copy_member.ensures.served);
+            served = subst (Served g.B.BlockStore.step c.args.store.now) (sym w.store-is) (served_then _ _ _ inv.served w.copy_member.ensures.served);
           })
       | else-is_entry w ↦
           (let same = vacant_same m mid c.args.seed t u at c.requires inv.hashed (no_item t at c.is_entry.result w.if-is_entry.false c.is_entry.ensures) in

@@ -1,5 +1,5 @@
 use Rattle.std.proofs.Common.{refl}
-use Rattle.blocks.proofs.Serve.{Served-next}
+use Rattle.blocks.proofs.Serve.{served_next}
 use Rattle.set_object.proofs.Hashing.{put_keyed, put_lacks, put_hashed}
 use Rattle.set_object.proofs.hashed.hash_member.Goals as goal
 
@@ -20,4 +20,4 @@ returns-in-Ok-clause-hashed g c =
     c.insert.new.self c.in-Ok.field-0 _ refl c.in-Ok.ensures.added c.in-Ok.ensures.keyed c.in_ok-at.ensures.changes c.in-Ok.ensures.map c.in-Ok.ensures.grown
 
 pub returns-in-Err-clause-served : goal.returns-in-Err-clause-served
-returns-in-Err-clause-served g c = Served-next _ _ _ c.put_block.ensures.served c.give_back.ensures.step
+returns-in-Err-clause-served g c = served_next _ _ _ c.put_block.ensures.served c.give_back.ensures.step

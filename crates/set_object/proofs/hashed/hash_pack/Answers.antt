@@ -2,8 +2,8 @@ use Rattle.std.proofs.Common.{◌≡◌, ℕ, ◌+◌, Option, List, length, tak
 use Rattle.std.specs.Prelude.{MatchOption}
 use Rattle.std.proofs.lemmas.List.{take_all}
 use Rattle.blocks.specs.Blocks.{Blocks, no_step, Changes}
-use Rattle.blocks.proofs.Change.{Changes-then}
-use Rattle.blocks.proofs.Serve.{Served-then}
+use Rattle.blocks.proofs.Change.{changes_then}
+use Rattle.blocks.proofs.Serve.{served_then}
 use Rattle.listpack.specs.Element.{element_text}
 use Rattle.listpack.specs.Pack.{IsAt, texts}
 use Rattle.rehash_dict.specs.MapOf.{key_refs, content}
@@ -61,11 +61,11 @@ loop-preserved g c =
       place = c.next-next.ensures.place i at;
       hashed = subst (λ s. IsHashed m n (no_members c.args.seed) c.hash_element.new.table s) more
           (hashed_then m mid n (no_members c.args.seed) c.loop.table c.hash_element.new.table (set_of (take i list)) (insert (content mid c.loop.table) x tt) inv.hashed c.in_default.ensures.hashed);
-      served = Served-then _ _ _ inv.served c.hash_element.ensures.served;
+      served = served_then _ _ _ inv.served c.hash_element.ensures.served;
     }
 
 pub returns-in-Err-clause-served : goal.returns-in-Err-clause-served
-returns-in-Err-clause-served g c = Served-then _ _ _ (Served-then _ _ _ c.loop.invariant.served c.in-Err.ensures.served) c.end_table.ensures.served
+returns-in-Err-clause-served g c = served_then _ _ _ (served_then _ _ _ c.loop.invariant.served c.in-Err.ensures.served) c.end_table.ensures.served
 
 pub returns-in-Err-clause-err_blocks : goal.returns-in-Err-clause-err_blocks
 returns-in-Err-clause-err_blocks g c =
@@ -75,4 +75,4 @@ returns-in-Err-clause-err_blocks g c =
     let ended : Changes mid n (key_refs c.loop.table) [] =
     subst (λ (b : Blocks). Changes b n (key_refs c.loop.table) []) c.in-Err.ensures.err_blocks
     (subst (λ t. Changes (g.B.BlockStore.blocks c.hash_element.new.store) n (key_refs t) []) c.in-Err.ensures.err_table c.end_table.ensures.changes) in
-    all_same m n (Changes-then m mid n [] (key_refs c.loop.table) [] c.loop.invariant.hashed.changes ended)
+    all_same m n (changes_then m mid n [] (key_refs c.loop.table) [] c.loop.invariant.hashed.changes ended)

@@ -1,5 +1,5 @@
 use Rattle.std.proofs.Common.{◌≤◌, ◌<◌, ◌⊎◌, inl, inr, arith}
-use Rattle.blocks.proofs.Sweeps.{Calmer-same, Calmer-next}
+use Rattle.blocks.proofs.Sweeps.{calmer_same, calmer_next}
 use Rattle.set_object.proofs.Settling.{settled_same, settled_more, settled_weaker}
 use Rattle.collection_walk.proofs.Numbered.{calm_more}
 use Rattle.set_object.proofs.relocating.settle_items.Goals as goal
@@ -8,7 +8,7 @@ pub loop-at-init : goal.loop-at-init
 loop-at-init g c = record {
   settled = settled_same (g.B.BlockStore.blocks c.args.store.now) c.args.table.now _ c.requires.keyed;
   calm = λ i e low high there. absurd (omega (arith, low, high));
-  calmer = Calmer-same (g.B.BlockStore.heap c.args.store.now);
+  calmer = calmer_same (g.B.BlockStore.heap c.args.store.now);
 }
 
 pub settle_item-requires : goal.settle_item-requires
@@ -24,7 +24,7 @@ loop-at-preserved g c =
           c.args.part.start c.loop-at.at (omega arith) inv.settled one.settled;
       calm = calm_more (g.B.BlockStore.heap c.loop-at.store) (g.B.BlockStore.heap c.settle_item.new.store) c.loop-at.table c.settle_item.new.table c.args.part.start c.loop-at.at one.calmer
           one.settled.others inv.calm one.calm;
-      calmer = Calmer-next (g.B.BlockStore.heap c.args.store.now) (g.B.BlockStore.heap c.loop-at.store) (g.B.BlockStore.heap c.settle_item.new.store) inv.calmer one.calmer;
+      calmer = calmer_next (g.B.BlockStore.heap c.args.store.now) (g.B.BlockStore.heap c.loop-at.store) (g.B.BlockStore.heap c.settle_item.new.store) inv.calmer one.calmer;
     }
 
 pub returns-clause-settled : goal.returns-clause-settled
@@ -49,4 +49,4 @@ pub returns-then-is_calm-clause-calm : goal.returns-then-is_calm-clause-calm
 returns-then-is_calm-clause-calm g c = λ i e low high there. c.if-is_calm.ensures e.key
 
 pub returns-then-is_calm-clause-calmer : goal.returns-then-is_calm-clause-calmer
-returns-then-is_calm-clause-calmer g c = Calmer-same (g.B.BlockStore.heap c.args.store.now)
+returns-then-is_calm-clause-calmer g c = calmer_same (g.B.BlockStore.heap c.args.store.now)

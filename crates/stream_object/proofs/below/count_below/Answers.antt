@@ -9,8 +9,8 @@ use Rattle.stream_node.specs.Views.{left_of}
 use Rattle.stream_object.specs.Parts.{live_of, is_live, plain}
 use Rattle.stream_object.specs.Ranges.{seen}
 use Rattle.stream_object.specs.Below.{is_low}
-use Rattle.stream_object.proofs.Marking.{walked, walked_inside, length-stored}
-use Rattle.stream_object.proofs.Rises.{low_of, low_more, length-kept}
+use Rattle.stream_object.proofs.Marking.{walked, walked_inside, length_stored}
+use Rattle.stream_object.proofs.Rises.{low_of, low_more, length_kept}
 use Rattle.stream_object.proofs.below.count_below.Goals as goal
 
 pub loop-entry-init : goal.loop-entry-init
@@ -28,11 +28,11 @@ overflow_add-count c =
       ap length all,
       c.requires.few,
       c.loop-entry.invariant.count,
-      length-kept (is_low c.args.least) (live_of es),
+      length_kept (is_low c.args.least) (live_of es),
       length-map (filter is_live es) plain,
-      length-kept
+      length_kept
           is_live es,
-      length-stored c.loop-entry.yielded,
+      length_stored c.loop-entry.yielded,
     )
 
 pub loop-entry-preserved : goal.loop-entry-preserved

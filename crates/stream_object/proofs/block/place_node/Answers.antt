@@ -1,13 +1,13 @@
 use Rattle.std.proofs.Common.{◌-◌, ℕ, [], ◌∷◌, length, replicate, refl, arith}
 use Rattle.blocks.specs.Blocks.{widened}
-use Rattle.blocks.proofs.Change.{Changes-counted, Counts-placed}
+use Rattle.blocks.proofs.Change.{changes_counted, counts_placed}
 use Rattle.blocks.proofs.Copies.{placed_over}
-use Rattle.blocks.proofs.Serve.{Served-once, Served-next}
+use Rattle.blocks.proofs.Serve.{served_once, served_next}
 use Rattle.blocks.proofs.Written.{length-placed}
 use Rattle.stream_object.proofs.block.place_node.Goals as goal
 
 pub returns-in_err-at-clause-served : goal.returns-in_err-at-clause-served
-returns-in_err-at-clause-served g c = Served-once _ _ c.place.ensures.step
+returns-in_err-at-clause-served g c = served_once _ _ c.place.ensures.step
 
 pub write-requires-clause-room : goal.write-requires-clause-room
 write-requires-clause-room g c =
@@ -29,7 +29,7 @@ returns-clause-changes g c =
     let at = c.in_ok-at.at in
     let bytes = c.args.bytes.now in
     let put = placed_over m (g.B.BlockStore.blocks c.place.new.self) after at c.room_for.result bytes bytes c.in_ok-at.ensures.placed c.write.ensures.written refl c.room_for.ensures in
-    Changes-counted m after [] (at ∷ []) (λ r. omega arith) (Counts-placed m after at (widened bytes c.room_for.result) [] (at ∷ []) c.in_ok-at.ensures.fresh put (λ r. omega arith))
+    changes_counted m after [] (at ∷ []) (λ r. omega arith) (counts_placed m after at (widened bytes c.room_for.result) [] (at ∷ []) c.in_ok-at.ensures.fresh put (λ r. omega arith))
 
 pub returns-clause-served : goal.returns-clause-served
-returns-clause-served g c = Served-next _ _ _ (Served-once _ _ c.place.ensures.step) c.write.ensures.step
+returns-clause-served g c = served_next _ _ _ (served_once _ _ c.place.ensures.step) c.write.ensures.step

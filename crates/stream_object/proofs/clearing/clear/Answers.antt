@@ -1,6 +1,6 @@
 use Rattle.std.proofs.Common.{◌++◌, refl, sym, subst}
 use Rattle.blocks.specs.Blocks.{no_step}
-use Rattle.blocks.proofs.Serve.{Served-then}
+use Rattle.blocks.proofs.Serve.{served_then}
 use Rattle.stream_object.specs.Parts.{part, parts_of}
 use Rattle.stream_object.specs.Found.{Exchanges, Stands}
 use Rattle.stream_object.proofs.Parts.{parts_are}
@@ -34,7 +34,7 @@ loop-spot-preserved g c =
     let all = exchanges_then m mid after c.args.tree.now c.loop-spot.tree c.drop_node.new.tree (parts_of mid c.loop-spot.tree) (n.before ++ n.after) c.loop-spot.invariant.exchanges x in
     record {
       exchanges = subst (Exchanges m after c.args.tree.now c.drop_node.new.tree) (sym (parts_are after c.drop_node.new.tree (n.before ++ n.after) x.parts)) all;
-      served = Served-then _ _ _ c.loop-spot.invariant.served c.drop_node.ensures.served;
+      served = served_then _ _ _ c.loop-spot.invariant.served c.drop_node.ensures.served;
     }
 
 pub loop-spot-smaller : goal.loop-spot-smaller

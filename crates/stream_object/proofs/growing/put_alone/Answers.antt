@@ -1,5 +1,5 @@
 use Rattle.std.proofs.Common.{List, [], ℕ, refl, sym, subst}
-use Rattle.blocks.proofs.Serve.{Served-same}
+use Rattle.blocks.proofs.Serve.{served_same}
 use Rattle.stream_object.specs.Node.{IsGrown}
 use Rattle.stream_object.proofs.Grows.{comes_grows}
 use Rattle.stream_object.proofs.growing.put_alone.Goals as goal
@@ -12,4 +12,4 @@ returns-clause-grows g c =
     comes_grows m after c.args.tree.now c.put_last.new.tree c.args.id c.args.pairs.now c.deref.result.now c.in_ok-at.at c.requires.parts c.requires.below grown c.in_ok-at.ensures.placed
 
 pub returns-in_err-pack-clause-served : goal.returns-in_err-pack-clause-served
-returns-in_err-pack-clause-served g c = Served-same _ _ refl
+returns-in_err-pack-clause-served g c = served_same _ _ refl

@@ -1,5 +1,5 @@
 use Rattle.std.proofs.Common.{List, [], ℕ, refl, sym, subst}
-use Rattle.blocks.proofs.Serve.{Served-same}
+use Rattle.blocks.proofs.Serve.{served_same}
 use Rattle.listpack.specs.Pack.{texts}
 use Rattle.stream_node.specs.Entries.{entries_of}
 use Rattle.stream_object.specs.Node.{IsGrown}
@@ -36,4 +36,4 @@ returns-in_ok-at-in-Some-2-clause-grows g c =
     c.requires.below n.place grown c.in_ok-at-in-Some-2.ensures.replaced
 
 pub returns-in_err-pack-clause-served : goal.returns-in_err-pack-clause-served
-returns-in_err-pack-clause-served g c = Served-same _ _ refl
+returns-in_err-pack-clause-served g c = served_same _ _ refl

@@ -5,7 +5,7 @@ use Rattle.stream_node.specs.Entries.{entries_of}
 use Rattle.stream_node.specs.View.{stored}
 use Rattle.stream_node.specs.Views.{left_of}
 use Rattle.stream_object.specs.Node.{IsLive}
-use Rattle.stream_object.proofs.Marking.{walked, walked_inside, live_at_first, length-stored}
+use Rattle.stream_object.proofs.Marking.{walked, walked_inside, live_at_first, length_stored}
 use Rattle.stream_object.proofs.node.count_live.Goals as goal
 
 pub loop-entry-init : goal.loop-entry-init
@@ -35,7 +35,7 @@ loop-entry-preserved c = record {
   count = omega (arith, c.loop-entry.invariant.count, length-append c.loop-entry.yielded (c.in-Some.entry ∷ []));
   live = subst (λ es. IsLive es c.one_more-live.result) (sym (map-append stored c.loop-entry.yielded (c.in-Some.entry ∷ [])))
       (c.one_more-live.ensures.more (map stored c.loop-entry.yielded) (stored c.in-Some.entry) c.loop-entry.invariant.live
-      (length-stored c.loop-entry.yielded ∙ c.loop-entry.invariant.count) (sym c.deleted.ensures));
+      (length_stored c.loop-entry.yielded ∙ c.loop-entry.invariant.count) (sym c.deleted.ensures));
   within = c.one_more-live.ensures.within;
 }
 

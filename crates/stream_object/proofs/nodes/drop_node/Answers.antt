@@ -1,5 +1,5 @@
 use Rattle.std.proofs.Common.{◌∙◌, ap}
-use Rattle.blocks.proofs.Serve.{Served-next}
+use Rattle.blocks.proofs.Serve.{served_next}
 use Rattle.rax_packed.specs.Packed.{without}
 use Rattle.rax_packed.specs.Maps.{entries_of}
 use Rattle.stream_object.specs.Parts.{parts_of}
@@ -27,4 +27,4 @@ returns-clause-dropped g c =
     c.remove.ensures.sound (c.remove.ensures.removed ∙ removed) c.remove.ensures.changes c.give_back.ensures.ended
 
 pub returns-clause-served : goal.returns-clause-served
-returns-clause-served g c = Served-next _ _ _ c.remove.ensures.served c.give_back.ensures.step
+returns-clause-served g c = served_next _ _ _ c.remove.ensures.served c.give_back.ensures.step

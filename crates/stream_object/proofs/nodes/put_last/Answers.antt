@@ -1,5 +1,5 @@
 use Rattle.std.proofs.Common.{arith}
-use Rattle.blocks.proofs.Serve.{Served-next, Served-then}
+use Rattle.blocks.proofs.Serve.{served_next, served_then}
 use Rattle.stream_node.specs.Ids.{IsId}
 use Rattle.stream_object.specs.Parts.{parts_of}
 use Rattle.stream_object.proofs.Exchanging.{comes, comes_tree}
@@ -23,7 +23,7 @@ returns-in-Ok-clause-placed g c =
     c.in-Ok.ensures.sound (rw c.key.ensures at c.in-Ok.ensures.inserted) c.in-Ok.ensures.changes is rising
 
 pub returns-in-Ok-clause-served : goal.returns-in-Ok-clause-served
-returns-in-Ok-clause-served g c = Served-then _ _ _ c.place_node.ensures.served c.insert.ensures.served
+returns-in-Ok-clause-served g c = served_then _ _ _ c.place_node.ensures.served c.insert.ensures.served
 
 pub returns-in-Err-clause-served : goal.returns-in-Err-clause-served
-returns-in-Err-clause-served g c = Served-next _ _ _ (Served-then _ _ _ c.place_node.ensures.served c.insert.ensures.served) c.give_back.ensures.step
+returns-in-Err-clause-served g c = served_next _ _ _ (served_then _ _ _ c.place_node.ensures.served c.insert.ensures.served) c.give_back.ensures.step

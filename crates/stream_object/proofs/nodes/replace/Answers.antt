@@ -1,5 +1,5 @@
 use Rattle.std.proofs.Common.{◌≡◌, ◌∙◌, ℕ, List, [], length, Option, unwrap_or, is_some, ap, arith}
-use Rattle.blocks.proofs.Serve.{Served-once, Served-next, Served-then}
+use Rattle.blocks.proofs.Serve.{served_once, served_next, served_then}
 use Rattle.rax_packed.specs.Packed.{with_entry, value_at}
 use Rattle.rax_packed.specs.Maps.{entries_of}
 use Rattle.stream_object.specs.Parts.{parts_of}
@@ -23,7 +23,7 @@ returns-then-bytes-clause-replaced g c =
     (put_over m after c.args.was c.args.bytes.now c.write.ensures.written) is rising
 
 pub returns-then-bytes-clause-served : goal.returns-then-bytes-clause-served
-returns-then-bytes-clause-served g c = Served-once _ _ c.write.ensures.step
+returns-then-bytes-clause-served g c = served_once _ _ c.write.ensures.step
 
 pub set-requires : goal.set-requires
 set-requires g c =
@@ -61,4 +61,4 @@ returns-clause-replaced g c =
     c.set.ensures.sound (set ∙ ap (λ k. with_entry es k c.in_ok-at.at) c.key.ensures) c.set.ensures.changes c.give_back.ensures.ended is rising
 
 pub returns-clause-served : goal.returns-clause-served
-returns-clause-served g c = Served-next _ _ _ (Served-then _ _ _ c.place_node.ensures.served c.set.ensures.served) c.give_back.ensures.step
+returns-clause-served g c = served_next _ _ _ (served_then _ _ _ c.place_node.ensures.served c.set.ensures.served) c.give_back.ensures.step

@@ -1,7 +1,7 @@
 use Rattle.std.proofs.Common.{◌∷◌, [], length, map, sym, ap, arith}
 use Rattle.std.proofs.lemmas.List.{append-nil, length-append, length-map}
 use Rattle.stream_object.specs.Ranges.{seen, taken, turned}
-use Rattle.stream_object.proofs.Picks.{taken_early, taken_all, one_more_taken, length-turned}
+use Rattle.stream_object.proofs.Picks.{taken_early, taken_all, one_more_taken, length_turned}
 use Rattle.stream_object.proofs.picking.take_up.Goals as goal
 
 pub loop-index-init : goal.loop-index-init
@@ -30,7 +30,7 @@ pub returns-clause-found : goal.returns-clause-found
 returns-clause-found c =
     taken_all (map taken c.args.found.now.items) (turned c.args.wanted.back (map seen c.args.picked.now)) (map taken c.loop-index.found.items) c.loop-index.index c.args.wanted.limit
     c.loop-index.invariant.found
-    (omega (arith, length-turned c.args.wanted.back (map seen c.args.picked.now), length-map c.args.picked.now seen, c.loop-index-test.false))
+    (omega (arith, length_turned c.args.wanted.back (map seen c.args.picked.now), length-map c.args.picked.now seen, c.loop-index-test.false))
     (omega (arith, length-map c.loop-index.found.items taken, c.loop-index.invariant.within))
 
 pub returns-clause-within : goal.returns-clause-within

@@ -4,7 +4,7 @@ use Rattle.rax_packed.specs.Paths.{nodes_with}
 use Rattle.rax_packed.specs.Packed.{value_at, with_entry}
 use Rattle.std.specs.Prelude.{◌==◌}
 use Rattle.blocks.specs.Slabs.{Calmer}
-use Rattle.blocks.proofs.Sweeps.{Calmer-next}
+use Rattle.blocks.proofs.Sweeps.{calmer_next}
 use Rattle.stream_node.specs.Ids.{id_number}
 use Rattle.stream_object.specs.Parts.{parts_of, all_refs}
 use Rattle.stream_object.specs.Relocation.{PassesAll, tree_marks}
@@ -121,5 +121,5 @@ returns-clause-count g c =
 pub returns-clause-calmer : goal.returns-clause-calmer
 returns-clause-calmer g c =
     subst (λ h2. Calmer (g.B.BlockStore.heap c.args.store.now) h2) (sym c.set.ensures.slabs)
-    (Calmer-next (g.B.BlockStore.heap c.args.store.now) (g.B.BlockStore.heap c.relocate_path.new.store) (g.B.BlockStore.heap c.settle-new.new.store) c.relocate_path.ensures.calmer
+    (calmer_next (g.B.BlockStore.heap c.args.store.now) (g.B.BlockStore.heap c.relocate_path.new.store) (g.B.BlockStore.heap c.settle-new.new.store) c.relocate_path.ensures.calmer
     c.settle-new.ensures.calmer)

@@ -8,7 +8,7 @@ use Rattle.stream_object.specs.Parts.{Part, part, parts_of, all_refs}
 use Rattle.stream_object.specs.Relocation.{PassesAll, tree_marks}
 use Rattle.stream_object.proofs.Passed.{IsBeside, step_all, step_count, next_all, end_all, each_none, count_zero, count_same, passes_none, passes_same, passes_calm}
 use Rattle.stream_object.proofs.Walkings.{moves_then, moves_none, marks_many, near_beside, all_below, all_small, near_small}
-use Rattle.blocks.proofs.Sweeps.{Calmer-same, Calmer-next}
+use Rattle.blocks.proofs.Sweeps.{calmer_same, calmer_next}
 use Rattle.stream_object.proofs.relocating.pass_keys.Goals as goal
 
 pub returns-then-is_calm : goal.returns-then-is_calm
@@ -20,7 +20,7 @@ returns-then-is_calm g c =
       moves = moves_none m t0 c.requires.parts;
       passed = passes_calm h (is_passed c.args.from c.count_keys.result.next) (tree_marks m t0) (all_refs m t0) (marks_many m t0) c.if-is_calm.ensures;
       bounded = c.count_keys.ensures;
-      calmer = Calmer-same h;
+      calmer = calmer_same h;
     }
 
 pub keys-init : goal.keys-init
@@ -39,7 +39,7 @@ keys-init g c =
       within = omega arith;
       low = omega (arith, is);
       on = λ some. absurd (omega (arith, some));
-      calmer = Calmer-same (g.B.BlockStore.heap c.args.store.now);
+      calmer = calmer_same (g.B.BlockStore.heap c.args.store.now);
     }
 
 pub near-requires : goal.near-requires
@@ -97,7 +97,7 @@ keys-preserved g c =
       within = omega (arith, i.within, c.pass_key-used.ensures.few);
       low = omega (arith, low, next);
       on = λ some. omega (arith, low, next);
-      calmer = Calmer-next (g.B.BlockStore.heap c.args.store.now) h l i.calmer c.pass_key-used.ensures.calmer;
+      calmer = calmer_next (g.B.BlockStore.heap c.args.store.now) h l i.calmer c.pass_key-used.ensures.calmer;
     }
 
 pub keys-smaller : goal.keys-smaller
@@ -303,7 +303,7 @@ returns-in-None-clause-calmer g c =
     let count : c.pass_key-used.result ≡ count_by (λ a. a == n) ks = c.pass_key-used.ensures.count ∙ ap (count_by (λ a. a == n)) i.moves.marks_are in
     let counted : c.keys.used + c.pass_key-used.result ≡ count_by (is_within c.args.from (n + 1)) ks = omega (arith, i.counted, count, step_count c.args.from at n ks low near.reaches beside) in
     let end = end_all c.args.from (n + 1) ks (subst (AllByRecursion (λ k. k < n + 1)) i.moves.marks_are (all_small mid t n c.in-None.ensures.none i.moves.parts)) in
-    Calmer-next (g.B.BlockStore.heap c.args.store.now) h l i.calmer c.pass_key-used.ensures.calmer
+    calmer_next (g.B.BlockStore.heap c.args.store.now) h l i.calmer c.pass_key-used.ensures.calmer
 
 pub returns-clause-moves : goal.returns-clause-moves
 returns-clause-moves g c =

@@ -1,5 +1,5 @@
 use Rattle.std.proofs.Common.{List, ℕ, refl, sym, subst}
-use Rattle.blocks.proofs.Serve.{Served-same}
+use Rattle.blocks.proofs.Serve.{served_same}
 use Rattle.listpack.specs.Pack.{texts}
 use Rattle.stream_node.specs.Entries.{entries_of}
 use Rattle.stream_object.specs.Found.{Becomes}
@@ -38,4 +38,4 @@ returns-clause-loses g c =
     (subst (λ (b : List ℕ). Becomes m after c.args.tree.now c.replace.new.tree c.args.key c.args.at b c.in_ok-replace.field-0) c.deref.ensures.value c.in_ok-replace.ensures.replaced))
 
 pub returns-in_err-pack-clause-served : goal.returns-in_err-pack-clause-served
-returns-in_err-pack-clause-served g c = Served-same _ _ refl
+returns-in_err-pack-clause-served g c = served_same _ _ refl

@@ -4,8 +4,8 @@ use Rattle.std.specs.FinMap.{get, insert}
 use Rattle.std.proofs.lemmas.List.{take_all}
 use Rattle.std.proofs.lemmas.Int.{to_z-of_z}
 use Rattle.blocks.specs.Blocks.{Blocks, Changes, no_step}
-use Rattle.blocks.proofs.Change.{Changes-then}
-use Rattle.blocks.proofs.Serve.{Served-then}
+use Rattle.blocks.proofs.Change.{changes_then}
+use Rattle.blocks.proofs.Serve.{served_then}
 use Rattle.pack_pairs.specs.Pairs.{IsPairAt, pairs}
 use Rattle.pack_pairs.proofs.Packs.{pair_inside}
 use Rattle.score_list.specs.Sorted.{Key}
@@ -45,7 +45,7 @@ add-requires-clause-absent g c =
     ∙ next_absent (pairs bytes) i key c.requires.pack.once (pair_inside bytes i c.in-Some.at c.requires.pack.pack at) there
 
 pub returns-in-Err-clause-served : goal.returns-in-Err-clause-served
-returns-in-Err-clause-served g c = Served-then _ _ _ (Served-then _ _ _ c.loop.invariant.served c.in-Err.ensures.served) c.release.ensures.served
+returns-in-Err-clause-served g c = served_then _ _ _ (served_then _ _ _ c.loop.invariant.served c.in-Err.ensures.served) c.release.ensures.served
 
 pub returns-in-Err-clause-err_blocks : goal.returns-in-Err-clause-err_blocks
 returns-in-Err-clause-err_blocks g c =
@@ -55,7 +55,7 @@ returns-in-Err-clause-err_blocks g c =
     let ended : Changes mid n (table.refs c.loop.table) [] =
     subst (λ (b : Blocks). Changes b n (table.refs c.loop.table) []) c.in-Err.ensures.err_blocks
     (subst (λ t. Changes (g.B.BlockStore.blocks c.add.new.store) n (table.refs t) []) c.in-Err.ensures.err_table c.release.ensures.changes) in
-    all_same m n (Changes-then m mid n [] (table.refs c.loop.table) [] c.loop.invariant.placed.changes ended)
+    all_same m n (changes_then m mid n [] (table.refs c.loop.table) [] c.loop.invariant.placed.changes ended)
 
 pub loop-preserved : goal.loop-preserved
 loop-preserved g c =
@@ -75,7 +75,7 @@ loop-preserved g c =
       place = c.next_place-next.ensures i at;
       placed = subst (λ map. IsPlacedTable m n c.args.seed c.add.new.self map) (ap (λ (map : ScoreMap). insert map key.1 key.0) inv.placed.scores_are ∙ more)
           (placed_then m mid n c.args.seed c.loop.table c.add.new.self _ _ inv.placed added);
-      served = Served-then _ _ _ inv.served c.add.ensures.served;
+      served = served_then _ _ _ inv.served c.add.ensures.served;
     }
 
 pub returns-clause-placed : goal.returns-clause-placed

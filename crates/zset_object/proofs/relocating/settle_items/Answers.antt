@@ -1,5 +1,5 @@
 use Rattle.std.proofs.Common.{◌≡◌, ◌≤◌, ◌<◌, ◌⊎◌, inl, inr, sym, ap, ◌∙◌, arith}
-use Rattle.blocks.proofs.Sweeps.{Calmer-same, Calmer-next}
+use Rattle.blocks.proofs.Sweeps.{calmer_same, calmer_next}
 use Rattle.rehash_dict.specs.Table.{item}
 use Rattle.score_table.proofs.Settling.{settled_same}
 use Rattle.zset_object.proofs.Settling.{settled_more, settled_weaker}
@@ -10,7 +10,7 @@ pub loop-item-init : goal.loop-item-init
 loop-item-init g c = record {
   settled = settled_same (g.B.BlockStore.blocks c.args.store.now) c.args.table.now _ c.requires.sound;
   calm = λ i e low high there. absurd (omega (arith, low, high));
-  calmer = Calmer-same (g.B.BlockStore.heap c.args.store.now);
+  calmer = calmer_same (g.B.BlockStore.heap c.args.store.now);
 }
 
 pub settle_item-requires : goal.settle_item-requires
@@ -27,7 +27,7 @@ loop-item-preserved g c =
       calm = calm_more (g.B.BlockStore.heap c.loop-item.store) (g.B.BlockStore.heap c.settle_item.new.store) c.loop-item.table.table c.settle_item.new.self.table c.args.part.start
           c.loop-item.item one.calmer one.settled.others inv.calm
           (λ i e low high there. let same : i ≡ c.loop-item.item = omega (arith, low, high) in one.calm e (ap (item c.settle_item.new.self.table) (sym same) ∙ there));
-      calmer = Calmer-next (g.B.BlockStore.heap c.args.store.now) (g.B.BlockStore.heap c.loop-item.store) (g.B.BlockStore.heap c.settle_item.new.store) inv.calmer one.calmer;
+      calmer = calmer_next (g.B.BlockStore.heap c.args.store.now) (g.B.BlockStore.heap c.loop-item.store) (g.B.BlockStore.heap c.settle_item.new.store) inv.calmer one.calmer;
     }
 
 pub returns-clause-settled : goal.returns-clause-settled
@@ -52,4 +52,4 @@ pub returns-then-is_calm-clause-calm : goal.returns-then-is_calm-clause-calm
 returns-then-is_calm-clause-calm g c = λ i e low high there. c.if-is_calm.ensures e.key
 
 pub returns-then-is_calm-clause-calmer : goal.returns-then-is_calm-clause-calmer
-returns-then-is_calm-clause-calmer g c = Calmer-same (g.B.BlockStore.heap c.args.store.now)
+returns-then-is_calm-clause-calmer g c = calmer_same (g.B.BlockStore.heap c.args.store.now)

@@ -1,13 +1,13 @@
 use Rattle.std.proofs.Common.{◌∙◌, sym, refl, ap, arith, length, unwrap_or, []}
 use Rattle.blocks.specs.Blocks.{no_step}
-use Rattle.blocks.proofs.Copies.{with_block-kept, live_bytes, copy_step, next_piece, room_left}
-use Rattle.blocks.proofs.Serve.{Served-next}
+use Rattle.blocks.proofs.Copies.{with_block_kept, live_bytes, copy_step, next_piece, room_left}
+use Rattle.blocks.proofs.Serve.{served_next}
 use Rattle.blocks.proofs.store.BlockStore.copy_block.Goals as goal
 
 pub loop-done-init : goal.loop-done-init
 loop-done-init g c = record {
   in_range = omega arith;
-  copied = sym (with_block-kept (g.Self.BlockStore.blocks c.args.self.now) c.args.to _ (live_bytes (g.Self.BlockStore.blocks c.args.self.now) c.args.to c.requires.to_live));
+  copied = sym (with_block_kept (g.Self.BlockStore.blocks c.args.self.now) c.args.to _ (live_bytes (g.Self.BlockStore.blocks c.args.self.now) c.args.to c.requires.to_live));
   slabs = refl;
   served = no_step;
 }
@@ -29,5 +29,5 @@ loop-done-preserved g c =
       copied = copy_step m mid (g.Self.BlockStore.blocks c.write.new.self) c.args.from c.args.to c.loop-done.done 512 c.piece_from-piece.result.now c.loop-done.invariant.copied next
           c.write.ensures.written;
       slabs = c.write.ensures.slabs ∙ c.loop-done.invariant.slabs;
-      served = Served-next _ _ _ c.loop-done.invariant.served c.write.ensures.step;
+      served = served_next _ _ _ c.loop-done.invariant.served c.write.ensures.step;
     }

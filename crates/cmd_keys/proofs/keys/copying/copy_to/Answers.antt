@@ -1,5 +1,5 @@
 use Rattle.std.proofs.Common.{[], ap, sym, arith, ◌∙◌}
-use Rattle.blocks.proofs.Serve.{Served-then}
+use Rattle.blocks.proofs.Serve.{served_then}
 use Rattle.plain_world.specs.Worlds.{deadline_of}
 use Rattle.keyspace.specs.Values.{value_refs}
 use Rattle.keyspace.proofs.Calls.{settings_then}
@@ -20,7 +20,7 @@ returns-in-Ok-clause-world g c =
 pub returns-in-Ok-clause-held : goal.returns-in-Ok-clause-held
 returns-in-Ok-clause-held g c = record {
   sound = c.put.ensures.sound (value_refs (g.B.BlockStore.blocks c.copy_value.new.keyspace.store) c.in-Ok.value) [] c.in-Ok.ensures.sound (λ r. omega arith);
-  served = Served-then _ _ _ c.copy_value.ensures.served c.put.ensures.served;
+  served = served_then _ _ _ c.copy_value.ensures.served c.put.ensures.served;
   settings = settings_then c.args.keyspace.now.bases c.copy_value.new.keyspace.bases c.put.new.self.bases c.copy_value.ensures.settings c.put.ensures.settings;
   within = copied_within c.args.at.now.db c.args.from.now c.args.number c.args.to.now c.args.keyspace.now.bases c.copy_value.new.keyspace.bases c.put.new.self.bases
       (g.B.BlockStore.blocks c.args.keyspace.now.store) (g.B.BlockStore.blocks c.copy_value.new.keyspace.store) (g.B.BlockStore.blocks c.put.new.self.store) c.copy_value.ensures.within

@@ -3,7 +3,7 @@ use Rattle.keyspace.proofs.Running.{same_settings}
 use Rattle.keyspace.specs.Scopes.{no_key}
 use Rattle.keyspace.proofs.Serving.{unmoved, further}
 use Rattle.keyspace.proofs.Calls.{settings_then}
-use Rattle.blocks.proofs.Serve.{Served-then}
+use Rattle.blocks.proofs.Serve.{served_then}
 use Rattle.blocks.specs.Blocks.{no_step}
 use Rattle.cmd_keys.proofs.keys.removing.remove_keys.Goals as goal
 
@@ -34,7 +34,7 @@ loop-key-preserved g c =
       world = search rules;
       sound = c.remove_key.ensures.held.sound;
       served =
-          Served-then _ _ _ c.loop-key.invariant.served c.remove_key.ensures.held.served;
+          served_then _ _ _ c.loop-key.invariant.served c.remove_key.ensures.held.served;
       within =
           further (no_key c.args.at.now.db) _ _ _ _ _ _ c.loop-key.invariant.within c.remove_key.ensures.held.within;
       settings =

@@ -1,7 +1,7 @@
 use Rattle.keyspace.specs.Values.{OfText}
-use Rattle.blocks.proofs.Serve.{Served-then}
+use Rattle.blocks.proofs.Serve.{served_then}
 use Rattle.keyspace.specs.declared.value.Value.TheVariants as values
-use Rattle.keyspace.proofs.Uses.{Made-intact, Put-sound, Put-within}
+use Rattle.keyspace.proofs.Uses.{made_intact, put_sound_in_uses, put_within_in_uses}
 use Rattle.cmd_values.proofs.StringLemmas.{replaced}
 use Rattle.cmd_values.proofs.Sought.{kept_seeks}
 use Rattle.std.proofs.Common.{sym, subst, ap}
@@ -14,7 +14,7 @@ use Rattle.keyspace.proofs.Forming.{formed_put}
 use Rattle.cmd_values.proofs.strings.writing.put_lasting.Goals as goal
 
 pub put_sought-requires-clause-intact : goal.put_sought-requires-clause-intact
-put_sought-requires-clause-intact g c = Made-intact _ _ _ (values.Text c.in_ok-text.text) c.requires.ready.sound c.in_ok-text.ensures.changes tt
+put_sought-requires-clause-intact g c = made_intact _ _ _ (values.Text c.in_ok-text.text) c.requires.ready.sound c.in_ok-text.ensures.changes tt
 
 pub put_sought-requires-clause-seeks : goal.put_sought-requires-clause-seeks
 put_sought-requires-clause-seeks g c =
@@ -27,10 +27,10 @@ returns-clause-world g c =
 
 pub returns-clause-held : goal.returns-clause-held
 returns-clause-held g c = record {
-  sound = Put-sound _ _ _ (values.Text c.in_ok-text.text) c.requires.ready.sound c.in_ok-text.ensures.changes _ _ c.put_sought.ensures.sound;
-  served = Served-then _ _ _ c.in_ok-text.ensures.served c.put_sought.ensures.served;
+  sound = put_sound_in_uses _ _ _ (values.Text c.in_ok-text.text) c.requires.ready.sound c.in_ok-text.ensures.changes _ _ c.put_sought.ensures.sound;
+  served = served_then _ _ _ c.in_ok-text.ensures.served c.put_sought.ensures.served;
   settings = c.put_sought.ensures.settings;
-  within = Put-within _ _ _ (values.Text c.in_ok-text.text) c.requires.ready.sound c.in_ok-text.ensures.changes _ _ _ c.put_sought.ensures.within;
+  within = put_within_in_uses _ _ _ (values.Text c.in_ok-text.text) c.requires.ready.sound c.in_ok-text.ensures.changes _ _ _ c.put_sought.ensures.within;
 }
 
 pub returns-in_err-text-clause-held : goal.returns-in_err-text-clause-held

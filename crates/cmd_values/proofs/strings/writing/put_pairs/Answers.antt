@@ -1,7 +1,7 @@
 use Rattle.std.proofs.Common.{◌≡◌, rules, refl, subst, drop, ◌+◌}
 use Rattle.std.specs.Prelude.{◌∷◌}
 use Rattle.blocks.specs.Blocks.{no_step}
-use Rattle.blocks.proofs.Serve.{Served-then}
+use Rattle.blocks.proofs.Serve.{served_then}
 use Rattle.keyspace.specs.Scopes.{some_keys, first_words}
 use Rattle.keyspace.proofs.Calls.{settings_then}
 use Rattle.keyspace.proofs.Running.{same_settings}
@@ -32,7 +32,7 @@ returns-in_err-put_string-clause-held g c =
     let part : ArePart (pair ∷ others) c.args.pairs.now = subst (λ l. ArePart l c.args.pairs.now) is c.loop-pair.invariant.part in
     record {
       sound = held.sound;
-      served = Served-then _ _ _ c.loop-pair.invariant.served held.served;
+      served = served_then _ _ _ c.loop-pair.invariant.served held.served;
       settings = settings_then _ _ _ c.loop-pair.invariant.settings held.settings;
       within = further (some_keys c.args.at.now.db (first_words c.args.pairs.now)) c.args.keyspace.now.bases c.loop-pair.keyspace.bases c.put_string.new.keyspace.bases
           (blocks c.args.keyspace.now.store) (blocks c.loop-pair.keyspace.store) (blocks c.put_string.new.keyspace.store) c.loop-pair.invariant.within
@@ -51,7 +51,7 @@ loop-pair-preserved g c =
     record {
       world = search rules;
       sound = held.sound;
-      served = Served-then _ _ _ c.loop-pair.invariant.served held.served;
+      served = served_then _ _ _ c.loop-pair.invariant.served held.served;
       part = rest_part pair others c.args.pairs.now part;
       forms = formed_then blocks c.args.keyspace.now c.loop-pair.keyspace c.put_string.new.keyspace c.loop-pair.invariant.forms c.in_ok-put_string.ensures.forms;
       settings = settings_then _ _ _ c.loop-pair.invariant.settings held.settings;

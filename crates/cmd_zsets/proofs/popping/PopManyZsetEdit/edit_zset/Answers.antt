@@ -1,7 +1,7 @@
 use Rattle.std.proofs.Common.{◌≡◌, refl, sym, ap, ◌∙◌, min, length, rules}
 use Rattle.std.specs.FinMap.{len}
 use Rattle.blocks.specs.Blocks.{no_step}
-use Rattle.blocks.proofs.Change.{Changes-same}
+use Rattle.blocks.proofs.Change.{changes_same}
 use Rattle.zset_object.specs.Scored.{scores, ranked, form_of}
 use Rattle.zset_object.proofs.Depends.{scored_laws_hold}
 use Rattle.cmd_zsets.proofs.Ranked.{ranked_is}

@@ -1,6 +1,6 @@
 use Rattle.std.proofs.Common.{◌∙◌, ◌≡◌, ◌+◌, ◌-◌, [], refl, sym, subst, arith}
 use Rattle.blocks.specs.Slabs.{slabs_of, needed}
-use Rattle.blocks.proofs.Sweeps.{Swept-ends}
+use Rattle.blocks.proofs.Sweeps.{swept_ends}
 use Rattle.held.specs.Sound.{Sound}
 use Rattle.held.proofs.Bases.{sound_kept}
 use Rattle.defrag.specs.Swept.{HasPassed}
@@ -54,7 +54,7 @@ returns-clause-least g c done sound swept class below =
     sound_kept g.V.Stored.refs_of g.V.Stored.value_of g.met.V.Stored.reads_own c.args.keyspace.now.bases c.legs.keyspace.bases (g.B.BlockStore.blocks c.args.keyspace.now.store)
     (g.B.BlockStore.blocks c.legs.keyspace.store) inv.relocates.changes inv.relocates.arranged [] sound in
     subst (λ h. slabs_of h class ≡ needed h class) (sym c.end_pass.ensures.ended)
-    (Swept-ends (g.B.BlockStore.blocks c.legs.keyspace.store) (g.B.BlockStore.heap c.legs.keyspace.store)
+    (swept_ends (g.B.BlockStore.blocks c.legs.keyspace.store) (g.B.BlockStore.heap c.legs.keyspace.store)
     (HasPassed (g.V.Stored.refs_of (g.B.BlockStore.blocks c.legs.keyspace.store)) (g.V.Stored.marks (g.B.BlockStore.blocks c.legs.keyspace.store)) c.legs.keyspace.bases c.legs.self)
     (g.met.B.BlockStore.sound c.legs.keyspace.store) (inv.swept swept)
     (all_passed (g.V.Stored.refs_of (g.B.BlockStore.blocks c.legs.keyspace.store)) (g.V.Stored.marks (g.B.BlockStore.blocks c.legs.keyspace.store)) c.legs.keyspace.bases

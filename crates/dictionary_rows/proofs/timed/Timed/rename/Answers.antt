@@ -1,12 +1,12 @@
 use Rattle.std.proofs.Common.{Some, sym, subst, ◌∙◌, refl}
 use Rattle.blocks.specs.Plain.{plain_blocks}
 use Rattle.rehash_dict.specs.Keyed.{Keyed, Stands}
-use Rattle.rehash_dict.proofs.Fresh.{Keyed-fresh, placed_bytes, stands_bytes}
+use Rattle.rehash_dict.proofs.Fresh.{keyed_fresh, placed_bytes, stands_bytes}
 use Rattle.dictionary_rows.proofs.timed.Timed.rename.Goals as goal
 
 pub find-requires : goal.find-requires
 find-requires c = subst (Keyed (plain_blocks c.put_block.new.store)) (sym c.table.ensures)
-    (Keyed-fresh (plain_blocks c.self.inside.store) (plain_blocks c.put_block.new.store) c.in_ok-block.block (Some c.args.key.now) c.self.inside.deadlines.table c.self.invariant
+    (keyed_fresh (plain_blocks c.self.inside.store) (plain_blocks c.put_block.new.store) c.in_ok-block.block (Some c.args.key.now) c.self.inside.deadlines.table c.self.invariant
     c.in_ok-block.ensures.fresh c.in_ok-block.ensures.placed).0
 
 pub invariant_of-self-in-Some : goal.invariant_of-self-in-Some
@@ -14,7 +14,7 @@ invariant_of-self-in-Some c =
     let blocks = plain_blocks c.put_block.new.store in
     let stands = subst (λ t. Stands blocks t c.in-Some.at c.args.key.now) c.table.ensures c.in-Some.ensures.found in
     (c.swap_ref.ensures.renames.keyed blocks blocks
-    (Keyed-fresh (plain_blocks c.self.inside.store) (plain_blocks c.put_block.new.store) c.in_ok-block.block (Some c.args.key.now) c.self.inside.deadlines.table c.self.invariant
+    (keyed_fresh (plain_blocks c.self.inside.store) (plain_blocks c.put_block.new.store) c.in_ok-block.block (Some c.args.key.now) c.self.inside.deadlines.table c.self.invariant
     c.in_ok-block.ensures.fresh c.in_ok-block.ensures.placed).0
     (placed_bytes (plain_blocks c.self.inside.store) blocks c.in_ok-block.block c.args.key.now c.in_ok-block.ensures.placed
     ∙ sym (stands_bytes blocks c.self.inside.deadlines.table c.in-Some.at c.args.key.now c.swap_ref.ensures.renames.element stands c.swap_ref.ensures.renames.found))
@@ -22,5 +22,5 @@ invariant_of-self-in-Some c =
 
 pub invariant_of-self-in-None : goal.invariant_of-self-in-None
 invariant_of-self-in-None c =
-    (Keyed-fresh (plain_blocks c.self.inside.store) (plain_blocks c.put_block.new.store) c.in_ok-block.block (Some c.args.key.now) c.self.inside.deadlines.table c.self.invariant
+    (keyed_fresh (plain_blocks c.self.inside.store) (plain_blocks c.put_block.new.store) c.in_ok-block.block (Some c.args.key.now) c.self.inside.deadlines.table c.self.invariant
     c.in_ok-block.ensures.fresh c.in_ok-block.ensures.placed).0

@@ -3,7 +3,7 @@ use Rattle.blocks.specs.Blocks.{Changes}
 use Rattle.blocks.specs.Plain.{Plain, plain_blocks}
 use Rattle.keyspace.specs.Sound.{SoundBeside}
 use Rattle.keyspace.specs.Values.{value_refs, IsSound}
-use Rattle.keyspace.proofs.Uses.{Lower-intact, Lower-sound, lifted_sound}
+use Rattle.keyspace.proofs.Uses.{lower_intact, lower_sound, lifted_sound}
 use Rattle.engine_rows.proofs.standing.Held.renumber.Goals as goal
 
 pub lower-requires-clause-intact : goal.lower-requires-clause-intact
@@ -16,7 +16,7 @@ lower-requires-clause-intact c =
     let changes = subst (λ (s : Plain). Changes (plain_blocks s) after (value_refs (plain_blocks s) value) (value_refs after c.renumbered-value.result)) c.lift.ensures.store
     c.renumbered-value.ensures.changes in
     let sound = lifted_sound keyspace.bases mid m c.args.db 0 c.args.key.now c.in-Some.field-0 c.self.invariant.arranged c.lift.ensures.settings c.in-Some.ensures.lifts in
-    Lower-intact keyspace.bases mid m after c.args.db 0 c.args.key.now c.in-Some.field-0 (record { db = c.in-Some.db; item = c.in-Some.item; value = c.renumbered-value.result }) []
+    lower_intact keyspace.bases mid m after c.args.db 0 c.args.key.now c.in-Some.field-0 (record { db = c.in-Some.db; item = c.in-Some.item; value = c.renumbered-value.result }) []
     c.in-Some.ensures.lifts (c.in-Some.ensures.sound [] c.self.invariant) changes (sym c.in-Some.db-is) (sym c.in-Some.item-is)
     (c.renumbered-value.ensures.sound mid.limits mid.seed (subst (λ (s : Plain). IsSound mid.limits mid.seed (plain_blocks s) value) (sym c.lift.ensures.store) sound))
 
@@ -30,5 +30,5 @@ invariant_of-self-2 c =
     let changes = subst (λ (s : Plain). Changes (plain_blocks s) after (value_refs (plain_blocks s) value) (value_refs after c.renumbered-value.result)) c.lift.ensures.store
     c.renumbered-value.ensures.changes in
     subst (λ (s : Plain). SoundBeside c.lower.new.self.bases (plain_blocks s) []) (sym c.lower.ensures.store)
-    (Lower-sound keyspace.bases mid m after c.args.db 0 c.args.key.now c.in-Some.field-0 (record { db = c.in-Some.db; item = c.in-Some.item; value = c.renumbered-value.result }) []
+    (lower_sound keyspace.bases mid m after c.args.db 0 c.args.key.now c.in-Some.field-0 (record { db = c.in-Some.db; item = c.in-Some.item; value = c.renumbered-value.result }) []
     c.in-Some.ensures.lifts (c.in-Some.ensures.sound [] c.self.invariant) changes (sym c.in-Some.db-is) (sym c.in-Some.item-is) c.lower.new.self.bases c.lower.ensures.sound)

@@ -4,7 +4,7 @@ use Rattle.blocks.specs.Blocks.{bytes_at}
 use Rattle.rehash_dict.specs.Keyed.{hash_of, Stands, Keyed, key_tables}
 use Rattle.rehash_dict.specs.MapOf.{content}
 use Rattle.rehash_dict.specs.Grown.{Grown}
-use Rattle.rehash_dict.proofs.Growing.{Grown-same}
+use Rattle.rehash_dict.proofs.Growing.{grown_same}
 use Rattle.expiry.specs.Changes.{Sets}
 use Rattle.expiry.specs.Changes.Sets.{changes}
 use Rattle.expiry.proofs.Setting.{joined, keyed_joined, moments_set, grown_set}
@@ -76,5 +76,5 @@ returns-after-insert_hashed-clause-grown g c =
           (subst (λ r. OnOk r (Sets m c.args.self.now.table c.insert_hashed.new.self c.args.key c.args.deadline)) w.result-is (returns-after-insert_hashed-clause-set g c))
       | in-Err w ↦
           subst (λ t. Grown (hash_of t.seed) (key_tables m t) (key_tables m c.insert_hashed.new.self)) (ap (λ d. d.table) c.self.view_is)
-          (Grown-same (hash_of c.self.inside.table.seed) _ _ (ap (key_tables m) w.in-Err.ensures.err))
+          (grown_same (hash_of c.self.inside.table.seed) _ _ (ap (key_tables m) w.in-Err.ensures.err))
     ]

@@ -1,15 +1,15 @@
 use Rattle.blocks.specs.Plain.{plain_blocks}
 use Rattle.keyspace.specs.declared.value.Value.TheVariants.{Text}
-use Rattle.keyspace.proofs.Uses.{Made-intact, Put-sound}
+use Rattle.keyspace.proofs.Uses.{made_intact, put_sound_in_uses}
 use Rattle.file_rows.proofs.standing.Held.set.Goals as goal
 
 pub put-requires-clause-intact : goal.put-requires-clause-intact
 put-requires-clause-intact c =
     let keyspace = c.self.inside.keyspace in
-    Made-intact keyspace.bases (plain_blocks keyspace.store) (plain_blocks c.make.new.store) (Text c.in_ok-text.text) c.self.invariant c.in_ok-text.ensures.changes tt
+    made_intact keyspace.bases (plain_blocks keyspace.store) (plain_blocks c.make.new.store) (Text c.in_ok-text.text) c.self.invariant c.in_ok-text.ensures.changes tt
 
 pub invariant_of-self-2 : goal.invariant_of-self-2
 invariant_of-self-2 c =
     let keyspace = c.self.inside.keyspace in
-    Put-sound keyspace.bases (plain_blocks keyspace.store) (plain_blocks c.make.new.store) (Text c.in_ok-text.text) c.self.invariant c.in_ok-text.ensures.changes
+    put_sound_in_uses keyspace.bases (plain_blocks keyspace.store) (plain_blocks c.make.new.store) (Text c.in_ok-text.text) c.self.invariant c.in_ok-text.ensures.changes
     c.put.new.self.bases (plain_blocks c.put.new.self.store) c.put.ensures.sound

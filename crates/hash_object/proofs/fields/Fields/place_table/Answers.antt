@@ -1,8 +1,8 @@
 use Rattle.std.proofs.Common.{[], subst}
 use Rattle.std.specs.FinMap.{insert}
 use Rattle.blocks.specs.Blocks.{Blocks, Changes}
-use Rattle.blocks.proofs.Change.{Changes-then}
-use Rattle.blocks.proofs.Serve.{Served-then}
+use Rattle.blocks.proofs.Change.{changes_then}
+use Rattle.blocks.proofs.Serve.{served_then}
 use Rattle.hash_object.specs.Hashed.{IsHashed, no_fields, blocks_of}
 use Rattle.hash_object.specs.Fields.{fields}
 use Rattle.hash_object.proofs.Tables.{hashed_then, all_same}
@@ -23,10 +23,10 @@ returns-in-Ok-clause-placed g c =
     (subst (λ map. IsHashed mid n c.in_ok-table.table c.set_field.new.table (insert map k v)) h.fields_are c.in-Ok.ensures.hashed))
 
 pub returns-in-Ok-clause-served : goal.returns-in-Ok-clause-served
-returns-in-Ok-clause-served g c = Served-then _ _ _ c.hash_all.ensures.served c.set_field.ensures.served
+returns-in-Ok-clause-served g c = served_then _ _ _ c.hash_all.ensures.served c.set_field.ensures.served
 
 pub returns-in-Err-clause-served : goal.returns-in-Err-clause-served
-returns-in-Err-clause-served g c = Served-then _ _ _ (Served-then _ _ _ c.hash_all.ensures.served c.set_field.ensures.served) c.end_table.ensures.served
+returns-in-Err-clause-served g c = served_then _ _ _ (served_then _ _ _ c.hash_all.ensures.served c.set_field.ensures.served) c.end_table.ensures.served
 
 pub returns-in-Err-clause-err_blocks : goal.returns-in-Err-clause-err_blocks
 returns-in-Err-clause-err_blocks g c =
@@ -37,4 +37,4 @@ returns-in-Err-clause-err_blocks g c =
     let ended : Changes mid n (blocks_of table) [] =
     subst (λ (b : Blocks). Changes b n (blocks_of table) []) c.in-Err.ensures.err_blocks
     (subst (λ t. Changes (g.B.BlockStore.blocks c.set_field.new.store) n (blocks_of t) []) c.in-Err.ensures.err_table c.end_table.ensures.changes) in
-    all_same m n (Changes-then m mid n [] (blocks_of table) [] c.in_ok-table.ensures.hashed.changes ended)
+    all_same m n (changes_then m mid n [] (blocks_of table) [] c.in_ok-table.ensures.hashed.changes ended)

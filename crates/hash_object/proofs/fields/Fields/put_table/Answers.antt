@@ -1,7 +1,7 @@
 use Rattle.std.proofs.Common.{◌≡◌, [], sym, ap, ◌∙◌, subst}
 use Rattle.std.specs.FinMap.{insert}
 use Rattle.blocks.specs.Blocks.{Changes}
-use Rattle.blocks.proofs.Serve.{Served-then}
+use Rattle.blocks.proofs.Serve.{served_then}
 use Rattle.object_codec.specs.declared.form.Form.TheVariants.{Hashtable}
 use Rattle.rehash_dict.specs.Keyed.{hash_of}
 use Rattle.rehash_dict.specs.Grown.{Grown}
@@ -27,4 +27,4 @@ pub returns-clause-form : goal.returns-clause-form
 returns-clause-form g c = subst (λ (b : Body). form_of_body b ≡ Hashtable) (sym c.replace.ensures.after) c.in_ok-body.ensures.form
 
 pub returns-clause-served : goal.returns-clause-served
-returns-clause-served g c = Served-then _ _ _ c.place_table.ensures.served c.release.ensures.served
+returns-clause-served g c = served_then _ _ _ c.place_table.ensures.served c.release.ensures.served

@@ -1,7 +1,7 @@
 use Rattle.std.proofs.Common.{is_some, [], sym, ap, ◌∙◌, subst, refl}
 use Rattle.std.specs.FinMap.{remove}
 use Rattle.blocks.specs.Blocks.{Changes}
-use Rattle.blocks.proofs.Serve.{Served-then}
+use Rattle.blocks.proofs.Serve.{served_then}
 use Rattle.rehash_dict.specs.Keyed.{hash_of}
 use Rattle.rehash_dict.specs.Grown.{Grown}
 use Rattle.rehash_dict.specs.Tables.{IsSettled}
@@ -28,7 +28,7 @@ returns-in-Some g c =
           (body_changed m mid n self c.in-Some.body map c.requires p.sound p.changes released p.fields_are grown);
       form = ap form_of_body c.replace.ensures.after ∙ form ∙ sym (listed_ofpack self.body c.in_default.not-Table);
       settled = λ _. subst (λ (b : Body). IsSettled (tables_of n b)) (sym c.replace.ensures.after) (placed_settled n c.in-Some.body form);
-      served = Served-then _ _ _ c.place_without.ensures.served c.release.ensures.served;
+      served = served_then _ _ _ c.place_without.ensures.served c.release.ensures.served;
       same_fields = λ h. absurd cc;
       same_blocks = λ h. absurd cc;
       err_fields = tt;

@@ -1,7 +1,7 @@
 use Rattle.std.proofs.Common.{◌≡◌, [], refl, sym, subst}
 use Rattle.std.specs.Prelude.{IsTrue}
 use Rattle.blocks.specs.Blocks.{Changes, no_step}
-use Rattle.blocks.proofs.Serve.{Served-then}
+use Rattle.blocks.proofs.Serve.{served_then}
 use Rattle.listpack.specs.Pack.{texts}
 use Rattle.object_codec.specs.Forms.{IsLeast}
 use Rattle.pack_pairs.specs.Pairs.{paired, map_of_pairs}
@@ -43,7 +43,7 @@ returns-in-Some g c =
       order = λ h. subst (λ (b : Body). listed_of n b ≡ paired xs) (sym c.replace.ensures.after) (whole_order m mid n self xs c.in-Some.body c.requires fresh.0 p released);
       form = λ h. subst (λ (b : Body). IsLeast (FitsFields self.limits (fields_of n b)) (form_of_body b)) (sym c.replace.ensures.after)
           (whole_form m mid n self xs c.in-Some.body c.requires fresh.0 p released);
-      served = Served-then _ _ _ c.place_whole.ensures.served c.release.ensures.served;
+      served = served_then _ _ _ c.place_whole.ensures.served c.release.ensures.served;
       same_fields = λ h. absurd cc;
       same_blocks = λ h. absurd cc;
       err_fields = tt;

@@ -1,6 +1,6 @@
 use Rattle.std.proofs.Common.{◌≡◌, length, refl, arith}
 use Rattle.blocks.specs.Blocks.{no_step}
-use Rattle.blocks.proofs.Serve.{Served-then}
+use Rattle.blocks.proofs.Serve.{served_then}
 use Rattle.held.proofs.Calls.{settings_then}
 use Rattle.held.proofs.Turns.{drop_begins, drop_intact, next_named, drop_next, drop_ends}
 use Rattle.held.proofs.keyspace.Keyspace.drop_found.Goals as goal
@@ -31,7 +31,7 @@ loop-index-preserved g c = record {
       (g.B.BlockStore.blocks c.args.self.now.store) (g.B.BlockStore.blocks c.loop-index.self.store) c.args.db c.args.moment c.loop-index.index c.at.result
       c.requires.gone c.requires.once c.at.ensures c.loop-index.invariant.dropped c.drop_named.new.self.bases (g.B.BlockStore.blocks c.drop_named.new.self.store)
       c.drop_named.ensures.means c.drop_named.ensures.loses c.drop_named.ensures.thinned c.drop_named.ensures.within c.drop_named.ensures.arranged c.drop_named.ensures.changes;
-  served = Served-then _ _ _ c.loop-index.invariant.served c.drop_named.ensures.served;
+  served = served_then _ _ _ c.loop-index.invariant.served c.drop_named.ensures.served;
   settings = settings_then g.V.Stored.refs_of g.V.Stored.value_of g.met.V.Stored.reads_own _ _ _ c.loop-index.invariant.settings c.drop_named.ensures.settings;
 }
 

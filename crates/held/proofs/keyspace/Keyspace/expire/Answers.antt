@@ -1,6 +1,6 @@
 use Rattle.std.proofs.Common.{◌+◌, refl, sym, subst, arith}
 use Rattle.blocks.specs.Blocks.{no_step}
-use Rattle.blocks.proofs.Serve.{Served-then}
+use Rattle.blocks.proofs.Serve.{served_then}
 use Rattle.held.specs.Expiry.{Expired, start, more}
 use Rattle.held.proofs.Turns.{outlives_none, outlives_next, lives_later}
 use Rattle.held.proofs.keyspace.Keyspace.expire.Goals as goal
@@ -24,7 +24,7 @@ loop-preserved g c = record {
   outlives = outlives_next g.V.Stored.refs_of g.V.Stored.value_of g.met.V.Stored.reads_own c.args.self.now.bases c.loop.self.bases c.expire_one-dropped.new.self.bases
       (g.B.BlockStore.blocks c.args.self.now.store) (g.B.BlockStore.blocks c.loop.self.store) (g.B.BlockStore.blocks c.expire_one-dropped.new.self.store) c.args.moment
       c.loop.invariant.outlives c.expire_one-dropped.ensures.step c.expire_one-dropped.ensures.lives c.expire_one-dropped.ensures.arranged c.expire_one-dropped.ensures.changes;
-  served = Served-then _ _ _ c.loop.invariant.served c.expire_one-dropped.ensures.served;
+  served = served_then _ _ _ c.loop.invariant.served c.expire_one-dropped.ensures.served;
   none = λ first. absurd (omega (arith, first));
   few = (let before = c.loop.invariant.few in let one = c.expire_one-dropped.ensures.few in omega (arith, before, one));
 }

@@ -1,4 +1,4 @@
-use Rattle.blocks.proofs.Serve.{Served-next}
+use Rattle.blocks.proofs.Serve.{served_next}
 use Rattle.held.proofs.Calls.{placed_bytes, placed_intact, placed_lacks, new_means, new_only, new_arranged, new_changes, back_means, back_arranged, back_blocks, back_keys, back_owned}
 use Rattle.held.proofs.Calls.{new_within, back_within}
 use Rattle.held.specs.Scopes.{one_key}
@@ -96,7 +96,7 @@ returns-in-Err-clause-err_owned g c =
     c.in-Ok.ensures.changes c.in-Ok.ensures.fresh c.insert_hashed.new.self c.args.db c.in-Err.ensures.stays after c.give_back.ensures.ended
 
 pub returns-in-Err-clause-served : goal.returns-in-Err-clause-served
-returns-in-Err-clause-served g c = Served-next _ _ _ c.put_block.ensures.served c.give_back.ensures.step
+returns-in-Err-clause-served g c = served_next _ _ _ c.put_block.ensures.served c.give_back.ensures.step
 
 pub returns-in-Ok-insert_hashed-clause-within : goal.returns-in-Ok-insert_hashed-clause-within
 returns-in-Ok-insert_hashed-clause-within g c = new_within g.V.Stored.refs_of g.V.Stored.value_of g.met.V.Stored.reads_own c.args.self.now.bases

@@ -1,6 +1,6 @@
 use Rattle.std.proofs.Common.{◌≡◌, ℕ, ◌+◌, cond, refl, ap, arith}
 use Rattle.blocks.specs.Blocks.{no_step}
-use Rattle.blocks.proofs.Serve.{Served-then}
+use Rattle.blocks.proofs.Serve.{served_then}
 use Rattle.held.specs.Scopes.{no_key}
 use Rattle.held.proofs.Within.{within_none, within_then}
 use Rattle.held.proofs.Purging.{purge_begins, purge_next, purge_ends}
@@ -27,7 +27,7 @@ loop-at-preserved g c =
           (g.B.BlockStore.blocks c.args.self.now.store) (g.B.BlockStore.blocks c.loop-at.self.store) (g.B.BlockStore.blocks c.drop_passed.new.self.store) c.args.db c.args.moment
           c.loop-at.at c.loop-at.count c.drop_passed.result c.if-drop_passed.count counted
           c.loop-at.invariant.purged c.drop_passed.ensures.thins c.drop_passed.ensures.in_time c.drop_passed.ensures.arranged c.drop_passed.ensures.changes;
-      served = Served-then _ _ _ c.loop-at.invariant.served c.drop_passed.ensures.served;
+      served = served_then _ _ _ c.loop-at.invariant.served c.drop_passed.ensures.served;
       within = within_then g.V.Stored.refs_of (no_key c.args.db) c.args.self.now.bases c.loop-at.self.bases c.drop_passed.new.self.bases (g.B.BlockStore.blocks c.args.self.now.store)
           (g.B.BlockStore.blocks c.loop-at.self.store) (g.B.BlockStore.blocks c.drop_passed.new.self.store) c.loop-at.invariant.within c.drop_passed.ensures.within;
       settings = settings_then g.V.Stored.refs_of g.V.Stored.value_of g.met.V.Stored.reads_own _ _ _ c.loop-at.invariant.settings c.drop_passed.ensures.settings;

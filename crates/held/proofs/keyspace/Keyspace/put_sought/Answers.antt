@@ -1,5 +1,5 @@
 use Rattle.std.proofs.Common.{◌≡◌, subst}
-use Rattle.blocks.proofs.Serve.{Served-then}
+use Rattle.blocks.proofs.Serve.{served_then}
 use Rattle.held.specs.Databases.{means}
 use Rattle.held.specs.Sound.{IsArranged}
 use Rattle.held.proofs.Bases.{sound_joined}
@@ -78,7 +78,7 @@ returns-in-Err-clause-sound g c =
     c.in-Err.ensures.err_blocks c.release.ensures.changes))
 
 pub returns-in-Err-clause-served : goal.returns-in-Err-clause-served
-returns-in-Err-clause-served g c = Served-then _ _ _ c.place_sought.ensures.served c.release.ensures.served
+returns-in-Err-clause-served g c = served_then _ _ _ c.place_sought.ensures.served c.release.ensures.served
 
 pub returns-in-Err-clause-within : goal.returns-in-Err-clause-within
 returns-in-Err-clause-within g c =

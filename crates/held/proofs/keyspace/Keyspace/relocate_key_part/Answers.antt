@@ -1,5 +1,5 @@
 use Rattle.std.proofs.Common.{arith}
-use Rattle.blocks.proofs.Sweeps.{Calmer-next}
+use Rattle.blocks.proofs.Sweeps.{calmer_next}
 use Rattle.held.proofs.Relocating.{relocates_then, element_passes}
 use Rattle.held.proofs.keyspace.Keyspace.relocate_key_part.Goals as goal
 
@@ -20,5 +20,5 @@ returns-in_default-clause-passes g c =
     (g.B.BlockStore.blocks c.pass_name.new.self.store) p.was.value p.stays (c.requires.intact.arranged.values c.args.db c.args.at p.was p.replaces.found))
 
 pub returns-in_default-clause-calmer : goal.returns-in_default-clause-calmer
-returns-in_default-clause-calmer g c = Calmer-next (g.B.BlockStore.heap c.args.self.now.store) (g.B.BlockStore.heap c.pass_name.new.self.store)
+returns-in_default-clause-calmer g c = calmer_next (g.B.BlockStore.heap c.args.self.now.store) (g.B.BlockStore.heap c.pass_name.new.self.store)
     (g.B.BlockStore.heap c.pass_value-moved.new.self.store) c.pass_name.ensures.calmer c.pass_value-moved.ensures.calmer

@@ -1,8 +1,8 @@
 use Rattle.stored.specs.Owning.{IsBlank}
 use Rattle.std.proofs.Common.{is_some, refl, sym, ap, ◌∙◌, subst}
 use Rattle.blocks.specs.Blocks.{no_step}
-use Rattle.blocks.proofs.Serve.{Served-then}
-use Rattle.blocks.proofs.Change.{Changes-then}
+use Rattle.blocks.proofs.Serve.{served_then}
+use Rattle.blocks.proofs.Change.{changes_then}
 use Rattle.held.proofs.Timing.{some_none}
 use Rattle.held.proofs.Calls.{look_lacks, look_stands, deadline_seen}
 use Rattle.held.proofs.Renaming.{deadline_late, moved_writes, out_with, out_look, moved_means, moved_sound, moved_changes, refused_world, refused_sound, refused_same, refused_owns}
@@ -110,7 +110,7 @@ returns-in-Ok-clause-sound g c out sound =
 
 pub returns-in-Ok-clause-changes : goal.returns-in-Ok-clause-changes
 returns-in-Ok-clause-changes g c =
-    Changes-then (g.B.BlockStore.blocks c.args.self.now.store) (g.B.BlockStore.blocks c.place_sought.new.self.store) (g.B.BlockStore.blocks c.drop_hashed-there.new.self.store) _ _ _
+    changes_then (g.B.BlockStore.blocks c.args.self.now.store) (g.B.BlockStore.blocks c.place_sought.new.self.store) (g.B.BlockStore.blocks c.drop_hashed-there.new.self.store) _ _ _
     (moved_changes g.V.Stored.refs_of g.V.Stored.value_of g.met.V.Stored.reads_own c.args.self.now.bases c.swap_value-value.new.self c.args.db
     (g.B.BlockStore.blocks c.args.self.now.store) c.requires.intact c.args.from.now c.in-Some.at (rw c.in-Some.is at c.requires.seeks.stands) c.args.found.deadline
     (deadline_seen g.V.Stored.refs_of g.V.Stored.value_of g.met.V.Stored.reads_own c.args.self.now.bases c.args.db (g.B.BlockStore.blocks c.args.self.now.store)
@@ -120,7 +120,7 @@ returns-in-Ok-clause-changes g c =
     c.args.to_db c.args.to.now c.place_sought.new.self.bases (g.B.BlockStore.blocks c.place_sought.new.self.store) c.in-Ok.ensures.changes c.in-Ok.ensures.arranged) c.drop_hashed-there.ensures.changes
 
 pub returns-in-Ok-clause-served : goal.returns-in-Ok-clause-served
-returns-in-Ok-clause-served g c = Served-then _ _ _ c.place_sought.ensures.served c.drop_hashed-there.ensures.served
+returns-in-Ok-clause-served g c = served_then _ _ _ c.place_sought.ensures.served c.drop_hashed-there.ensures.served
 
 pub returns-in-Err-clause-err : goal.returns-in-Err-clause-err
 returns-in-Err-clause-err g c =

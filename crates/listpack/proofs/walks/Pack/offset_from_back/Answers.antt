@@ -1,6 +1,6 @@
 use Rattle.std.proofs.Common.{◌≡◌, ◌-◌, ◌+◌, length, ap, ◌∙◌, arith}
 use Rattle.listpack.specs.Pack.{offset_of, texts}
-use Rattle.listpack.proofs.Offsets.{length-texts, offset_end}
+use Rattle.listpack.proofs.Offsets.{length_texts, offset_end}
 use Rattle.listpack.proofs.walks.Pack.offset_from_back.Goals as goal
 
 pub loop-init : goal.loop-init
@@ -8,7 +8,7 @@ loop-init c =
     let bytes = c.args.self.now.bytes.now in
     let n = length (texts bytes) in
     let all : n - 0 ≡ n = omega arith in
-    let far = offset_end bytes n c.args.self.now.packed (omega (arith, length-texts bytes)) in
+    let far = offset_end bytes n c.args.self.now.packed (omega (arith, length_texts bytes)) in
     omega (arith, far, ap (offset_of bytes) all)
 
 pub before-at-requires : goal.before-at-requires

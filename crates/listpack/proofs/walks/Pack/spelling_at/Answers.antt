@@ -1,10 +1,10 @@
 use Rattle.std.proofs.Common.{◌+◌, ◌<◌, ℕ, List, length, arith, rules}
 use Rattle.listpack.specs.Pack.{IsPack, IsOffset}
-use Rattle.listpack.proofs.Offsets.{length-texts, offset_inside, found_at, not_missing}
+use Rattle.listpack.proofs.Offsets.{length_texts, offset_inside, found_at, not_missing}
 use Rattle.listpack.proofs.walks.Pack.spelling_at.Goals as goal
 
 inside : (bytes : List ℕ) (at : ℕ) → IsPack bytes → IsOffset bytes at → at + 1 < length bytes
-inside bytes at p o = let h = offset_inside bytes o.0 p (omega (arith, o.1.0, length-texts bytes)) in omega (arith, o.1.1, h)
+inside bytes at p o = let h = offset_inside bytes o.0 p (omega (arith, o.1.0, length_texts bytes)) in omega (arith, o.1.1, h)
 
 pub slice_bounds-split_spelling-count : goal.slice_bounds-split_spelling-count
 slice_bounds-split_spelling-count c = let h = inside c.args.self.now.bytes.now c.args.at c.args.self.now.packed c.requires in omega arith

@@ -1,7 +1,7 @@
 use Rattle.std.proofs.Common.{[], ◌++◌, append-nil, sym, subst, arith}
 use Rattle.blocks.specs.Blocks.{Blocks, times, Changes, Owned}
 use Rattle.blocks.specs.Plain.{plain_blocks}
-use Rattle.blocks.proofs.Change.{Changes-beside, Changes-owned}
+use Rattle.blocks.proofs.Change.{changes_beside, changes_owned}
 use Rattle.blocks.proofs.Times.{times-append}
 use Rattle.stream_object.specs.Laws.{Stays}
 use Rattle.stream_object.specs.Streams.{IsStream, refs}
@@ -16,8 +16,8 @@ module _ (m mid : Blocks) (old copy : Log) (is : IsStream m old) (placed : Chang
 
   both_owned : Owned (refs mid copy ++ refs m old) mid
   both_owned =
-      Changes-owned m mid (refs m old) (refs mid copy ++ refs m old)
-      (Changes-beside m mid [] (refs mid copy) (refs m old) (refs mid copy ++ refs m old) placed (stream_laws_hold.owned m old is) (λ r. times r (refs m old)) (λ r. omega arith)
+      changes_owned m mid (refs m old) (refs mid copy ++ refs m old)
+      (changes_beside m mid [] (refs mid copy) (refs m old) (refs mid copy ++ refs m old) placed (stream_laws_hold.owned m old is) (λ r. times r (refs m old)) (λ r. omega arith)
       (λ r. times-append r (refs mid copy) (refs m old)))
 
   -- the copy stays while the stream is given back

@@ -1,7 +1,7 @@
 use Rattle.std.proofs.Common.{◌≡◌, [], List, length, take, refl, ap, subst, arith, rules}
 use Rattle.std.proofs.lemmas.List.{take_all}
 use Rattle.blocks.specs.Blocks.{Changes, no_step}
-use Rattle.blocks.proofs.Serve.{Served-then}
+use Rattle.blocks.proofs.Serve.{served_then}
 use Rattle.quicklist.specs.declared.node.Node.{Node}
 use Rattle.quicklist.specs.Nodes.{refs_of}
 use Rattle.quicklist.specs.Chain.{Chain, elements}
@@ -34,10 +34,10 @@ returns-in-Ok-clause-changed g c =
     (omega (arith, ap (λ v. v.len) c.self.view_is, c.requires.quick.counted, c.requires.many)) (ap (λ v. v.form) c.self.view_is)
 
 pub returns-in-Ok-clause-served : goal.returns-in-Ok-clause-served
-returns-in-Ok-clause-served g c = Served-then _ _ _ c.in-Ok.ensures.served c.end_nodes.ensures.served
+returns-in-Ok-clause-served g c = served_then _ _ _ c.in-Ok.ensures.served c.end_nodes.ensures.served
 
 pub returns-in-Err-clause-served : goal.returns-in-Err-clause-served
-returns-in-Err-clause-served g c = Served-then _ _ _ c.in-Err.ensures.served c.end_nodes-in-Err.ensures.served
+returns-in-Err-clause-served g c = served_then _ _ _ c.in-Err.ensures.served c.end_nodes-in-Err.ensures.served
 
 pub returns-in-Err-clause-err_blocks : goal.returns-in-Err-clause-err_blocks
 returns-in-Err-clause-err_blocks g c =

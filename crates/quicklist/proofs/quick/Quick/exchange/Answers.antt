@@ -1,6 +1,6 @@
 use Rattle.std.proofs.Common.{◌≡◌, List, ap, ◌∙◌, subst, refl}
 use Rattle.blocks.specs.Blocks.{no_step}
-use Rattle.blocks.proofs.Serve.{Served-then}
+use Rattle.blocks.proofs.Serve.{served_then}
 use Rattle.quicklist.specs.declared.node.Node.{Node}
 use Rattle.quicklist.specs.Nodes.{Inserted}
 use Rattle.quicklist.proofs.Chains.{placed_owned, exchanged}
@@ -27,4 +27,4 @@ returns-clause-ok g c =
     c.requires.inside refl c.requires.chain ins c.end_nodes.ensures.items c.end_nodes.ensures.changes
 
 pub returns-clause-served : goal.returns-clause-served
-returns-clause-served g c = Served-then _ _ _ c.place_all.ensures.served c.end_nodes.ensures.served
+returns-clause-served g c = served_then _ _ _ c.place_all.ensures.served c.end_nodes.ensures.served

@@ -1,6 +1,6 @@
 use Rattle.std.proofs.Common.{length, get_or, set, ap, ◌∙◌, arith}
 use Rattle.blocks.specs.Blocks.{bytes_at}
-use Rattle.blocks.proofs.Serve.{Served-once}
+use Rattle.blocks.proofs.Serve.{served_once}
 use Rattle.listpack.specs.Pack.{texts}
 use Rattle.quicklist.specs.declared.node.Container.TheVariants.{Packed}
 use Rattle.quicklist.specs.Chain.{Chain}
@@ -29,4 +29,4 @@ returns-clause-written g c =
     (ap (λ (v : Chain). set v.nodes k (record { at = node.at; count = c.args.count; container = Packed })) c.self.view_is) c.requires.len (ap (λ v. v.form) c.self.view_is)
 
 pub returns-clause-served : goal.returns-clause-served
-returns-clause-served g c = Served-once _ _ c.write.ensures.step
+returns-clause-served g c = served_once _ _ c.write.ensures.step

@@ -1,7 +1,7 @@
 use Rattle.std.proofs.Common.{◌≡◌, ◌<◌, List, length, take, subst, refl, arith, rules}
 use Rattle.std.proofs.lemmas.List.{take_all}
 use Rattle.blocks.specs.Blocks.{no_step}
-use Rattle.blocks.proofs.Serve.{Served-then}
+use Rattle.blocks.proofs.Serve.{served_then}
 use Rattle.quicklist.specs.declared.node.Node.{Node}
 use Rattle.quicklist.specs.Nodes.{elements_of}
 use Rattle.quicklist.specs.Equal.{IsRebuilt, cleared}
@@ -53,7 +53,7 @@ pub add-requires-clause-left : goal.add-requires-clause-left
 add-requires-clause-left g c = kept_of _ _ c.in_ok-left.left c.in_ok-left.ensures
 
 pub returns-in_err-add-clause-served : goal.returns-in_err-add-clause-served
-returns-in_err-add-clause-served g c = Served-then _ _ _ c.loop-k.invariant.served c.in_err-add.ensures.served
+returns-in_err-add-clause-served g c = served_then _ _ _ c.loop-k.invariant.served c.in_err-add.ensures.served
 
 pub overflow_add-start : goal.overflow_add-start
 overflow_add-start g c =
@@ -82,7 +82,7 @@ loop-k-preserved g c =
           inv.start inv.rebuilt c.in_ok-left.ensures c.in_ok-add.ensures.added;
       room = room_more mid n node c.in_ok-left.left c.loop-k.self c.add.new.self k (length nodes) inv.room c.in_ok-add.ensures.added;
       start = start_next m mid nodes placed k node bytes c.requires.chain inside c.index-node.ensures inv.rebuilt.changes c.bytes-bytes.ensures c.loop-k.start inv.start;
-      served = Served-then _ _ _ inv.served c.in_ok-add.ensures.served;
+      served = served_then _ _ _ inv.served c.in_ok-add.ensures.served;
     }
 
 pub returns-clause-rebuilt : goal.returns-clause-rebuilt

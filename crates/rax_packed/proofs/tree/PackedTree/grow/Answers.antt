@@ -1,15 +1,15 @@
 use Rattle.std.proofs.Common.{◌∙◌, refl, sym, ap}
-use Rattle.blocks.proofs.Serve.{Served-same}
+use Rattle.blocks.proofs.Serve.{served_same}
 use Rattle.rax_packed.specs.Maps.{root_entries}
 use Rattle.rax_packed.specs.Packed.{value_at}
 use Rattle.rax_packed.proofs.Sounds.{grown_sound}
 use Rattle.rax_packed.proofs.tree.PackedTree.grow.Goals as goal
 
 pub returns-in_default-clause-served : goal.returns-in_default-clause-served
-returns-in_default-clause-served g c = Served-same _ _ refl
+returns-in_default-clause-served g c = served_same _ _ refl
 
 pub returns-then-self-clause-served : goal.returns-then-self-clause-served
-returns-then-self-clause-served g c = Served-same _ _ refl
+returns-then-self-clause-served g c = served_same _ _ refl
 
 pub returns-clause-sound : goal.returns-clause-sound
 returns-clause-sound g c =

@@ -4,7 +4,7 @@ use Rattle.rehash_dict.specs.Placed.{IsSize}
 use Rattle.rehash_dict.specs.Sides.{AddsTo, HasRoom}
 use Rattle.rehash_dict.specs.Chains.{room, IsLinked, rows}
 use Rattle.rehash_dict.specs.Tables.{count}
-use Rattle.rehash_dict.proofs.Rows.{length-rows, count-map_element}
+use Rattle.rehash_dict.proofs.Rows.{length-rows, count_map_element}
 use Rattle.rehash_dict.proofs.Ops.{has_room, view_of, linked_after, linked_count, added_older, added_newer, adds_older, adds_newer, older_some, newer_some}
 use Rattle.rehash_dict.proofs.chains.Chains.add.Goals as goal
 
@@ -27,12 +27,12 @@ link-requires-in-Newer-clause-size g c =
 pub overflow_add-self : goal.overflow_add-self
 overflow_add-self g c =
     let held : count (rows c.self.inside.entries.slots c.self.inside.older.items) + count (rows c.self.inside.entries.slots c.self.inside.newer.items) ≡ count_by is_some
-    c.self.inside.entries.slots = c.self.invariant.stand.counted ∙ count-map_element c.self.inside.entries.slots in
+    c.self.inside.entries.slots = c.self.invariant.stand.counted ∙ count_map_element c.self.inside.entries.slots in
     let fits = has_room c.self.inside.entries _ (subst HasRoom (sym c.self.view_is) c.requires.room) in
     omega (
       arith,
       fits,
-      count-map_element c.self.inside.entries.slots,
+      count_map_element c.self.inside.entries.slots,
       c.self.invariant.waits,
       c.insert_reserved-at.ensures.key_in_range,
       c.insert_reserved-at.ensures.capacity,

@@ -2,7 +2,7 @@ use Rattle.std.proofs.Common.{rules, ◌≡◌, subst, sym, ap}
 use Rattle.rehash_dict.specs.Steps.{Adds}
 use Rattle.rehash_dict.proofs.Edited.{table_of, adds}
 use Rattle.rehash_dict.specs.Keyed.{hash_of, key_tables}
-use Rattle.rehash_dict.proofs.Growing.{Grown-insert, Grown-same}
+use Rattle.rehash_dict.proofs.Growing.{grown_insert, grown_same}
 use Rattle.rehash_dict.proofs.dict.Dict.insert_hashed.Goals as goal
 
 pub returns-clause-added : goal.returns-clause-added
@@ -21,10 +21,10 @@ returns-clause-added g c =
 
 pub returns-clause-grown : goal.returns-clause-grown
 returns-clause-grown g c blocks k live hashed lacks =
-    Grown-insert blocks c.args.self.now (table_of c.add-at.new.self c.step_if_rehashing-self-inside.result c.self.inside.seed c.max-self-inside.result) _ k lacks
+    grown_insert blocks c.args.self.now (table_of c.add-at.new.self c.step_if_rehashing-self-inside.result c.self.inside.seed c.max-self-inside.result) _ k lacks
     ((returns-clause-added g c).keyed blocks k live hashed lacks).1
 
 pub returns-in-Err-clause-grown : goal.returns-in-Err-clause-grown
 returns-in-Err-clause-grown g c blocks k live hashed lacks =
     let same : table_of c.make_room.new.chains c.self.inside.position c.self.inside.seed c.self.inside.top ≡ c.args.self.now = search rules in
-    Grown-same (hash_of c.args.self.now.seed) (key_tables blocks c.args.self.now) _ (ap (key_tables blocks) same)
+    grown_same (hash_of c.args.self.now.seed) (key_tables blocks c.args.self.now) _ (ap (key_tables blocks) same)

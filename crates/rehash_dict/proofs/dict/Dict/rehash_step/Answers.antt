@@ -7,7 +7,7 @@ use Rattle.std.proofs.lemmas.List.{length-map}
 use Rattle.rehash_dict.proofs.Rooms.{going_yes, going_no, rehashed_going, rehashed_not}
 use Rattle.rehash_dict.proofs.Keys.{key_tables_rehashed}
 use Rattle.rehash_dict.proofs.Edited.{table_of}
-use Rattle.rehash_dict.proofs.MapOf.{map_of-items}
+use Rattle.rehash_dict.proofs.MapOf.{map_of_items}
 use Rattle.rehash_dict.proofs.dict.Dict.rehash_step.Goals as goal
 
 pub returns-then-buckets-eq0-clause-tables : goal.returns-then-buckets-eq0-clause-tables
@@ -35,4 +35,4 @@ returns-clause-tables g c blocks k =
     ∙ sym (rehashed_going names (held_tables c.self.inside.chains c.self.inside.position) (going_yes (held_tables c.self.inside.chains c.self.inside.position) going))))
 
 pub returns-clause-map : goal.returns-clause-map
-returns-clause-map g c blocks = map_of-items blocks (λ v. v) c.args.self.now _ (c.step-self-inside.ensures.rebuilds.items ∙ ap (λ t. t.items) c.self.view_is)
+returns-clause-map g c blocks = map_of_items blocks (λ v. v) c.args.self.now _ (c.step-self-inside.ensures.rebuilds.items ∙ ap (λ t. t.items) c.self.view_is)

@@ -6,7 +6,7 @@ use Rattle.rehash_dict.specs.Placed.{IsSize}
 use Rattle.rehash_dict.specs.Chains.{chain_left}
 use Rattle.rehash_dict.specs.Sides.{last_of, side_rows}
 use Rattle.rehash_dict.specs.Steps.{table_rows, IsOther}
-use Rattle.rehash_dict.proofs.Counts.{times-append, times-past}
+use Rattle.rehash_dict.proofs.Counts.{times-append, times_past}
 use Rattle.rehash_dict.proofs.Edited.{side_table, side_size, spot_found}
 use Rattle.rehash_dict.proofs.dict.Dict.search.Goals as goal
 
@@ -27,7 +27,7 @@ loop-at-preserved g c = record {
   last = last-append c.loop-at.yielded c.in-Some.at;
   none = λ at h. elim (cases_eq c.in-Some.at at) [
     | inl here ↦ subst (IsOther (g.B.BlockStore.blocks c.args.store.now) c.args.self.now c.args.hash c.args.key.now) here c.if-has_key.ensures
-    | inr other ↦ c.loop-at.invariant.none at (omega (arith, h, times-append at c.loop-at.yielded (c.in-Some.at ∷ []), times-past at c.in-Some.at [] other))
+    | inr other ↦ c.loop-at.invariant.none at (omega (arith, h, times-append at c.loop-at.yielded (c.in-Some.at ∷ []), times_past at c.in-Some.at [] other))
   ];
 }
 

@@ -9,8 +9,8 @@ use Rattle.rehash_dict.proofs.Rooms.{no_rows, wants_yes, wants_going, wants_smal
 use Rattle.rehash_dict.proofs.Keys.{key_tables_shrunk}
 use Rattle.rehash_dict.proofs.Edited.{table_of, shrinks, shrinks_not}
 use Rattle.rehash_dict.specs.Keyed.{hash_of}
-use Rattle.rehash_dict.proofs.Growing.{Grown-shrink, Grown-same}
-use Rattle.rehash_dict.proofs.MapOf.{map_of-items}
+use Rattle.rehash_dict.proofs.Growing.{grown_shrink, grown_same}
+use Rattle.rehash_dict.proofs.MapOf.{map_of_items}
 use Rattle.rehash_dict.proofs.dict.Dict.shrink.Goals as goal
 use Rattle.rehash_dict.proofs.dict.Dict.shrink.Goals.{then-buckets-gt0-via-then-buckets-gt0, then-buckets-gt0-via-else-buckets-gt0+then-buckets-le-FIRST_SIZE}
 use Rattle.rehash_dict.proofs.dict.Dict.shrink.Goals.{then-buckets-gt0-via-else-buckets-gt0+else-buckets-le-FIRST_SIZE+then-saturating_mul-buckets}
@@ -56,13 +56,13 @@ returns-clause-tables g c blocks =
     ∙ sym (shrinks (held_tables c.self.inside.chains c.self.inside.position) wanted)))
 
 pub returns-clause-map : goal.returns-clause-map
-returns-clause-map g c blocks = map_of-items blocks (λ v. v) c.args.self.now _ (c.begin.ensures.rebuilds.items ∙ ap (λ t. t.items) c.self.view_is)
+returns-clause-map g c blocks = map_of_items blocks (λ v. v) c.args.self.now _ (c.begin.ensures.rebuilds.items ∙ ap (λ t. t.items) c.self.view_is)
 
 pub returns-then-buckets-gt0-clause-grown : goal.returns-then-buckets-gt0-clause-grown
-returns-then-buckets-gt0-clause-grown g c blocks = Grown-same (hash_of c.args.self.now.seed) _ _ refl
+returns-then-buckets-gt0-clause-grown g c blocks = grown_same (hash_of c.args.self.now.seed) _ _ refl
 
 pub returns-in_err-heads-clause-grown : goal.returns-in_err-heads-clause-grown
-returns-in_err-heads-clause-grown g c blocks = Grown-same (hash_of c.args.self.now.seed) _ _ refl
+returns-in_err-heads-clause-grown g c blocks = grown_same (hash_of c.args.self.now.seed) _ _ refl
 
 pub returns-clause-grown : goal.returns-clause-grown
-returns-clause-grown g c blocks = Grown-shrink (hash_of c.args.self.now.seed) _ _ (returns-clause-tables g c blocks)
+returns-clause-grown g c blocks = grown_shrink (hash_of c.args.self.now.seed) _ _ (returns-clause-tables g c blocks)

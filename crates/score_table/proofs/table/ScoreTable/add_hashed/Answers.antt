@@ -1,6 +1,6 @@
 use Rattle.std.proofs.Common.{w64}
 use Rattle.std.proofs.lemmas.Int.{to_z-of_z}
-use Rattle.blocks.proofs.Serve.{Served-next}
+use Rattle.blocks.proofs.Serve.{served_next}
 use Rattle.score_table.proofs.Edits.{put_sound, put_lacks, put_joined}
 use Rattle.score_table.proofs.table.ScoreTable.add_hashed.Goals as goal
 
@@ -22,4 +22,4 @@ returns-in-Ok-clause-added g c =
     c.join.new.self c.args.score (rw (to_z-of_z w64 c.args.score c.ranges.score) at c.in-Ok.ensures.joined)
 
 pub returns-in-Err-clause-served : goal.returns-in-Err-clause-served
-returns-in-Err-clause-served g c = Served-next _ _ _ c.put_block.ensures.served c.give_back.ensures.step
+returns-in-Err-clause-served g c = served_next _ _ _ c.put_block.ensures.served c.give_back.ensures.step

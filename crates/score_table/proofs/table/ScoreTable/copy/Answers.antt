@@ -1,6 +1,6 @@
 use Rattle.std.proofs.Common.{sym, subst, add-one, arith, suc}
 use Rattle.blocks.specs.Blocks.{no_step, Served}
-use Rattle.blocks.proofs.Serve.{Served-then}
+use Rattle.blocks.proofs.Serve.{served_then}
 use Rattle.collection_walk.proofs.Ending.{no_item}
 use Rattle.score_table.proofs.Copies.{IsPart, part_new, source_sound, next_absent, part_skips, part_next, part_whole}
 use Rattle.score_table.proofs.table.ScoreTable.copy.Goals.{then-is_entry+in_default, else-is_entry}
@@ -24,7 +24,7 @@ copy_item-requires-clause-absent g c =
     next_absent (g.B.BlockStore.blocks c.args.store.now) (g.B.BlockStore.blocks c.loop-item.store) c.args.seed c.args.self.now c.loop-item.copy c.loop-item.item c.requires c.loop-item.invariant.part
 
 pub returns-in-Err-clause-served : goal.returns-in-Err-clause-served
-returns-in-Err-clause-served g c = Served-then _ _ _ (Served-then _ _ _ c.loop-item.invariant.served c.in-Err.ensures.served) c.release.ensures.served
+returns-in-Err-clause-served g c = served_then _ _ _ (served_then _ _ _ c.loop-item.invariant.served c.in-Err.ensures.served) c.release.ensures.served
 
 pub loop-item-preserved : goal.loop-item-preserved
 loop-item-preserved g c =
@@ -41,7 +41,7 @@ loop-item-preserved g c =
           rw add-one
           record {
             part = subst (λ b. IsPart m (g.B.BlockStore.blocks b) c.args.seed s c.if-is_entry.copy (suc at)) (sym w.store-is) (subst (λ v. IsPart m n c.args.seed s v (suc at)) (sym w.copy-is) next);
-            served = subst (Served g.B.BlockStore.step c.args.store.now) (sym w.store-is) (Served-then _ _ _ inv.served w.copy_item.ensures.served);
+            served = subst (Served g.B.BlockStore.step c.args.store.now) (sym w.store-is) (served_then _ _ _ inv.served w.copy_item.ensures.served);
           })
       | else-is_entry w ↦
           (let next = part_skips m mid c.args.seed s u at c.requires inv.part (no_item s.table at c.is_entry.result w.if-is_entry.false c.is_entry.ensures) in

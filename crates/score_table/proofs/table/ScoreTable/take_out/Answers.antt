@@ -2,7 +2,7 @@ use Rattle.std.proofs.Common.{w64, rules}
 use Rattle.std.specs.Prelude.{FitsSigned}
 use Rattle.std.proofs.lemmas.Int.{to_z-of_z}
 use Rattle.blocks.specs.Blocks.{no_step}
-use Rattle.blocks.proofs.Serve.{Served-once}
+use Rattle.blocks.proofs.Serve.{served_once}
 use Rattle.score_table.proofs.Edits.{taken}
 use Rattle.score_table.proofs.table.ScoreTable.take_out.Goals as goal
 
@@ -17,7 +17,7 @@ returns-in-Some-clause-removed g c =
     e.keyed c.remove-there.ensures.sorted c.remove-there.result removes e.map e.grown
 
 pub returns-in-Some-clause-served : goal.returns-in-Some-clause-served
-returns-in-Some-clause-served g c = Served-once _ _ c.give_back.ensures.step
+returns-in-Some-clause-served g c = served_once _ _ c.give_back.ensures.step
 
 pub returns-in-None-clause-served : goal.returns-in-None-clause-served
 returns-in-None-clause-served g c = no_step

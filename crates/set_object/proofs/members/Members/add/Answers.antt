@@ -1,7 +1,7 @@
 use Rattle.std.proofs.Common.{not, refl, sym, ap, ◌∙◌, subst, []}
 use Rattle.std.specs.FinMap.{insert}
 use Rattle.blocks.specs.Blocks.{no_step, Changes}
-use Rattle.blocks.proofs.Serve.{Served-then}
+use Rattle.blocks.proofs.Serve.{served_then}
 use Rattle.rehash_dict.specs.Keyed.{hash_of}
 use Rattle.rehash_dict.specs.Grown.{Grown}
 use Rattle.set_object.specs.Strings.{IsRisen}
@@ -28,7 +28,7 @@ returns g c =
       added = λ _. subst (λ (b : Body). IsChanged m n self (record self { body = b }) (insert (members m self) x tt)) (sym c.replace.ensures.after)
           (body_changed m mid n self c.in_ok-body.body (insert (members m self) x tt) c.requires p.sound p.changes released p.members_are grown);
       form = λ _. subst (λ (b : Body). IsRisen self.limits (form_of self) (insert (members m self) x tt) (form_of_body b)) (sym c.replace.ensures.after) c.in_ok-body.ensures.form;
-      served = Served-then _ _ _ c.place_with.ensures.served c.release.ensures.served;
+      served = served_then _ _ _ c.place_with.ensures.served c.release.ensures.served;
       same_set = λ h. absurd (h refl);
       same_blocks = λ h. absurd (h refl);
     }

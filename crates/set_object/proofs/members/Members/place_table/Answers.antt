@@ -1,8 +1,8 @@
 use Rattle.std.proofs.Common.{◌≡◌, ℕ, List, [], sym, ap, ◌∙◌, subst}
 use Rattle.std.specs.FinMap.{insert}
 use Rattle.blocks.specs.Blocks.{no_step, Blocks, Changes}
-use Rattle.blocks.proofs.Change.{Changes-then}
-use Rattle.blocks.proofs.Serve.{Served-then}
+use Rattle.blocks.proofs.Change.{changes_then}
+use Rattle.blocks.proofs.Serve.{served_then}
 use Rattle.listpack.specs.Pack.{texts}
 use Rattle.rehash_dict.specs.MapOf.{content, key_refs}
 use Rattle.set_object.specs.Strings.{set_of, has, IsOnce}
@@ -30,10 +30,10 @@ hash_member-requires-clause-absent g c =
     ∙ sym (listed_is m self.limits self.seed self.body c.requires.sound.body).0) ∙ c.requires.absent
 
 pub returns-in-Ok-clause-served : goal.returns-in-Ok-clause-served
-returns-in-Ok-clause-served g c = Served-then _ _ _ c.hash_pack.ensures.served c.hash_member.ensures.served
+returns-in-Ok-clause-served g c = served_then _ _ _ c.hash_pack.ensures.served c.hash_member.ensures.served
 
 pub returns-clause-served : goal.returns-clause-served
-returns-clause-served g c = Served-then _ _ _ (Served-then _ _ _ c.hash_pack.ensures.served c.hash_member.ensures.served) c.end_table.ensures.served
+returns-clause-served g c = served_then _ _ _ (served_then _ _ _ c.hash_pack.ensures.served c.hash_member.ensures.served) c.end_table.ensures.served
 
 pub returns-in-Ok-clause-placed : goal.returns-in-Ok-clause-placed
 returns-in-Ok-clause-placed g c =
@@ -58,4 +58,4 @@ returns-clause-err_blocks g c =
     let ended : Changes mid n (key_refs table) [] =
     subst (λ (b : Blocks). Changes b n (key_refs table) []) c.in-Err.ensures.err_blocks
     (subst (λ t. Changes (g.B.BlockStore.blocks c.hash_member.new.store) n (key_refs t) []) c.in-Err.ensures.err_table c.end_table.ensures.changes) in
-    all_same m n (Changes-then m mid n [] (key_refs table) [] c.in_ok-table.ensures.hashed.changes ended)
+    all_same m n (changes_then m mid n [] (key_refs table) [] c.in_ok-table.ensures.hashed.changes ended)

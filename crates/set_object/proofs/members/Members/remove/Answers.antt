@@ -1,7 +1,7 @@
 use Rattle.std.proofs.Common.{◌≡◌, is_some, [], sym, ap, ◌∙◌, subst, refl}
 use Rattle.std.specs.FinMap.{remove, len}
 use Rattle.blocks.specs.Blocks.{Changes}
-use Rattle.blocks.proofs.Serve.{Served-then}
+use Rattle.blocks.proofs.Serve.{served_then}
 use Rattle.rehash_dict.specs.Keyed.{hash_of}
 use Rattle.rehash_dict.specs.Grown.{Grown}
 use Rattle.rehash_dict.specs.Tables.{IsSettled}
@@ -29,7 +29,7 @@ returns-in-Some g c =
       form = λ _. subst (λ (b : Body). form_of_body b ≡ form_left (form_of self) (len set)) (sym c.replace.ensures.after) form;
       settled = λ _. subst (λ (b : Body). IsSettled (tables_of n b)) (sym c.replace.ensures.after)
           (placed_settled n (form_of self) (len set) c.in-Some.body (packed_form self.body c.in_default.not-Table) form);
-      served = Served-then _ _ _ c.place_without.ensures.served c.release.ensures.served;
+      served = served_then _ _ _ c.place_without.ensures.served c.release.ensures.served;
       same_set = λ h. absurd cc;
       same_blocks = λ h. absurd cc;
       err_set = tt;

@@ -1,7 +1,7 @@
 use Rattle.std.proofs.Common.{subst, sym}
 use Rattle.stream_groups.specs.Groups.{AreOwned}
-use Rattle.stream_groups.proofs.Owned.{owned-again}
+use Rattle.stream_groups.proofs.Owned.{owned_again}
 use Rattle.stream_groups.proofs.group.Group.again.Goals as goal
 
 pub invariant_of-self : goal.invariant_of-self
-invariant_of-self c = subst (AreOwned c.self.inside.consumers) (sym c.again.ensures.new) (owned-again c.self.inside.consumers c.self.inside.pending c.args.id c.args.moment c.self.invariant)
+invariant_of-self c = subst (AreOwned c.self.inside.consumers) (sym c.again.ensures.new) (owned_again c.self.inside.consumers c.self.inside.pending c.args.id c.args.moment c.self.invariant)

@@ -2,8 +2,8 @@ use Rattle.std.proofs.Common.{Some, not, ap, ◌∙◌}
 use Rattle.std.specs.Option.{option_map}
 use Rattle.stream_groups.specs.Groups.{Group, has_consumer, with_consumer}
 use Rattle.stream_groups.specs.Kept.{named}
-use Rattle.stream_groups.proofs.Uses.{group-found}
-use Rattle.stream_groups.proofs.Changing.{at-none, at-some, at-same}
+use Rattle.stream_groups.proofs.Uses.{group_found}
+use Rattle.stream_groups.proofs.Changing.{at_none_in_changing, at_some_in_changing, at_same_in_changing}
 use Rattle.stream_groups.proofs.groups.Groups.add_consumer.Goals as goal
 use Rattle.stream_groups.proofs.groups.Groups.add_consumer.Goals.{in-None, in-Some+in-Ok, in-Some+in-Err}
 
@@ -11,10 +11,10 @@ pub returns-clause-made : goal.returns-clause-made
 returns-clause-made c = elim c.match-get_mut.branch [
   | in-None w ↦ rw w.result-is
       (ap (option_map (λ (group : Group). not (has_consumer c.args.consumer.now group)))
-      (w.in-None.ensures.value ∙ group-found c.self.inside.groups.entries c.args.self.now c.args.name.now c.self.invariant c.self.view_is))
+      (w.in-None.ensures.value ∙ group_found c.self.inside.groups.entries c.args.self.now c.args.name.now c.self.invariant c.self.view_is))
   | in-Some+in-Ok w ↦ rw w.result-is
       (ap Some w.in-Ok.ensures.made ∙ ap (option_map (λ (group : Group). not (has_consumer c.args.consumer.now group)))
-      (w.in-Some.ensures.value ∙ group-found c.self.inside.groups.entries c.args.self.now c.args.name.now c.self.invariant c.self.view_is))
+      (w.in-Some.ensures.value ∙ group_found c.self.inside.groups.entries c.args.self.now c.args.name.now c.self.invariant c.self.view_is))
   | in-Some+in-Err w ↦ rw w.result-is tt
 ]
 
@@ -22,10 +22,10 @@ pub returns-clause-ok : goal.returns-clause-ok
 returns-clause-ok c = elim c.match-get_mut.branch [
   | in-None w ↦ rw w.result-is
       (ap (λ g. named (λ (x : Group). x) g.groups.entries) w.self-inside-is ∙ ap (λ m. named (λ (x : Group). x) m.entries) c.get_mut.follows.holds-at-none ∙ c.self.view_is
-      ∙ at-none c.self.inside.groups.entries c.args.self.now c.args.name.now c.self.invariant c.self.view_is (with_consumer c.args.consumer.now) w.in-None.ensures.value)
+      ∙ at_none_in_changing c.self.inside.groups.entries c.args.self.now c.args.name.now c.self.invariant c.self.view_is (with_consumer c.args.consumer.now) w.in-None.ensures.value)
   | in-Some+in-Ok w ↦ rw w.result-is
       (ap (λ g. named (λ (x : Group). x) g.groups.entries) w.self-inside-is
-      ∙ at-some c.self.inside.groups.entries c.args.self.now c.args.name.now c.self.invariant c.self.view_is (c.get_mut.follows.lender w.add_consumer.new.self).entries w.in-Some.group.now
+      ∙ at_some_in_changing c.self.inside.groups.entries c.args.self.now c.args.name.now c.self.invariant c.self.view_is (c.get_mut.follows.lender w.add_consumer.new.self).entries w.in-Some.group.now
       w.add_consumer.new.self w.in-Some.ensures.value (c.get_mut.follows.holds w.add_consumer.new.self).0 (c.get_mut.follows.holds w.add_consumer.new.self).4
       (with_consumer c.args.consumer.now) w.in-Ok.ensures.ok)
   | in-Some+in-Err w ↦ rw w.result-is tt
@@ -37,6 +37,6 @@ returns-clause-err c = elim c.match-get_mut.branch [
   | in-Some+in-Ok w ↦ rw w.result-is tt
   | in-Some+in-Err w ↦ rw w.result-is
       (ap (λ g. named (λ (x : Group). x) g.groups.entries) w.self-inside-is
-      ∙ at-same c.self.inside.groups.entries c.args.self.now c.args.name.now c.self.invariant c.self.view_is (c.get_mut.follows.lender w.add_consumer.new.self).entries w.in-Some.group.now
+      ∙ at_same_in_changing c.self.inside.groups.entries c.args.self.now c.args.name.now c.self.invariant c.self.view_is (c.get_mut.follows.lender w.add_consumer.new.self).entries w.in-Some.group.now
       w.add_consumer.new.self w.in-Some.ensures.value (c.get_mut.follows.holds w.add_consumer.new.self).0 (c.get_mut.follows.holds w.add_consumer.new.self).4 w.in-Err.ensures.err)
 ]

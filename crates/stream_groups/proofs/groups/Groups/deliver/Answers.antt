@@ -1,15 +1,15 @@
 use Rattle.std.proofs.Common.{is_some, ap, ◌∙◌}
 use Rattle.stream_groups.specs.Groups.{Group, delivered}
 use Rattle.stream_groups.specs.Kept.{named}
-use Rattle.stream_groups.proofs.Uses.{group-found}
-use Rattle.stream_groups.proofs.Changing.{at-none, at-some, at-same}
+use Rattle.stream_groups.proofs.Uses.{group_found}
+use Rattle.stream_groups.proofs.Changing.{at_none_in_changing, at_some_in_changing, at_same_in_changing}
 use Rattle.stream_groups.proofs.groups.Groups.deliver.Goals as goal
 use Rattle.stream_groups.proofs.groups.Groups.deliver.Goals.{in-None, in-Some+in-Ok, in-Some+in-Err}
 
 pub returns-clause-there : goal.returns-clause-there
 returns-clause-there c = elim c.match-get_mut.branch [
-  | in-None w ↦ rw w.result-is (ap is_some (w.in-None.ensures.value ∙ group-found c.self.inside.groups.entries c.args.self.now c.args.name.now c.self.invariant c.self.view_is))
-  | in-Some+in-Ok w ↦ rw w.result-is (ap is_some (w.in-Some.ensures.value ∙ group-found c.self.inside.groups.entries c.args.self.now c.args.name.now c.self.invariant c.self.view_is))
+  | in-None w ↦ rw w.result-is (ap is_some (w.in-None.ensures.value ∙ group_found c.self.inside.groups.entries c.args.self.now c.args.name.now c.self.invariant c.self.view_is))
+  | in-Some+in-Ok w ↦ rw w.result-is (ap is_some (w.in-Some.ensures.value ∙ group_found c.self.inside.groups.entries c.args.self.now c.args.name.now c.self.invariant c.self.view_is))
   | in-Some+in-Err w ↦ rw w.result-is tt
 ]
 
@@ -17,11 +17,11 @@ pub returns-clause-ok : goal.returns-clause-ok
 returns-clause-ok c = elim c.match-get_mut.branch [
   | in-None w ↦ rw w.result-is
       (ap (λ g. named (λ (x : Group). x) g.groups.entries) w.self-inside-is ∙ ap (λ m. named (λ (x : Group). x) m.entries) c.get_mut.follows.holds-at-none ∙ c.self.view_is
-      ∙ at-none c.self.inside.groups.entries c.args.self.now c.args.name.now c.self.invariant c.self.view_is (delivered c.args.consumer.now c.args.ids.now c.args.moment)
+      ∙ at_none_in_changing c.self.inside.groups.entries c.args.self.now c.args.name.now c.self.invariant c.self.view_is (delivered c.args.consumer.now c.args.ids.now c.args.moment)
       w.in-None.ensures.value)
   | in-Some+in-Ok w ↦ rw w.result-is
       (ap (λ g. named (λ (x : Group). x) g.groups.entries) w.self-inside-is
-      ∙ at-some c.self.inside.groups.entries c.args.self.now c.args.name.now c.self.invariant c.self.view_is (c.get_mut.follows.lender w.deliver.new.self).entries w.in-Some.group.now
+      ∙ at_some_in_changing c.self.inside.groups.entries c.args.self.now c.args.name.now c.self.invariant c.self.view_is (c.get_mut.follows.lender w.deliver.new.self).entries w.in-Some.group.now
       w.deliver.new.self w.in-Some.ensures.value (c.get_mut.follows.holds w.deliver.new.self).0 (c.get_mut.follows.holds w.deliver.new.self).4
       (delivered c.args.consumer.now c.args.ids.now c.args.moment) w.in-Ok.ensures.ok)
   | in-Some+in-Err w ↦ rw w.result-is tt
@@ -33,6 +33,6 @@ returns-clause-err c = elim c.match-get_mut.branch [
   | in-Some+in-Ok w ↦ rw w.result-is tt
   | in-Some+in-Err w ↦ rw w.result-is
       (ap (λ g. named (λ (x : Group). x) g.groups.entries) w.self-inside-is
-      ∙ at-same c.self.inside.groups.entries c.args.self.now c.args.name.now c.self.invariant c.self.view_is (c.get_mut.follows.lender w.deliver.new.self).entries w.in-Some.group.now
+      ∙ at_same_in_changing c.self.inside.groups.entries c.args.self.now c.args.name.now c.self.invariant c.self.view_is (c.get_mut.follows.lender w.deliver.new.self).entries w.in-Some.group.now
       w.deliver.new.self w.in-Some.ensures.value (c.get_mut.follows.holds w.deliver.new.self).0 (c.get_mut.follows.holds w.deliver.new.self).4 w.in-Err.ensures.err)
 ]

@@ -6,7 +6,7 @@ use Rattle.stream_groups.specs.declared.pendings.Handed.{Handed}
 use Rattle.std.proofs.lemmas.Bool.{true≢false}
 use Rattle.std.proofs.Common.{◌<◌}
 use Rattle.stream_groups.specs.Groups.{Id}
-use Rattle.stream_groups.proofs.Listing.{len-seen, key-seen}
+use Rattle.stream_groups.proofs.Listing.{len_seen, key_seen}
 use Rattle.stream_groups.proofs.pendings.Pendings.greatest.Goals as goal
 
 -- nothing stands in an empty list
@@ -16,12 +16,12 @@ nothing_there (e ∷ es) b f h = absurd (true≢false (sym (h (omega arith)) ∙
 
 pub returns-in-None : goal.returns-in-None
 returns-in-None c = sym
-    (ap (λ n. slice_get (map.keys c.args.self.now) (n - 1)) (sym (len-seen c.self.inside.entries.entries c.args.self.now c.self.invariant c.self.view_is))
-    ∙ key-seen c.self.inside.entries.entries c.args.self.now c.self.invariant c.self.view_is (length c.self.inside.entries.entries - 1)
+    (ap (λ n. slice_get (map.keys c.args.self.now) (n - 1)) (sym (len_seen c.self.inside.entries.entries c.args.self.now c.self.invariant c.self.view_is))
+    ∙ key_seen c.self.inside.entries.entries c.args.self.now c.self.invariant c.self.view_is (length c.self.inside.entries.entries - 1)
     ∙ ap (option_map (λ (e : Id × Handed). e.0)) (nothing_there c.self.inside.entries.entries false refl c.in-None.ensures.variant.1))
 
 pub returns-in-Some : goal.returns-in-Some
 returns-in-Some c = sym
-    (ap (λ n. slice_get (map.keys c.args.self.now) (n - 1)) (sym (len-seen c.self.inside.entries.entries c.args.self.now c.self.invariant c.self.view_is))
-    ∙ key-seen c.self.inside.entries.entries c.args.self.now c.self.invariant c.self.view_is (length c.self.inside.entries.entries - 1)
+    (ap (λ n. slice_get (map.keys c.args.self.now) (n - 1)) (sym (len_seen c.self.inside.entries.entries c.args.self.now c.self.invariant c.self.view_is))
+    ∙ key_seen c.self.inside.entries.entries c.args.self.now c.self.invariant c.self.view_is (length c.self.inside.entries.entries - 1)
     ∙ ap (option_map (λ (e : Id × Handed). e.0)) c.in-Some.ensures.last)

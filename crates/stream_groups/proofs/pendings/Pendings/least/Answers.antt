@@ -5,7 +5,7 @@ use Rattle.stream_groups.specs.declared.pendings.Handed.{Handed}
 use Rattle.std.proofs.lemmas.Bool.{true≢false}
 use Rattle.std.proofs.Common.{◌<◌}
 use Rattle.stream_groups.specs.Groups.{Id}
-use Rattle.stream_groups.proofs.Listing.{key-seen}
+use Rattle.stream_groups.proofs.Listing.{key_seen}
 use Rattle.stream_groups.proofs.pendings.Pendings.least.Goals as goal
 
 -- nothing stands in an empty list
@@ -15,8 +15,8 @@ nothing_there (e ∷ es) b f h = absurd (true≢false (sym (h (omega arith)) ∙
 
 pub returns-in-None : goal.returns-in-None
 returns-in-None c = sym
-    (key-seen c.self.inside.entries.entries c.args.self.now c.self.invariant c.self.view_is 0
+    (key_seen c.self.inside.entries.entries c.args.self.now c.self.invariant c.self.view_is 0
     ∙ ap (option_map (λ (e : Id × Handed). e.0)) (nothing_there c.self.inside.entries.entries false refl c.in-None.ensures.variant.1))
 
 pub returns-in-Some : goal.returns-in-Some
-returns-in-Some c = sym (key-seen c.self.inside.entries.entries c.args.self.now c.self.invariant c.self.view_is 0 ∙ ap (option_map (λ (e : Id × Handed). e.0)) c.in-Some.ensures.first)
+returns-in-Some c = sym (key_seen c.self.inside.entries.entries c.args.self.now c.self.invariant c.self.view_is 0 ∙ ap (option_map (λ (e : Id × Handed). e.0)) c.in-Some.ensures.first)

@@ -5,7 +5,7 @@ use Rattle.std.specs.FinMap as map
 use Rattle.stream_groups.specs.declared.pendings.Handed.{Handed}
 use Rattle.stream_groups.specs.Groups.{Id, Pending, Pendings, placed}
 use Rattle.stream_groups.specs.Kept.{undone, logged, pending_of}
-use Rattle.stream_groups.proofs.Undoing.{put-step, placed-step}
+use Rattle.stream_groups.proofs.Undoing.{put_step, placed_step}
 use Rattle.stream_groups.proofs.pendings.Pendings.put_all.Goals as goal
 
 -- one more put, where the log is as long as what was put
@@ -17,7 +17,7 @@ stepped p new ids ws after was n d e size within is put items =
     ∙ ap (λ xs. undone (map.insert p (get_or ids n d) e) (take (n + 1) ids) (logged xs)) items
     ∙ subst
     (λ k. k < length ids → option_map pending_of was ≡ map.get p (get_or ids k d)
-    → undone (map.insert p (get_or ids k d) e) (take (k + 1) ids) (logged (ws ++ was ∷ [])) ≡ undone p (take k ids) (logged ws)) size (put-step p ids ws was d e) within is
+    → undone (map.insert p (get_or ids k d) e) (take (k + 1) ids) (logged (ws ++ was ∷ [])) ≡ undone p (take k ids) (logged ws)) size (put_step p ids ws was d e) within is
 
 pub loop-id-preserved : goal.loop-id-preserved
 loop-id-preserved c =
@@ -28,6 +28,6 @@ loop-id-preserved c =
       room = subst (λ k. length ids ≤ k) (sym c.push_reserved.ensures.capacity) c.loop-id.invariant.room;
       undo = stepped c.loop-id.self c.put.new.self ids c.loop-id.log.items c.push_reserved.new.self.items c.in-Ok.was c.loop-id.id-index (0, 0) entry c.loop-id.invariant.kept
           c.loop-id-test.true c.in-Ok.ensures.was c.in-Ok.ensures.ok c.push_reserved.ensures.items ∙ c.loop-id.invariant.undo;
-      placed_so_far = ap (λ q. placed q (drop (c.loop-id.id-index + 1) ids) entry) c.in-Ok.ensures.ok ∙ placed-step c.loop-id.self ids c.loop-id.id-index (0, 0) entry c.loop-id-test.true
+      placed_so_far = ap (λ q. placed q (drop (c.loop-id.id-index + 1) ids) entry) c.in-Ok.ensures.ok ∙ placed_step c.loop-id.self ids c.loop-id.id-index (0, 0) entry c.loop-id-test.true
           ∙ c.loop-id.invariant.placed_so_far;
     }

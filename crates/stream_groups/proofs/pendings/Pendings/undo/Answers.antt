@@ -2,7 +2,7 @@ use Rattle.std.proofs.Common.{rules, [], ◌∷◌, ◌++◌, ◌≡◌, ◌+◌
 use Rattle.std.proofs.lemmas.List.{length-append}
 use Rattle.std.specs.Option.{option_map}
 use Rattle.stream_groups.specs.Kept.{undone, restored, logged, pending_of}
-use Rattle.stream_groups.proofs.Undoing.{undo-step}
+use Rattle.stream_groups.proofs.Undoing.{undo_step}
 use Rattle.stream_groups.proofs.pendings.Pendings.undo.Goals as goal
 
 pub loop-was-preserved : goal.loop-was-preserved
@@ -16,7 +16,7 @@ loop-was-preserved c =
     record {
       within = omega arith;
       done = ap (λ q. undone q (take (length ws) ids) (logged ws)) (c.restore.ensures ∙ ap (λ k. restored c.loop-was.self (get_or ids k (0, 0)) (option_map pending_of c.in-Some.was)) count)
-          ∙ sym (undo-step c.loop-was.self ids ws c.in-Some.was (0, 0) shorter)
+          ∙ sym (undo_step c.loop-was.self ids ws c.in-Some.was (0, 0) shorter)
           ∙ ap (λ k. undone c.loop-was.self (take k ids) (logged (ws ++ c.in-Some.was ∷ []))) (sym size)
           ∙ ap (λ xs. undone c.loop-was.self (take (length c.loop-was.log.items) ids) (logged xs)) (sym items)
           ∙ c.loop-was.invariant.done;

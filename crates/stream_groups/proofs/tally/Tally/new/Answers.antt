@@ -1,5 +1,5 @@
-use Rattle.stream_groups.proofs.Uses.{named-none}
+use Rattle.stream_groups.proofs.Uses.{named_none}
 use Rattle.stream_groups.proofs.tally.Tally.new.Goals as goal
 
 pub returns : goal.returns
-returns c = named-none (λ count. count) _ c.new.ensures.empty
+returns c = named_none (λ count. count) _ c.new.ensures.empty

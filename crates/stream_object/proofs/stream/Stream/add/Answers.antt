@@ -1,5 +1,5 @@
 use Rattle.std.proofs.Common.{ℕ, ◌+◌, ◌%◌, ◌^◌, refl, ap, arith}
-use Rattle.blocks.proofs.Serve.{Served-same}
+use Rattle.blocks.proofs.Serve.{served_same}
 use Rattle.stream_node.specs.Ids.{IsId}
 use Rattle.stream_node.proofs.Ids.{id_laws}
 use Rattle.stream_object.specs.Streams.{nodes}
@@ -7,7 +7,7 @@ use Rattle.stream_object.proofs.Grows.{all_below, addable_short, counted_added}
 use Rattle.stream_object.proofs.stream.Stream.add.Goals as goal
 
 pub returns-then-not-is_below-clause-served : goal.returns-then-not-is_below-clause-served
-returns-then-not-is_below-clause-served g c = Served-same _ _ refl
+returns-then-not-is_below-clause-served g c = served_same _ _ refl
 
 pub append-requires-clause-below : goal.append-requires-clause-below
 append-requires-clause-below g c =

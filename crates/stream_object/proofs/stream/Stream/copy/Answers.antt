@@ -1,7 +1,7 @@
 use Rattle.std.proofs.Common.{◌≡◌, ◌∙◌, List, [], None, ◌++◌, refl, ap, subst}
 use Rattle.blocks.specs.declared.BlockRef.{BlockRef}
 use Rattle.blocks.specs.Blocks.{Changes}
-use Rattle.blocks.proofs.Serve.{Served-same, Served-then}
+use Rattle.blocks.proofs.Serve.{served_same, served_then}
 use Rattle.rax_packed.specs.declared.tree.PackedTree.{PackedTree}
 use Rattle.rax_packed.specs.Maps.{entries_of, refs_of as tree_refs, IsSound}
 use Rattle.blocks.specs.Blocks.{Blocks}
@@ -16,7 +16,7 @@ no_refs : (m : Blocks) (tree : PackedTree) → IsSound m tree → entries_of m t
 no_refs m tree sound none refs = refs_are m tree [] (blank m tree sound none refs) ∙ ap (λ (rs : List BlockRef). rs ++ []) refs
 
 pub returns-in_err-groups-clause-served : goal.returns-in_err-groups-clause-served
-returns-in_err-groups-clause-served g c = Served-same _ _ refl
+returns-in_err-groups-clause-served g c = served_same _ _ refl
 
 pub copy_nodes-requires-clause-blank : goal.copy_nodes-requires-clause-blank
 copy_nodes-requires-clause-blank g c =
@@ -29,7 +29,7 @@ copy_nodes-requires-clause-none g c =
     no_refs m c.new-tree.result (c.new-tree.ensures.sound m) (c.new-tree.ensures.entries m) (c.new-tree.ensures.refs m)
 
 pub returns-in-Err-clause-served : goal.returns-in-Err-clause-served
-returns-in-Err-clause-served g c = Served-then _ _ _ (Served-then _ _ _ c.copy_nodes.ensures.served c.clear.ensures.served) c.release.ensures.served
+returns-in-Err-clause-served g c = served_then _ _ _ (served_then _ _ _ c.copy_nodes.ensures.served c.clear.ensures.served) c.release.ensures.served
 
 pub returns-in-Err-clause-err_blocks : goal.returns-in-Err-clause-err_blocks
 returns-in-Err-clause-err_blocks g c =

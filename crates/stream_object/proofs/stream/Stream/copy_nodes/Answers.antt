@@ -2,7 +2,7 @@ use Rattle.std.proofs.Common.{◌∙◌, List, [], refl, sym, subst}
 use Rattle.std.specs.Prelude.{true}
 use Rattle.std.specs.List.{AllByRecursion}
 use Rattle.blocks.specs.Blocks.{no_step}
-use Rattle.blocks.proofs.Serve.{Served-then}
+use Rattle.blocks.proofs.Serve.{served_then}
 use Rattle.stream_object.specs.Copied.{AreSame}
 use Rattle.stream_object.specs.Found.{IsNear, Misses}
 use Rattle.stream_object.specs.Parts.{Part, part, parts_of}
@@ -30,7 +30,7 @@ near-requires g c =
     record { parts = (still m mid c.args.self.now c.requires.is_stream c.args.tree.now c.nodes.tree c.requires.none (parts_of mid c.nodes.tree) c.nodes.invariant.made).parts }
 
 pub returns-in_err-put_last-clause-served : goal.returns-in_err-put_last-clause-served
-returns-in_err-put_last-clause-served g c = Served-then _ _ _ c.nodes.invariant.served c.put_last.ensures.served
+returns-in_err-put_last-clause-served g c = served_then _ _ _ c.nodes.invariant.served c.put_last.ensures.served
 
 pub nodes-preserved : goal.nodes-preserved
 nodes-preserved g c =
@@ -53,7 +53,7 @@ nodes-preserved g c =
       same = subst (λ (ps : List Part). AreSame ps (parts_of after c.put_last.new.tree)) (sym (behind_next m s is c.nodes.at p n c.in-Some-next.next c.in-Some-next.ensures.some))
           (same_more m mid s is old tree c.requires.none (parts_of mid tree) i.made c.nodes.at p n i.same after c.put_last.new.tree spot.key c.deref.result.now refl bytes refl
           c.in_ok-put_last.field-0 c.in_ok-put_last.ensures.placed);
-      served = Served-then _ _ _ i.served c.put_last.ensures.served;
+      served = served_then _ _ _ i.served c.put_last.ensures.served;
     }
 
 pub nodes-smaller : goal.nodes-smaller
@@ -104,7 +104,7 @@ returns-in-None-clause-copied g c =
     (c.deref.ensures.value ∙ c.in_ok-bytes.ensures.items) refl c.in_ok-put_last.field-0 c.in_ok-put_last.ensures.placed)
 
 pub returns-in-None-clause-served : goal.returns-in-None-clause-served
-returns-in-None-clause-served g c = Served-then _ _ _ c.nodes.invariant.served c.put_last.ensures.served
+returns-in-None-clause-served g c = served_then _ _ _ c.nodes.invariant.served c.put_last.ensures.served
 
 pub returns-clause-copied : goal.returns-clause-copied
 returns-clause-copied g c =

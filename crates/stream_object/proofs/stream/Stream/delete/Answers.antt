@@ -1,5 +1,5 @@
 use Rattle.std.proofs.Common.{refl, sym, arith}
-use Rattle.blocks.proofs.Serve.{Served-same}
+use Rattle.blocks.proofs.Serve.{served_same}
 use Rattle.stream_node.specs.Ids.{IsId}
 use Rattle.stream_object.specs.Parts.{part}
 use Rattle.stream_object.specs.Streams.{nodes}
@@ -20,7 +20,7 @@ returns-in_default-clause-deleted g c =
     unchanged m c.args.self.now c.args.id c.requires (nowhere m c.args.id id (nodes m c.args.self.now) c.requires.parts.each c.in_default.ensures.none)
 
 pub returns-in_default-clause-served : goal.returns-in_default-clause-served
-returns-in_default-clause-served g c = Served-same _ _ refl
+returns-in_default-clause-served g c = served_same _ _ refl
 
 pub find-requires : goal.find-requires
 find-requires g c =
@@ -48,7 +48,7 @@ returns-in_default-find-clause-deleted g c =
     c.in_default-find.ensures.none)
 
 pub returns-in_default-find-clause-served : goal.returns-in_default-find-clause-served
-returns-in_default-find-clause-served g c = Served-same _ _ refl
+returns-in_default-find-clause-served g c = served_same _ _ refl
 
 pub take_out-requires-clause-stands : goal.take_out-requires-clause-stands
 take_out-requires-clause-stands g c =

@@ -1,6 +1,6 @@
 use Rattle.std.proofs.Common.{◌≡◌, ℕ, ◌-◌, sym, subst, arith}
 use Rattle.blocks.specs.Blocks.{no_step}
-use Rattle.blocks.proofs.Serve.{Served-then}
+use Rattle.blocks.proofs.Serve.{served_then}
 use Rattle.stream_object.specs.Streams.{IsChanged, stream_of, dropping}
 use Rattle.stream_object.proofs.Trims.{dropped_none, dropped_then}
 use Rattle.stream_object.proofs.stream.Stream.drop_front.Goals as goal
@@ -17,7 +17,7 @@ loop-left-init g c =
     }
 
 pub returns-in_err-left-clause-served : goal.returns-in_err-left-clause-served
-returns-in_err-left-clause-served g c = Served-then _ _ _ c.loop-left.invariant.served c.drop_some.ensures.served
+returns-in_err-left-clause-served g c = served_then _ _ _ c.loop-left.invariant.served c.drop_some.ensures.served
 
 pub loop-left-preserved : goal.loop-left-preserved
 loop-left-preserved g c =
@@ -32,5 +32,5 @@ loop-left-preserved g c =
       len = omega (arith, i.len, h.len);
       changed = dropped_then m mid after c.args.self.now c.loop-left.self c.drop_some.new.self (c.args.count - c.loop-left.left) n (c.args.count - (c.loop-left.left - n))
           (omega (arith, i.few, h.within)) i.changed h.dropped;
-      served = Served-then _ _ _ i.served c.drop_some.ensures.served;
+      served = served_then _ _ _ i.served c.drop_some.ensures.served;
     }

@@ -1,7 +1,7 @@
 use Rattle.std.proofs.Common.{◌≡◌, false, ◌∙◌, ◌<◌, ◌≤◌, [], ◌∷◌, ◌++◌, length, map, refl, sym, ap, subst, arith}
 use Rattle.std.proofs.lemmas.List.{append-nil, map-append}
 use Rattle.blocks.specs.Blocks.{no_step}
-use Rattle.blocks.proofs.Serve.{Served-then}
+use Rattle.blocks.proofs.Serve.{served_then}
 use Rattle.listpack.specs.Pack.{texts}
 use Rattle.stream_node.specs.Entries.{entries_of}
 use Rattle.stream_node.specs.Entry.{Stored}
@@ -9,7 +9,7 @@ use Rattle.stream_node.specs.Ids.{id_number}
 use Rattle.stream_node.specs.Room.{alone_len}
 use Rattle.stream_node.specs.View.{stored}
 use Rattle.stream_node.specs.Views.{left_of}
-use Rattle.rax_packed.proofs.Entries.{all-back, all-front}
+use Rattle.rax_packed.proofs.Entries.{all_back, all_front}
 use Rattle.stream_object.specs.Loading.{AreAbove, AreLiveUpto, loaded}
 use Rattle.stream_object.specs.Streams.{IsChanged, nodes, stream_of}
 use Rattle.stream_object.proofs.Alone.{alone_short, node_some}
@@ -77,13 +77,13 @@ loop-entry-preserved g c =
           c.in-Some.ensures.steps sorted);
       upto = λ id old live.
           let each = subst (AreLiveUpto id) (map-append stored c.loop-entry.yielded (c.in-Some.entry ∷ [])) live in
-          c.in_ok-load_entry.ensures.upto id (i.upto id old (all-front (λ (x : Stored). x.deleted ≡ false → id_number x.id ≤ id_number id) (map stored c.loop-entry.yielded) (e ∷ []) each))
-          (all-back (λ (x : Stored). x.deleted ≡ false → id_number x.id ≤ id_number id) (map stored c.loop-entry.yielded) (e ∷ []) each);
-      served = Served-then _ _ _ i.served c.load_entry.ensures.served;
+          c.in_ok-load_entry.ensures.upto id (i.upto id old (all_front (λ (x : Stored). x.deleted ≡ false → id_number x.id ≤ id_number id) (map stored c.loop-entry.yielded) (e ∷ []) each))
+          (all_back (λ (x : Stored). x.deleted ≡ false → id_number x.id ≤ id_number id) (map stored c.loop-entry.yielded) (e ∷ []) each);
+      served = served_then _ _ _ i.served c.load_entry.ensures.served;
     }
 
 pub returns-in_err-load_entry-clause-served : goal.returns-in_err-load_entry-clause-served
-returns-in_err-load_entry-clause-served g c = Served-then _ _ _ c.loop-entry.invariant.served c.load_entry.ensures.served
+returns-in_err-load_entry-clause-served g c = served_then _ _ _ c.loop-entry.invariant.served c.load_entry.ensures.served
 
 pub returns-in_err-load_entry-clause-err_some : goal.returns-in_err-load_entry-clause-err_some
 returns-in_err-load_entry-clause-err_some g c =

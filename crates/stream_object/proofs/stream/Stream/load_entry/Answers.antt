@@ -1,5 +1,5 @@
 use Rattle.std.proofs.Common.{◌∙◌, ◌<◌, length, refl, sym, ap, subst, arith}
-use Rattle.blocks.proofs.Serve.{Served-same}
+use Rattle.blocks.proofs.Serve.{served_same}
 use Rattle.stream_node.specs.Ids.{IsId, id_number}
 use Rattle.stream_node.specs.Room.{alone_len}
 use Rattle.stream_node.specs.View.{stored}
@@ -16,10 +16,10 @@ returns-then-deleted-clause-loaded g c =
     (ap (λ i. record c.args.self.now { last = i }) c.id-self.ensures)
 
 pub returns-then-deleted-clause-served : goal.returns-then-deleted-clause-served
-returns-then-deleted-clause-served g c = Served-same _ _ refl
+returns-then-deleted-clause-served g c = served_same _ _ refl
 
 pub returns-in_err-pairs-clause-served : goal.returns-in_err-pairs-clause-served
-returns-in_err-pairs-clause-served g c = Served-same _ _ refl
+returns-in_err-pairs-clause-served g c = served_same _ _ refl
 
 pub append-requires-clause-below : goal.append-requires-clause-below
 append-requires-clause-below g c = subst (λ i. AreBelow i (nodes (g.B.BlockStore.blocks c.args.store.now) c.args.self.now)) (sym c.id.ensures) c.requires.below

@@ -1,5 +1,5 @@
 use Rattle.std.proofs.Common.{List, length, ap, refl, arith}
-use Rattle.blocks.proofs.Serve.{Served-same}
+use Rattle.blocks.proofs.Serve.{served_same}
 use Rattle.stream_node.specs.Entry.{Stored}
 use Rattle.stream_node.specs.Ids.{IsId}
 use Rattle.stream_node.proofs.Ids.{id_laws}
@@ -12,7 +12,7 @@ pub entries-requires : goal.entries-requires
 entries-requires g c = c.requires.whole.is_node
 
 pub returns-in_default-clause-served : goal.returns-in_default-clause-served
-returns-in_default-clause-served g c = Served-same _ _ refl
+returns-in_default-clause-served g c = served_same _ _ refl
 
 pub returns-clause-loaded : goal.returns-clause-loaded
 returns-clause-loaded g c =

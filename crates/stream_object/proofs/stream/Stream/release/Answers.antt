@@ -1,4 +1,4 @@
-use Rattle.blocks.proofs.Serve.{Served-then}
+use Rattle.blocks.proofs.Serve.{served_then}
 use Rattle.stream_object.proofs.Clears.{all_released}
 use Rattle.stream_object.proofs.stream.Stream.release.Goals as goal
 
@@ -11,4 +11,4 @@ returns-clause-changes g c =
     c.clear.ensures.cleared c.release.ensures.changes
 
 pub returns-clause-served : goal.returns-clause-served
-returns-clause-served g c = Served-then _ _ _ c.clear.ensures.served c.release.ensures.served
+returns-clause-served g c = served_then _ _ _ c.clear.ensures.served c.release.ensures.served

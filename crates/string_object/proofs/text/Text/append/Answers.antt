@@ -1,5 +1,5 @@
-use Rattle.blocks.proofs.Serve.{Served-next}
+use Rattle.blocks.proofs.Serve.{served_next}
 use Rattle.string_object.proofs.text.Text.append.Goals as goal
 
 pub returns-clause-served : goal.returns-clause-served
-returns-clause-served g c = Served-next _ _ _ c.widen.ensures.served c.write.ensures.step
+returns-clause-served g c = served_next _ _ _ c.widen.ensures.served c.write.ensures.step

@@ -1,7 +1,7 @@
 use Rattle.std.proofs.Common.{◌≡◌, ◌+◌, ◌<◌, length, max, ap, ◌∙◌, arith}
 use Rattle.std.proofs.lemmas.Grind.{common_steps}
 use Rattle.blocks.specs.Blocks.{overwritten, widened, no_step}
-use Rattle.blocks.proofs.Serve.{Served-next}
+use Rattle.blocks.proofs.Serve.{served_next}
 use Rattle.string_object.specs.Text.{text_bytes}
 use Rattle.string_object.proofs.Lists.{overwritten_range}
 use Rattle.string_object.proofs.Texts.{text_written}
@@ -22,4 +22,4 @@ returns-clause-bytes g c =
     ∙ overwritten_range xs piece c.args.at some
 
 pub returns-clause-served : goal.returns-clause-served
-returns-clause-served g c = Served-next _ _ _ c.widen.ensures.served c.write.ensures.step
+returns-clause-served g c = served_next _ _ _ c.widen.ensures.served c.write.ensures.step

@@ -2,8 +2,8 @@ use Rattle.std.proofs.Common.{ℤ, w64, [], subst}
 use Rattle.std.proofs.lemmas.Int.{to_z-of_z}
 use Rattle.std.specs.FinMap.{insert}
 use Rattle.blocks.specs.Blocks.{Blocks, Changes}
-use Rattle.blocks.proofs.Change.{Changes-then}
-use Rattle.blocks.proofs.Serve.{Served-then}
+use Rattle.blocks.proofs.Change.{changes_then}
+use Rattle.blocks.proofs.Serve.{served_then}
 use Rattle.score_table.specs.Scored as table
 use Rattle.zset_object.specs.Scored.{scores}
 use Rattle.zset_object.proofs.Placing.{table_body, placed_then, all_same}
@@ -24,10 +24,10 @@ returns-in-Ok-clause-placed g c =
     c.in-Ok.ensures.changed)))
 
 pub returns-in-Ok-clause-served : goal.returns-in-Ok-clause-served
-returns-in-Ok-clause-served g c = Served-then _ _ _ c.table_all.ensures.served c.set.ensures.served
+returns-in-Ok-clause-served g c = served_then _ _ _ c.table_all.ensures.served c.set.ensures.served
 
 pub returns-in-Err-clause-served : goal.returns-in-Err-clause-served
-returns-in-Err-clause-served g c = Served-then _ _ _ (Served-then _ _ _ c.table_all.ensures.served c.set.ensures.served) c.release.ensures.served
+returns-in-Err-clause-served g c = served_then _ _ _ (served_then _ _ _ c.table_all.ensures.served c.set.ensures.served) c.release.ensures.served
 
 pub returns-in-Err-clause-err_blocks : goal.returns-in-Err-clause-err_blocks
 returns-in-Err-clause-err_blocks g c =
@@ -38,4 +38,4 @@ returns-in-Err-clause-err_blocks g c =
     let ended : Changes mid n (table.refs t) [] =
     subst (λ (b : Blocks). Changes b n (table.refs t) []) c.in-Err.ensures.err_blocks
     (subst (λ t. Changes (g.B.BlockStore.blocks c.set.new.store) n (table.refs t) []) c.in-Err.ensures.err_table c.release.ensures.changes) in
-    all_same m n (Changes-then m mid n [] (table.refs t) [] c.in_ok-table.ensures.placed.changes ended)
+    all_same m n (changes_then m mid n [] (table.refs t) [] c.in_ok-table.ensures.placed.changes ended)

@@ -2,7 +2,7 @@ use Rattle.std.proofs.Common.{◌≡◌, ℤ, w64, [], sym, ap, subst}
 use Rattle.std.proofs.lemmas.Int.{to_z-of_z}
 use Rattle.std.specs.FinMap.{insert}
 use Rattle.blocks.specs.Blocks.{Changes}
-use Rattle.blocks.proofs.Serve.{Served-then}
+use Rattle.blocks.proofs.Serve.{served_then}
 use Rattle.object_codec.specs.declared.form.Form.TheVariants.{Skiplist}
 use Rattle.zset_object.specs.declared.scored.Body.{Body}
 use Rattle.zset_object.specs.Scored.{IsChanged, IsPlacedBody, scores, refs_of_body, form_of_body}
@@ -26,4 +26,4 @@ pub returns-clause-form : goal.returns-clause-form
 returns-clause-form g c = subst (λ (b : Body). form_of_body b ≡ Skiplist) (sym c.replace.ensures.after) c.in_ok-body.ensures.form
 
 pub returns-clause-served : goal.returns-clause-served
-returns-clause-served g c = Served-then _ _ _ c.place_table.ensures.served c.release.ensures.served
+returns-clause-served g c = served_then _ _ _ c.place_table.ensures.served c.release.ensures.served

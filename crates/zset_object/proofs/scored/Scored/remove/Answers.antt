@@ -1,7 +1,7 @@
 use Rattle.std.proofs.Common.{is_some, [], sym, ap, ◌∙◌, subst, refl}
 use Rattle.std.specs.FinMap.{remove}
 use Rattle.blocks.specs.Blocks.{Changes}
-use Rattle.blocks.proofs.Serve.{Served-then}
+use Rattle.blocks.proofs.Serve.{served_then}
 use Rattle.rehash_dict.specs.Tables.{IsSettled}
 use Rattle.zset_object.specs.declared.scored.Body.{Body}
 use Rattle.zset_object.specs.Scored.{IsChanged, scores, refs_of_body, form_of_body, tables_of}
@@ -25,7 +25,7 @@ returns-in-Some g c =
           (body_changed m mid n self c.in-Some.body map c.requires p released (packed_tables m self.body c.in_default.not-Table));
       form = ap form_of_body c.replace.ensures.after ∙ form ∙ sym (form_listpack self.body (packed_form self.body c.in_default.not-Table));
       settled = λ _. subst (λ (b : Body). IsSettled (tables_of n b)) (sym c.replace.ensures.after) (placed_settled n c.in-Some.body form);
-      served = Served-then _ _ _ c.place_without.ensures.served c.release.ensures.served;
+      served = served_then _ _ _ c.place_without.ensures.served c.release.ensures.served;
       same_scored = λ h. absurd cc;
       same_blocks = λ h. absurd cc;
       err_scored = tt;
