@@ -108,7 +108,8 @@ from_root bound levels nodes t label some' one = (let p = t.power some' in recor
   lacks = λ n lt. absurd (omega (arith, p, lt));
 })
 
-pub none_under : (bound levels : ℕ) (nodes : List ℕ) (t : IsTree bound levels nodes) (label : ℕ) → bit_at (word_of nodes 1) label ≡ 0 → (n : ℕ) → n < bound → bit_at (word_of nodes (bound + n)) label ≡ 0
+pub none_under : (bound levels : ℕ) (nodes : List ℕ) (t : IsTree bound levels nodes) (label : ℕ) → bit_at (word_of nodes 1) label ≡ 0 → (n : ℕ) → n < bound
+    → bit_at (word_of nodes (bound + n)) label ≡ 0
 none_under bound levels nodes t label none n lt = (let p = t.power (λ z. absurd (omega (arith, z, lt))) in
     under bound nodes t.mended label levels 1 (omega arith) none (omega (arith, p)) (bound + n) (omega (arith, p)) (omega (arith, p, lt)))
 

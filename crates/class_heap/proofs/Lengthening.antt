@@ -311,7 +311,8 @@ pub ok_blocks : {E : Type 0} (first last : ClassHeap) (at : BlockRef) (len : ℕ
 ok_blocks first last at len (Ok new) l live room = lengthened_blocks l live room
 ok_blocks first last at len (Err e) l live room = l
 
-pub ok_calm_in_lengthening : {E : Type 0} (first last : ClassHeap) (at : BlockRef) (len : ℕ) (r : Result BlockRef E) → IfOk r (Lengthens first last at len) → IfOk r (λ new. wants (heap_slabs last) new ≡ false)
+pub ok_calm_in_lengthening : {E : Type 0} (first last : ClassHeap) (at : BlockRef) (len : ℕ) (r : Result BlockRef E) → IfOk r (Lengthens first last at len)
+    → IfOk r (λ new. wants (heap_slabs last) new ≡ false)
 ok_calm_in_lengthening first last at len (Ok new) l = lengthened_calm l
 ok_calm_in_lengthening first last at len (Err e) l = l
 

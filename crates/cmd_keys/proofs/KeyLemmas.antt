@@ -163,7 +163,8 @@ pub ran_keys : {S E : Type 0} (blocks : S → Blocks) (step : S → S → Type 0
 ran_keys {E = E} blocks step old new at command same result fixed shows is given kept forms =
     subst (λ c. Runs {E = E} blocks step old new at (Keys c) result) (sym is) (record { answers = answers result given; kept = kept; shows = key_shows _ result shows; forms = forms })
   where
-    answers : (result : Result (List Part) E) → Gives blocks old new at same result → IfOk result (λ reply. may_keys old.bases.seed (visible blocks old at) at.moment same reply (visible blocks new at))
+    answers : (result : Result (List Part) E) → Gives blocks old new at same result
+        → IfOk result (λ reply. may_keys old.bases.seed (visible blocks old at) at.moment same reply (visible blocks new at))
     answers (Ok reply) given = fixed reply (visible blocks new at) (outcome_is (key_outcome at.moment (visible blocks old at) same) reply (visible blocks new at) given)
     answers (Err x) given = tt
 

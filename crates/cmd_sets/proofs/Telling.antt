@@ -111,7 +111,8 @@ module _ {S : Type 0} (own : Members → Form → Members → Form → Type 0) (
       (λ number e found bytes. record {
         from = p.from;
         form = p.form;
-        at = subst (λ t. IsSourceForm t (FitsMembers old.bases.limits empty) old.bases (blocks old.store) at.db key p.from) (sym (there_before (visible blocks old at) key p.before p.stands)) p.was_form;
+        at = subst (λ t. IsSourceForm t (FitsMembers old.bases.limits empty) old.bases (blocks old.store) at.db key p.from)
+            (sym (there_before (visible blocks old at) key p.before p.stands)) p.was_form;
         is = (p.is number e found bytes).0;
         risen = subst (λ (s : Members). RisesWith old.bases.limits p.from s words p.form) (sym (set_before (visible blocks old at) key p.before p.stands)) risen;
       })

@@ -23,7 +23,8 @@ pub fn zscan<B: BlockStore>(
 ) -> Result<Reply, Memory>
     requires ready { Ready B.blocks keyspace.now at.now }
     requires count { 0 < options.now.count }
-    ensures gives { IfOk result (λ reply. may_zsets keyspace.now.bases.seed (visible B.blocks keyspace.now at.now) (zsets.ZScan key.now cursor options.now) reply (visible B.blocks keyspace.now at.now)) }
+    ensures gives { IfOk result
+        (λ reply. may_zsets keyspace.now.bases.seed (visible B.blocks keyspace.now at.now) (zsets.ZScan key.now cursor options.now) reply (visible B.blocks keyspace.now at.now)) }
     ensures shows { IfOk result (λ reply. IsValuePage keyspace.now.bases (B.blocks keyspace.now.store) at.now key.now cursor options.now true reply) }
 {
     let alloc = keyspace.alloc();

@@ -125,7 +125,8 @@ pub fn zrandmember<B: BlockStore>(
     dice: &mut Pcg32,
 ) -> Result<Reply, Memory>
     requires ready { Ready B.blocks keyspace.now at.now }
-    ensures gives { IfOk result (λ reply. may_zsets keyspace.now.bases.seed (visible B.blocks keyspace.now at.now) (zsets.ZRandMember key.now n with_scores) reply (visible B.blocks keyspace.now at.now)) }
+    ensures gives { IfOk result
+        (λ reply. may_zsets keyspace.now.bases.seed (visible B.blocks keyspace.now at.now) (zsets.ZRandMember key.now n with_scores) reply (visible B.blocks keyspace.now at.now)) }
 {
     let alloc = keyspace.alloc();
     match zset_at(keyspace, at, key) {

@@ -170,7 +170,8 @@ first_refused [] word refusal e = ap (λ r. and_then r (λ score. Err Syntax)) e
 first_refused (member ∷ words) word refusal e = ap (λ r. and_then r (λ score. and_then (scores_read words) (λ pairs. Ok ((score, member) ∷ pairs)))) e
 
 -- a word that is no score
-pub score_refused : (pairs : List (ℤ × List ℕ)) (words : Words) (i : ℕ) (refusal : Refusal) → i < length words → told Score (word_at words i) ≡ Err refusal → behind_pairs pairs (drop i words) ≡ Err refusal
+pub score_refused : (pairs : List (ℤ × List ℕ)) (words : Words) (i : ℕ) (refusal : Refusal) → i < length words → told Score (word_at words i) ≡ Err refusal
+    → behind_pairs pairs (drop i words) ≡ Err refusal
 score_refused pairs words i refusal within e =
     ap (behind_pairs pairs) (from_place words i within) ∙ ap (λ r. and_then r (λ rest. Ok (pairs ++ rest))) (first_refused (drop (i + 1) words) (word_at words i) refusal e)
 
@@ -192,7 +193,8 @@ passes_gathers means (Refused refusal) h = h
 passes_gathers means Memory h = absurd h
 
 -- a last score without a member
-pub lone_score : (pairs : List (ℤ × List ℕ)) (words : Words) (i : ℕ) (n : ℤ) → i < length words → length words - i < 2 → told Score (word_at words i) ≡ Ok n → behind_pairs pairs (drop i words) ≡ Err Syntax
+pub lone_score : (pairs : List (ℤ × List ℕ)) (words : Words) (i : ℕ) (n : ℤ) → i < length words → length words - i < 2 → told Score (word_at words i) ≡ Ok n
+    → behind_pairs pairs (drop i words) ≡ Err Syntax
 lone_score pairs words i n within last e =
     let none : drop (i + 1) words ≡ [] = drop_all (i + 1) words (omega (arith, within, last)) in
     ap (behind_pairs pairs) (from_place words i within ∙ ap (λ l. word_at words i ∷ l) none) ∙ ap (λ r. and_then (and_then r (λ score. Err Syntax)) (λ rest. Ok (pairs ++ rest))) e

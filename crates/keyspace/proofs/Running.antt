@@ -36,7 +36,8 @@ unchanged blocks step scope keyspace (Ok reply) sound = record { refusals = λ r
 unchanged blocks step scope keyspace (Err e) sound = record { refusals = tt; held = same_held blocks step scope keyspace sound }
 
 -- one part after another
-pub held_then : {S : Type 0} (blocks : S → Blocks) (step : S → S → Type 0) (scope : Scope) (a b c : Keyspace S) → KeepsTo blocks step scope a b → KeepsTo blocks step scope b c → KeepsTo blocks step scope a c
+pub held_then : {S : Type 0} (blocks : S → Blocks) (step : S → S → Type 0) (scope : Scope) (a b c : Keyspace S) → KeepsTo blocks step scope a b → KeepsTo blocks step scope b c
+    → KeepsTo blocks step scope a c
 held_then blocks step scope a b c p q = record {
   sound = q.sound;
   served = served_then _ _ _ p.served q.served;

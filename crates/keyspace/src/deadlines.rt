@@ -74,7 +74,8 @@ pub fn expire_sought<B: BlockStore>(
 ) -> Result<(), Memory>
     requires ready { Ready B.blocks keyspace.old at.now }
     requires sees { Sees B.blocks keyspace.old at.now key.now found }
-    ensures world { OnOk result (visible B.blocks keyspace.new at.now ≡ model.expire (visible B.blocks keyspace.old at.now) at.now.moment key.now due (look (visible B.blocks keyspace.old at.now) key.now)) }
+    ensures world { OnOk result
+        (visible B.blocks keyspace.new at.now ≡ model.expire (visible B.blocks keyspace.old at.now) at.now.moment key.now due (look (visible B.blocks keyspace.old at.now) key.now)) }
     ensures held { KeepsTo B.blocks B.step (no_key at.now.db) keyspace.old keyspace.new }
     ensures err { OnErr result ((keyspace.new.bases ≡ keyspace.old.bases) × (keyspace.new.store ≡ keyspace.old.store)) }
 {

@@ -25,7 +25,7 @@ use Rattle.plain_model.specs.declared.stream_command.StreamCommand.TheVariants a
 use Rattle.plain_world.specs.declared.refusal.Refusal.{Refusal}
 use Rattle.plain_world.specs.declared.refusal.Refusal.TheVariants.{WrongNumberOfArguments, Syntax, ValueOutOfRange}
 use Rattle.plain_model.specs.declared.zset_command.Direction.TheVariants.{Rising, Falling}
-use Rattle.plain_model.proofs.Asked.{then_told, if_has, if_true, never, made, fixed_fits, by_second_fits, repeated_fits, with_options_fits}
+use Rattle.plain_model.proofs.Told.{then_told, if_has, if_true, never, made, fixed_fits, by_second_fits, repeated_fits, with_options_fits}
 
 -- an entry that is added has a pair at least, so many words at most, and not too many bytes
 pub record IsEntry (most : ℕ) (pairs : List (List ℕ × List ℕ)) : Type 0 where

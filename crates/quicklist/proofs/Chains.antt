@@ -10,7 +10,8 @@ use Rattle.blocks.specs.declared.BlockRef.{BlockRef}
 use Rattle.blocks.specs.Blocks.{Blocks, ref_eq, with_block, live, times, IsIn, Changes, Owned}
 use Rattle.blocks.proofs.Refs.{apart_live, ref_eq_refl, ref_eq_sym, cases_ref, with_block_other}
 use Rattle.blocks.proofs.Times.{times-append}
-use Rattle.blocks.proofs.Change.{one, live_is_in_change, live_some, live_once, Counts, counts_placed, counts_ended, counts_changed, changes_counted, changes_then, changes_both, changes_same, changes_owned}
+use Rattle.blocks.proofs.Change.{one, live_is_in_change, live_some, live_once, Counts, counts_placed, counts_ended, counts_changed, changes_counted, changes_then, changes_both}
+use Rattle.blocks.proofs.Change.{changes_same, changes_owned}
 use Rattle.quicklist.specs.declared.node.Container.{Container}
 use Rattle.quicklist.specs.declared.node.Node.{Node}
 use Rattle.quicklist.specs.declared.piece.Piece.{Piece}

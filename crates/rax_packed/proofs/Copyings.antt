@@ -9,7 +9,8 @@ use Rattle.std.proofs.lemmas.Bool.{cond-true}
 use Rattle.blocks.specs.declared.BlockRef.{BlockRef}
 use Rattle.blocks.specs.Blocks.{Blocks, ref_eq, times, live, IsIn, Changes, Owned, with_block, bytes_at, overwritten}
 use Rattle.blocks.proofs.Refs.{ref_eq_refl, ref_eq_sym, with_block_same, with_block_other, apart_live}
-use Rattle.blocks.proofs.Change.{one, cases_in, with_block_undone, live_is_in_change, other_than, counts_then, counts_changed, counts_written, changes_counted, changes_both, changes_owned, changes_then}
+use Rattle.blocks.proofs.Change.{one, cases_in, with_block_undone, live_is_in_change, other_than, counts_then, counts_changed, counts_written, changes_counted, changes_both, changes_owned}
+use Rattle.blocks.proofs.Change.{changes_then}
 use Rattle.rax_packed.specs.Nodes.{Link, Node, Leaf, Inner, IsInner, IsNode, HoldsNode, Fits, IsRef, spelled, ref_bytes, node_of}
 use Rattle.rax_packed.specs.Trees.{Entry, node_at, under, entries, refs, IsTree, refs_at, IsTreeAt}
 use Rattle.rax_packed.specs.Ways.{IsInnerBytes, links_in, prefix_in}

@@ -47,7 +47,8 @@ found_at_in_gaps (x ∷ names) name zero is = cond-true _ _ _ (tied (bytes_of x)
 found_at_in_gaps (x ∷ names) name (suc at) is = found_later _ _ (found_at_in_gaps names name at (record { in_range = omega (arith, is.in_range); here = is.here }))
 
 -- no name is the one asked for
-none_above_in_gaps : (names : List Name) (name : List ℕ) → ((k : ℕ) (d : Name) → 0 ≤ k → k < length names → name_cmp (bytes_of (get_or names k d)) name ≡ Greater) → find name_cmp name (listed names) ≡ None
+none_above_in_gaps : (names : List Name) (name : List ℕ) → ((k : ℕ) (d : Name) → 0 ≤ k → k < length names → name_cmp (bytes_of (get_or names k d)) name ≡ Greater)
+    → find name_cmp name (listed names) ≡ None
 none_above_in_gaps [] name above = refl
 none_above_in_gaps (x ∷ names) name above = cond-false _ _ _ (ap is_eq (turned name (bytes_of x) _ refl) ∙ untied_above _ (above 0 x (omega arith) (omega arith)))
     ∙ none_above_in_gaps names name (λ k d low high. above (suc k) d (omega arith) (omega arith))

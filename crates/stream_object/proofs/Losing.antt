@@ -225,7 +225,8 @@ module _ (id : Id) (fits : IsId id) where
       higher = higher_other a.after mine.1 (subst (λ (i : Id). AllByRecursion (λ x. id_number i < id_number x.id) a.after) same sides.1)
 
       here : live_in p ≡ live_of a.before ++ (plain e ∷ live_of a.after)
-      here = ap live_of a.place ∙ live_append a.before (e ∷ a.after) ∙ ap (λ xs. live_of a.before ++ xs) (live_append (e ∷ []) a.after ∙ ap (λ xs. xs ++ live_of a.after) (live_one_in_marking e a.live))
+      here = ap live_of a.place ∙ live_append a.before (e ∷ a.after)
+          ∙ ap (λ xs. live_of a.before ++ xs) (live_append (e ∷ []) a.after ∙ ap (λ xs. xs ++ live_of a.after) (live_one_in_marking e a.live))
 
       pub found_here : list_any test (entries_in ps) ≡ true
       found_here =

@@ -23,7 +23,8 @@ text_own a b (Raw slot slab) same = ap (λ o. unwrap_or o []) (same (block slot 
 
 pub text_beside : (m n : Blocks) (at : BlockRef) (content : Option (List ℕ)) (text : Text) → Owned (text_refs text) m → m at ≡ None → n ≡ with_block m at content
     → text_bytes n text ≡ text_bytes m text
-text_beside m n at content text own fresh is = text_own m n text (λ r isin. ap (λ k. k r) is ∙ with_block_other m at r content (apart_live m r at (live_is_in_change m r (omega (arith, own r, isin))) fresh))
+text_beside m n at content text own fresh is = text_own m n text
+    (λ r isin. ap (λ k. k r) is ∙ with_block_other m at r content (apart_live m r at (live_is_in_change m r (omega (arith, own r, isin))) fresh))
 
 text_others : (a b : Blocks) (text : Text) (old new : List BlockRef) → Owned (text_refs text ++ old) a → Changes a b old new → text_bytes b text ≡ text_bytes a text
 text_others a b text old new own p = text_own a b text

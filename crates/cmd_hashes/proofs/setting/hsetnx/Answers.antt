@@ -14,7 +14,8 @@ returns-then-has_field-clause-kept g c = unchanged g.B.BlockStore.blocks g.B.Blo
 pub returns-then-has_field-clause-gives : goal.returns-then-has_field-clause-gives
 returns-then-has_field-clause-gives g c =
     let f = c.has_field.ensures in
-    kept_told (visible g.B.BlockStore.blocks c.args.keyspace.now c.args.at.now) c.args.key.now c.args.field.now c.args.value.now f.0 f.1 (sym f.2 ∙ c.if-has_field.true) c.number.result c.number.ensures
+    kept_told (visible g.B.BlockStore.blocks c.args.keyspace.now c.args.at.now) c.args.key.now c.args.field.now c.args.value.now f.0 f.1 (sym f.2 ∙ c.if-has_field.true) c.number.result
+    c.number.ensures
 
 pub returns-clause-gives : goal.returns-clause-gives
 returns-clause-gives g c =

@@ -15,7 +15,10 @@ returns-in-Missing g c =
 
 pub returns-in-Other : goal.returns-in-Other
 returns-in-Other g c =
-    record { gives = other_refused c.args.keyspace.now.bases.seed (visible g.B.BlockStore.blocks c.args.keyspace.now c.args.at.now) c.args.key.now c.refused.result c.in-Other.ensures c.refused.ensures }
+    record {
+      gives = other_refused c.args.keyspace.now.bases.seed (visible g.B.BlockStore.blocks c.args.keyspace.now c.args.at.now) c.args.key.now c.refused.result c.in-Other.ensures
+          c.refused.ensures;
+    }
 
 pub returns-in-There : goal.returns-in-There
 returns-in-There g c =

@@ -55,7 +55,8 @@ returns-in-Ok-next_times-clause-others c =
     let name = c.args.name.now in
     let old = c.args.stream.now in
     let middle = c.add_consumer.new.self in
-    changes_then_in_grouped name old middle (changes_by name old middle (with_name c.text-consumer.result.now) c.requires.there c.in-Ok-Some-true.ensures.ok) c.read_claims.new.stream c.read_claims.ensures.others
+    changes_then_in_grouped name old middle (changes_by name old middle (with_name c.text-consumer.result.now) c.requires.there c.in-Ok-Some-true.ensures.ok) c.read_claims.new.stream
+    c.read_claims.ensures.others
 
 pub returns-in-Err-next_times-clause-reads : goal.returns-in-Err-next_times-clause-reads
 returns-in-Err-next_times-clause-reads c =

@@ -67,7 +67,8 @@ returns-in-Err-read_consumer-clause-reads c =
     c.in-Err-read_consumer.ensures.reads
 
 pub returns-in-Err-read_consumer-clause-others : goal.returns-in-Err-read_consumer-clause-others
-returns-in-Err-read_consumer-clause-others c = changes_then_in_grouped c.args.name.now c.args.stream.now c.consumers.stream c.consumers.invariant.others c.read_consumer.new.stream c.read_consumer.ensures.others
+returns-in-Err-read_consumer-clause-others c = changes_then_in_grouped c.args.name.now c.args.stream.now c.consumers.stream c.consumers.invariant.others c.read_consumer.new.stream
+    c.read_consumer.ensures.others
 
 pub returns-clause-reads : goal.returns-clause-reads
 returns-clause-reads c =
