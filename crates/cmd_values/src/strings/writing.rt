@@ -196,7 +196,7 @@ fn lifetime_at<B: BlockStore>(
 {
     match lifetime {
         Lifetime::Forever => Some(None),
-        Lifetime::KeepsOrRefuses => Some(seen_deadline(keyspace, at, key, found)),
+        Lifetime::Kept => Some(seen_deadline(keyspace, at, key, found)),
         Lifetime::Until(time) => match time.due(at.moment) {
             None => None,
             Some(due) => Some(Some(from_zero(due))),
