@@ -332,7 +332,7 @@ none_kept class (x ∷ rest) u = omega (arith, count_cons (is_kept class) x rest
 -- ---- a marking of one class
 
 -- a slab without its mark has as many blocks of a class
-used_bare : (class : ℕ) (o : Option SlabUse) → used_in class (unmarked o) ≡ used_in class o
+pub used_bare : (class : ℕ) (o : Option SlabUse) → used_in class (unmarked o) ≡ used_in class o
 used_bare class None = refl
 used_bare class (Some s) = refl
 
@@ -349,14 +349,14 @@ sum_alike f none (x ∷ xs) [] h = omega (arith, sum_by-cons f x xs, none, h 0, 
 sum_alike f none (x ∷ xs) (y ∷ ys) h = omega (arith, sum_by-cons f x xs, sum_by-cons f y ys, h 0, sum_alike f none xs ys (λ n. h (suc n)))
 
 -- a count of slabs that their marks don't change
-bare_same : {class : ℕ} (old new : List Entry) → IsMarking class old new → (f : Option SlabUse → ℕ) → f None ≡ 0 → ((o : Option SlabUse) → f (unmarked o) ≡ f o)
-    → sum_by f (uses new) ≡ sum_by f (uses old)
-bare_same old new m f none bare = sum_alike f none (uses old) (uses new)
-    (λ n. sym (bare (get_or (uses new) n None)) ∙ (ap f (ap unmarked (slab_read true new n) ∙ (m.same n ∙ ap unmarked (sym (slab_read true old n)))) ∙ bare (get_or (uses old) n None)))
+pub bare_same : (old new : List Entry) → ((n : ℕ) → unmarked (use_in (entry_at new n)) ≡ unmarked (use_in (entry_at old n))) → (f : Option SlabUse → ℕ) → f None ≡ 0
+    → ((o : Option SlabUse) → f (unmarked o) ≡ f o) → sum_by f (uses new) ≡ sum_by f (uses old)
+bare_same old new same f none bare = sum_alike f none (uses old) (uses new)
+    (λ n. sym (bare (get_or (uses new) n None)) ∙ (ap f (ap unmarked (slab_read true new n) ∙ (same n ∙ ap unmarked (sym (slab_read true old n)))) ∙ bare (get_or (uses old) n None)))
 
 -- a marking leaves each class as many blocks
 pub used_marked : {class : ℕ} (old new : List Entry) → IsMarking class old new → (c : ℕ) → sum_by (used_in c) (uses new) ≡ sum_by (used_in c) (uses old)
-used_marked old new m c = bare_same old new m (used_in c) refl (used_bare c)
+used_marked old new m c = bare_same old new m.same (used_in c) refl (used_bare c)
 
 -- entries that stay are a marking of any class
 pub marking_same : (class : ℕ) (entries : List Entry) → IsMarking class entries entries

@@ -10,6 +10,7 @@ pub mod Descent
 pub mod Heaps
 pub mod Placings
 pub mod Keeping
+pub mod Tallies
 pub mod Moving
 pub mod Returns
 pub mod Lengthening

@@ -1,9 +1,8 @@
 -- The blocks of a slab after a change of one slot.
-use Rattle.std.specs.Prelude.{◌≡◌, ◌≢◌, ℕ, suc, ◌+◌, ◌-◌, ◌*◌, ◌<◌, ◌≤◌, true, nat_lt, List, [], length, take, drop, replicate, slice_set, Some, None, IsSome, unwrap_or, refl, ◌⊎◌}
+use Rattle.std.specs.Prelude.{◌≡◌, ◌≢◌, ℕ, suc, ◌+◌, ◌-◌, ◌*◌, ◌<◌, ◌≤◌, true, nat_lt, List, [], length, take, drop, slice_set, Some, None, IsSome, unwrap_or, refl, ◌⊎◌}
 use Rattle.std.proofs.Common.{arith, cond, eqb, ap, ◌∙◌, sym, subst, inl, inr, get_or-set_same, get_or-set_other, length-set}
 use Rattle.std.proofs.lemmas.Grind.{common_steps}
 use Rattle.std.proofs.lemmas.Bool.{cases_eq, cases_lt, cases_Bool}
-use Rattle.std.proofs.lemmas.List.{length-replicate}
 use Rattle.blocks.specs.Blocks.{overwritten}
 use Rattle.blocks.specs.Slabs.{IsClassOf, per_slab, size_of}
 use Rattle.blocks.proofs.Written.{overwritten_all}
@@ -162,11 +161,12 @@ module _ {class size used head : ℕ} {words mem : List ℕ} (sound : IsSlab cla
   ]
 
 -- a slab in which no slot was taken yet
-pub sound_fresh : (class size : ℕ) (words : List ℕ) → class < 36 → size ≡ size_of class → length words ≡ per_slab class → IsFresh words → IsSlab class size 0 0 words (replicate 65536 0)
-sound_fresh class size words lt sized cut f = record {
+pub sound_fresh : (class size : ℕ) (words mem : List ℕ) → class < 36 → size ≡ size_of class → length mem ≡ 65536 → length words ≡ per_slab class → IsFresh words
+    → IsSlab class size 0 0 words mem
+sound_fresh class size words mem lt sized long cut f = record {
   classed = lt;
   sized = sized;
-  long = length-replicate {A = ℕ} 65536 0;
+  long = long;
   cut = cut;
   counted = fresh_used words f (length words) (omega arith);
   headed = omega arith;

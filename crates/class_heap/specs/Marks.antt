@@ -1,5 +1,6 @@
 -- Which slabs a pass keeps.
-use Rattle.std.specs.Prelude.{◌≡◌, ℕ, ◌+◌, ◌-◌, ◌/◌, ◌==◌, Bool, true, false, ◌&&◌, ◌||◌, not, nat_lt, List, [], ◌∷◌, map, sum_by, count_by, length, Option, Some, None, if◌then◌else◌}
+use Rattle.std.specs.Prelude.{◌≡◌, ℕ, ◌+◌, ◌-◌, ◌/◌, ◌<◌, ◌==◌, Bool, true, false, ◌&&◌, ◌||◌, not, nat_lt}
+use Rattle.std.specs.Prelude.{List, [], ◌∷◌, map, sum_by, count_by, length, slice_index_or, Option, Some, None, if◌then◌else◌}
 use Rattle.blocks.specs.Slabs.{SlabUse, is_of, is_kept, used_in, per_slab, unmarked, IsFuller}
 use Rattle.class_heap.specs.declared.entry.Entry.{Entry}
 use Rattle.class_heap.specs.Entries.{use_in, entry_at, block_in}
@@ -32,6 +33,15 @@ all_marked class least equal (o ∷ rest) =
 -- the uses of all numbers
 abbrev pub uses : List Entry → List (Option SlabUse)
 uses entries = map use_in entries
+
+-- 1 for a slab of the class that has a block, else 0
+abbrev pub filled_in : ℕ → Option SlabUse → ℕ
+filled_in class o = if holds_at_least class 1 o then 1 else 0
+
+-- for each class the sum of what is counted of its slabs
+pub record IsTally (count : ℕ → Option SlabUse → ℕ) (us : List (Option SlabUse)) (sums : List ℕ) : Type 0 where
+  pub classes : length sums ≡ 36
+  pub sum : (class : ℕ) → class < 36 → slice_index_or sums class 0 ≡ sum_by (count class) us
 
 -- no slab of the class is kept
 abbrev pub IsUnmarked : ℕ → List Entry → Type 0

@@ -2,10 +2,12 @@ ghost use Rattle.std.specs.Prelude.{◌≡◌, ℕ, ◌+◌, ◌<◌, ◌≤◌,
 ghost use Rattle.blocks.specs.Blocks.{overwritten, widened};
 ghost use Rattle.blocks.specs.Slabs.{per_slab, is_of, is_other, released, used_in};
 ghost use Rattle.class_heap.specs.Placing.{returned};
+ghost use Rattle.class_heap.specs.declared.entry.Entry.TheVariants.{Vacant};
 
 use crate::class::slots_in;
-use crate::slab::Slab;
+use crate::slab::{Leftover, Slab};
 use blocks::Memory;
+use std::mem::replace;
 
 /// The label of a number without a slab and without a large block.
 pub(crate) const VACANT: u32 = 36;
@@ -156,8 +158,19 @@ impl Entry {
         }
     }
 
+    /// Leaves nothing here. The memory of a slab becomes what is left over, unless there is some.
+    fn vacate(&mut self, leftover: &mut Option<Leftover>)
+        ensures { self.new ≡ Vacant }
+    {
+        if let Entry::Classed(slab) = replace(self, Entry::Vacant) {
+            if leftover.is_none() {
+                *leftover = Some(slab.into_leftover());
+            }
+        }
+    }
+
     /// Ends a block. A large one goes, and so does a slab that isn't kept with its last.
-    pub(crate) fn give_back(&mut self, slot: u32)
+    pub(crate) fn give_back(&mut self, slot: u32, leftover: &mut Option<Leftover>)
         requires { IsSome (block_in self.old slot) }
         ensures ended { (other : ℕ) → block_in self.new other ≡ with_slot (block_in self.old) slot None other }
         ensures left { use_in self.new ≡ returned (use_in self.old) }
@@ -166,7 +179,7 @@ impl Entry {
             Entry::Classed(slab) => {
                 slab.give_back(slot as usize);
                 if slab.used == 0 && !slab.kept {
-                    *self = Entry::Vacant;
+                    self.vacate(leftover);
                 }
             }
             _ => *self = Entry::Vacant,
@@ -174,13 +187,13 @@ impl Entry {
     }
 
     /// Ends the keeping of a slab, which goes where it has no block.
-    pub(crate) fn release(&mut self)
+    pub(crate) fn release(&mut self, leftover: &mut Option<Leftover>)
         ensures blocks { (slot : ℕ) → block_in self.new slot ≡ block_in self.old slot }
         ensures released { use_in self.new ≡ released (use_in self.old) }
     {
         if let Entry::Classed(slab) = self {
             if slab.used == 0 {
-                *self = Entry::Vacant;
+                self.vacate(leftover);
             } else {
                 slab.kept = false;
             }

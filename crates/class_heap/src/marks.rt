@@ -21,11 +21,12 @@ ghost use Rattle.std.specs.Prelude.{◌≡◌, ℕ, ◌+◌, ◌*◌, ◌^◌, �
 ghost use Rattle.blocks.specs.Slabs.{is_of, released, spare_in, unmarked, used_in, waiting_in};
 ghost use Rattle.class_heap.specs.Directory.{labels_at};
 ghost use Rattle.class_heap.specs.Entries.{block_in, entry_at, labels_of, use_in};
-ghost use Rattle.class_heap.specs.Marks.{holds_at_least, all_marked, uses, needed_in, IsUnmarked, IsMarked, IsMarking};
+ghost use Rattle.class_heap.specs.Marks.{holds_at_least, filled_in, all_marked, uses, needed_in, IsUnmarked, IsMarked, IsMarking, IsTally};
 
 use crate::class::slots_in;
 use crate::directory::Directory;
 use crate::entry::Entry;
+use crate::slab::Leftover;
 
 /// How many slabs of the class there are.
 pub(crate) fn slabs_of(entries: &[Entry], class: usize) -> usize
@@ -45,6 +46,23 @@ pub(crate) fn used_of(entries: &[Entry], class: usize) -> usize
         used += entry.used_in(class);
     }
     used
+}
+
+/// For each class, how many blocks stand in its slabs, and how many of these have one.
+fn tally(entries: &[Entry]) -> ([usize; 36], [usize; 36])
+    requires { length entries.now ≤ 2 ^ 40 }
+    ensures used { IsTally used_in (uses entries.now) result.0 }
+    ensures filled { IsTally filled_in (uses entries.now) result.1 }
+{
+    let mut used = [0usize; 36];
+    let mut filled = [0usize; 36];
+    'add: for entry in entries {
+        if let Some(class) = entry.class() {
+            used[class] += entry.used_in(class);
+            filled[class] += usize::from(entry.holds_at_least(class, 1));
+        }
+    }
+    (used, filled)
 }
 
 /// How many slabs of the class have at least so many blocks.
@@ -90,15 +108,21 @@ fn keep(entries: &mut [Entry], class: usize, least: usize, mut equal: usize)
     }
 }
 
-/// Keeps so many of the fullest slabs of the class, among equals those with the lower number.
-fn keep_fullest(entries: &mut [Entry], class: usize, needed: usize)
+/// Keeps so many of the fullest slabs of the class, among equals those with the lower number. `filled` of its slabs have a
+/// block: most often all of these are needed, and then no limit has to be found.
+fn keep_fullest(entries: &mut [Entry], class: usize, needed: usize, filled: usize)
     requires class { class < 36 }
     requires unmarked { IsUnmarked class entries.old }
     requires enough { needed ≤ count_by (holds_at_least class 0) (uses entries.old) }
+    requires filled { filled ≡ count_by (holds_at_least class 1) (uses entries.old) }
     ensures marking { IsMarking class entries.old entries.new }
     ensures marked { IsMarked class needed entries.new }
 {
     if needed == 0 {
+        return;
+    }
+    if filled <= needed {
+        keep(entries, class, 0, needed - filled);
         return;
     }
     let least = threshold(entries, class, needed, slots_in(class) + 1);
@@ -106,20 +130,21 @@ fn keep_fullest(entries: &mut [Entry], class: usize, needed: usize)
     keep(entries, class, least, needed - above);
 }
 
-/// Keeps as many slabs of the class as its blocks need. The answer says by how many the free places of these are
-/// more than the blocks in the others.
-fn mark(entries: &mut [Entry], class: usize) -> usize
+/// Keeps as many slabs of the class as its `used` blocks need; `filled` of its slabs have one. The answer says by how many
+/// the free places of the kept are more than the blocks in the others.
+fn mark(entries: &mut [Entry], class: usize, used: usize, filled: usize) -> usize
     requires class { class < 36 }
-    requires few { length entries.old ≤ 2 ^ 40 }
+    requires few { used ≤ 2 ^ 53 }
     requires unmarked { IsUnmarked class entries.old }
+    requires used { used ≡ sum_by (used_in class) (uses entries.old) }
+    requires filled { filled ≡ count_by (holds_at_least class 1) (uses entries.old) }
     ensures marking { IsMarking class entries.old entries.new }
     ensures marked { IsMarked class (needed_in class entries.new) entries.new }
     ensures margin { sum_by (waiting_in class) (uses entries.new) + result ≡ sum_by (spare_in class) (uses entries.new) }
 {
-    let used = used_of(entries, class);
     let slots = slots_in(class);
     let needed = used.div_ceil(slots);
-    keep_fullest(entries, class, needed);
+    keep_fullest(entries, class, needed, filled);
     needed * slots - used
 }
 
@@ -136,13 +161,18 @@ pub(crate) fn mark_all(entries: &mut [Entry], margins: &mut [usize])
     ensures classes { length margins.new ≡ 36 }
     ensures margin { (class : ℕ) → class < 36 → sum_by (waiting_in class) (uses entries.new) + slice_index_or margins.new class 0 ≡ sum_by (spare_in class) (uses entries.new) }
 {
+    let (used, filled) = tally(entries);
     'classes: for class in 0..36 {
-        margins[class] = mark(entries, class);
+        margins[class] = mark(entries, class, used[class], filled[class]);
     }
 }
 
 /// Ends the keeping of all slabs. Those without a block go, and the others take blocks again.
-pub(crate) fn release_all(entries: &mut [Entry], directory: &mut Directory)
+pub(crate) fn release_all(
+    entries: &mut [Entry],
+    directory: &mut Directory,
+    leftover: &mut Option<Leftover>,
+)
     requires { length entries.old ≡ directory.old.bound }
     ensures long { length entries.new ≡ length entries.old }
     ensures blocks { (n slot : ℕ) → block_in (entry_at entries.new n) slot ≡ block_in (entry_at entries.old n) slot }
@@ -152,7 +182,7 @@ pub(crate) fn release_all(entries: &mut [Entry], directory: &mut Directory)
 {
     'release: for number in 0..entries.len() {
         let entry = &mut entries[number];
-        entry.release();
+        entry.release(leftover);
         let labels = entry.labels(false);
         directory.set(number, labels);
     }

@@ -24,6 +24,28 @@ fn zeros(len: usize) -> &'static [u8]
     &ZEROS[..len]
 }
 
+/// The memory of a slab that went, for the next one that is made: its bytes are what they were.
+#[derive(Drop)]
+pub(crate) struct Leftover {
+    mem: SlabMem,
+    ghost long: { length mem ≡ 65536 },
+}
+
+impl Leftover {
+    /// The one that is left over, or else new memory.
+    fn take(leftover: &mut Option<Leftover>, alloc: Global) -> Result<Leftover, Memory>
+        ensures { leftover.new ≡ None }
+    {
+        match leftover.take() {
+            Some(left) => Ok(left),
+            None => {
+                let mem = SlabMem::make(alloc)?;
+                Ok(Leftover { mem })
+            }
+        }
+    }
+}
+
 /// A region of 65,536 bytes, cut into slots for the blocks of one class.
 #[derive(Drop)]
 pub(crate) struct Slab {
@@ -41,8 +63,13 @@ pub(crate) struct Slab {
 impl Slab {
     ghost use Rattle.class_heap.specs.Slab.{block_at, bytes_in, slab_label, use_of, with_slot};
 
-    /// A slab without a block.
-    pub(crate) fn make(alloc: Global, class: usize, kept: bool) -> Result<Slab, Memory>
+    /// A slab without a block. It takes the memory that is left over, where there is some.
+    pub(crate) fn make(
+        alloc: Global,
+        class: usize,
+        kept: bool,
+        leftover: &mut Option<Leftover>,
+    ) -> Result<Slab, Memory>
         requires { class < 36 }
         ensures empty { IfOk result (λ s. (slot : ℕ) → block_at s slot ≡ None) }
         ensures made { IfOk result (λ s. use_of s ≡ record { class = class; used = 0; kept = kept }) }
@@ -52,7 +79,7 @@ impl Slab {
         'fill: for slot in 0..count {
             words.push_reserved(FREE + 1 + slot as u16);
         }
-        let mem = SlabMem::make(alloc)?;
+        let Leftover { mem } = Leftover::take(leftover, alloc)?;
         Ok(Slab {
             class,
             used: 0,
@@ -62,6 +89,14 @@ impl Slab {
             words,
             mem,
         })
+    }
+
+    /// The slab's memory alone.
+    pub(crate) fn into_leftover(self) -> Leftover
+        ensures { result.mem ≡ self.mem }
+    {
+        let Slab { mem, .. } = self;
+        Leftover { mem }
     }
 
     /// A mask of the slab's class where it takes blocks: it has room, and is kept while a pass is open. Where its blocks want to

@@ -1,5 +1,6 @@
-use Rattle.std.proofs.Common.{refl, arith}
+use Rattle.std.proofs.Common.{refl, arith, ◌∙◌, sym}
 use Rattle.class_heap.proofs.Keeping.{marked_more}
+use Rattle.class_heap.proofs.Tallies.{used_most, used_stays, filled_stays}
 use Rattle.class_heap.proofs.marks.mark_all.Goals as goal
 
 pub classes-init : goal.classes-init
@@ -12,6 +13,20 @@ classes-init c = record {
   classes = c.requires.classes;
   margin = λ k less. absurd (omega arith);
 }
+
+pub mark-requires-clause-few : goal.mark-requires-clause-few
+mark-requires-clause-few c =
+    let class = c.classes.class in let sum = c.tally.ensures.used.sum class c.classes-test.true in omega (arith, sum, used_most class c.args.entries.now, c.requires.few)
+
+pub mark-requires-clause-used : goal.mark-requires-clause-used
+mark-requires-clause-used c =
+    let class = c.classes.class in
+    c.tally.ensures.used.sum class c.classes-test.true ∙ sym (used_stays c.args.entries.now c.classes.entries c.classes.invariant.same class)
+
+pub mark-requires-clause-filled : goal.mark-requires-clause-filled
+mark-requires-clause-filled c =
+    let class = c.classes.class in
+    c.tally.ensures.filled.sum class c.classes-test.true ∙ sym (filled_stays c.args.entries.now c.classes.entries c.classes.invariant.same class)
 
 pub mark-requires-clause-unmarked : goal.mark-requires-clause-unmarked
 mark-requires-clause-unmarked c = c.classes.invariant.unmarked c.classes.class (omega arith)

@@ -7,4 +7,5 @@ use Rattle.class_heap.proofs.entry.Entry.give_back.Goals as goal
 
 pub returns-then-not-slab-clause-ended : goal.returns-then-not-slab-clause-ended
 returns-then-not-slab-clause-ended c = λ other.
-    sym (none_left c.give_back.new.self.sound c.if-slab-eq0.true other) ∙ (c.give_back.ensures.ended other ∙ ap (λ e. with_slot (block_in e) c.args.slot None other) (sym c.in-Classed.is))
+    ap (λ e. block_in e other) c.vacate.ensures
+    ∙ (sym (none_left c.give_back.new.self.sound c.if-slab-eq0.true other) ∙ (c.give_back.ensures.ended other ∙ ap (λ e. with_slot (block_in e) c.args.slot None other) (sym c.in-Classed.is)))

@@ -9,7 +9,10 @@ pub place-slot-requires : goal.place-slot-requires
 place-slot-requires c = fresh_room c.in_ok-make.field-0 c.args.class c.args.len c.args.self.now.passing c.in_ok-make.ensures.made c.requires.class c.requires.holds
 
 pub invariant_of-self : goal.invariant_of-self
-invariant_of-self c =
+invariant_of-self c = record { sound = c.args.self.now.sound }
+
+pub invariant_of-self-then-self : goal.invariant_of-self-then-self
+invariant_of-self-then-self c =
     let m = c.vacant.new.self in let v = c.in_ok-slab.ensures.vacant in let e = c.place-slot.new.self in
     let is = c.place-slot.ensures.more ∙ made_one c.in_ok-make.field-0 c.args.class c.args.self.now.passing c.in_ok-make.ensures.made in
     let is' = is ∙ ap (λ p. Some (record { class = c.args.class; used = 1; kept = p })) (sym c.vacant.ensures.passing) in
