@@ -1,4 +1,5 @@
 pub mod Appendings
+pub mod Behinds
 pub mod Bodies
 pub mod Checks
 pub mod Edited
@@ -12,13 +13,16 @@ pub mod Lists
 pub mod Marches
 pub mod Markings
 pub mod OneNode
+pub mod Overs
 pub mod PairsAt
 pub mod ReadBack
 pub mod Rests
 pub mod Rooms
 pub mod Same
 pub mod Sizes
+pub mod Skips
 pub mod Small
+pub mod Smalls
 pub mod Starts
 pub mod Walks
 pub mod Weights

@@ -423,3 +423,11 @@ pub rest_inside : (key : Id) (list rest : Texts) (index live deleted : ℕ) (mas
     → length rest ≤ length list
 rest_inside key list rest index live deleted master first es f is =
     omega (arith, ap length (is ∙ f.place), ap length f.list_is, length-append f.second (number (flags false f.same) ∷ f.tail))
+
+-- the first element of a node tells how many of its entries aren't marked
+pub live_told : (key : Id) (list : Texts) (live : ℕ) (rest : Texts) → IsNode key list → list ≡ number live ∷ rest → live < 2 ^ 63
+    → live + marked (entries_of key list) ≡ length (entries_of key list)
+live_told key list live rest n is small =
+    let h = n.head in
+    let same : n.live ≡ live = same_number n.live live h.live_fits small (ap first_of (sym h.elements ∙ is)) in
+    omega (arith, same, n.count, n.marks)

@@ -1,5 +1,5 @@
 -- A node with one more entry.
-use Rattle.std.specs.Prelude.{◌≡◌, ◌⊎◌, ℕ, ◌+◌, Bool, true, false, List, [], ◌∷◌, ◌++◌, length, map, take, drop, slice_set, bytes_eq, ◌&&◌}
+use Rattle.std.specs.Prelude.{◌≡◌, ◌⊎◌, ℕ, ◌+◌, ◌-◌, ◌^◌, ◌<◌, ◌≤◌, Bool, true, false, List, [], ◌∷◌, ◌++◌, length, map, take, drop, slice_set, bytes_eq, ◌&&◌}
 use Rattle.listpack.specs.Pack.{IsPack, entries, spellings_of, texts}
 use Rattle.listpack.specs.Writing.{spelling}
 use Rattle.stream_node.specs.declared.id.Id.{Id}
@@ -55,6 +55,18 @@ pub record IsAppended (key : Id) (old : List ℕ) (new : List ℕ) (id : Id) (pa
   pub entries : entries_of key (texts new) ≡ held key (texts old) ++ record { id = id; deleted = false; pairs = pairs }
       ∷ []
   pub spelled : spellings_of new ≡ appended key old id pairs
+
+-- a listpack of which the first bytes and those from its last one on are written anew
+abbrev pub written_over : List ℕ → List ℕ → List ℕ → List ℕ
+written_over pack head tail = head ++ (drop (length head) (take (length pack - 1) pack) ++ tail)
+
+-- A head, and the elements of another listpack with its last byte, written over a listpack so give it one entry more.
+pub record IsOver (key : Id) (old : List ℕ) (head : List ℕ) (entry : List ℕ) (id : Id) (pairs : List Pair) : Type 0 where
+  pub appended : IsAppended key old (written_over old head (drop 6 entry)) id pairs
+  pub seven : length head ≡ 7
+  pub some : 8 ≤ length old
+  pub entry_pack : IsPack entry
+  pub short : length old + length entry < 2 ^ 32 + 7
 
 -- A listpack with an element put in the place of another.
 pub record Replaces (old : List ℕ) (new : List ℕ) (index : ℕ) (text : List ℕ) : Type 0 where

@@ -1,9 +1,10 @@
 -- A node with one entry marked deleted.
-use Rattle.std.specs.Prelude.{◌≡◌, ℕ, zero, suc, ◌+◌, ◌-◌, ◌≤◌, ◌<◌, true, false, List, [], ◌∷◌, length, drop, slice_get, slice_set, Some}
+use Rattle.std.specs.Prelude.{◌≡◌, ℕ, zero, suc, ◌+◌, ◌-◌, ◌≤◌, ◌<◌, true, false, List, [], ◌∷◌, length, drop, slice_get, slice_index, slice_set, Some}
 use Rattle.std.specs.List.{insert}
 use Rattle.listpack.specs.Pack.{IsPack, spellings_of, texts}
 use Rattle.listpack.specs.Writing.{spelling}
 use Rattle.stream_node.specs.declared.id.Id.{Id}
+use Rattle.stream_node.specs.declared.marking.MarkOver.{MarkOver}
 use Rattle.stream_node.specs.declared.marking.Marks.{Marks}
 use Rattle.stream_node.specs.Entry.{Stored, number}
 use Rattle.stream_node.specs.Entries.{element, count, behind_entry, field_count, entries_of, IsNode}
@@ -60,6 +61,22 @@ pub record IsMarked (old : List ℕ) (new : List ℕ) (index : ℕ) : Type 0 whe
   pub entries : (key : Id) → IsNode key (texts old)
       → entries_of key (texts new) ≡ mark_at (entries_of key (texts old)) index
   pub spelled : spellings_of new ≡ marked_spellings old index
+
+-- a listpack with three bytes exchanged
+abbrev pub marked_over : List ℕ → MarkOver → List ℕ
+marked_over old mark = slice_set (slice_set (slice_set old 6 mark.live) 8 mark.deleted) mark.at mark.flags
+
+-- The bytes written over a listpack mark the entry at this index.
+pub record IsMarkOver (old : List ℕ) (index : ℕ) (mark : MarkOver) : Type 0 where
+  pub marked : IsMarked old (marked_over old mark) index
+  pub some : 8 < length old
+  pub inside : mark.at < length old
+
+-- A number stands at this place that takes one byte, and so does the other one.
+pub record TakesByte (bytes : List ℕ) (at : ℕ) (number : ℕ) : Type 0 where
+  pub inside : at < length bytes
+  pub was : slice_index bytes at < 128
+  pub small : number < 128
 
 -- what is to be written where
 pub record AreMarks (list : List (List ℕ)) (index : ℕ) (marks : Marks) : Type 0 where

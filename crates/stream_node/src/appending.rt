@@ -20,8 +20,8 @@ use itoa::Buffer;
 use listpack::{Element, Memory, insert, known, remove};
 use std::alloc::Global;
 
-/// As many bytes as a copy has room for behind its own, so that most entries are written without another copy.
-const ROOM: usize = 192;
+/// As many bytes as a listpack has room for behind its own, so that most entries are written without another copy.
+pub(crate) const ROOM: usize = 192;
 
 // Whether an element has this text.
 fn is_text(element: &Element, text: &[u8]) -> bool
@@ -84,8 +84,8 @@ fn begin_node(pack: &mut Vec<u8>, key: Id, id: Id, pairs: &Pairs) -> Result<(), 
     put_entry(pack, key, id, true, pairs)
 }
 
-// The number of live entries of a node, and whether the fields of these pairs are the node's. None where there is no head.
-fn plan(pack: &[u8], pairs: &Pairs) -> Option<(usize, bool)>
+/// The number of live entries of a node, and whether the fields of these pairs are the node's. None where there is no head.
+pub(crate) fn plan(pack: &[u8], pairs: &Pairs) -> Option<(usize, bool)>
     requires { IsPack pack.now }
     ensures some { IfSome result (λ x. IsPlan (texts pack.now) pairs.now x.0 x.1) }
     ensures small { IfSome result (λ x. x.0 < 2 ^ 63) }

@@ -2,6 +2,7 @@
 #![tactic(auto)]
 
 mod appending;
+mod behind;
 mod body;
 mod entries;
 mod entry;
@@ -19,6 +20,7 @@ mod room;
 mod start;
 
 pub use appending::{append, with_entry};
+pub use behind::{Behind, entry_behind};
 pub use entries::Entries;
 pub use entry::Entry;
 pub use entry_pairs::EntryPairs;
@@ -26,7 +28,7 @@ pub use fault::NodeFault;
 pub use id::Id;
 pub use laws::{at_most_one, entries_are_read, ids_are_ordered, rows};
 pub use listpack::Memory;
-pub use marking::mark_deleted;
-pub use node::{Node, check, opened};
+pub use marking::{MarkOver, mark_deleted, mark_over};
+pub use node::{Node, check, live_len, opened};
 pub use pairs::Pairs;
 pub use room::{has_room, room_is_enough};

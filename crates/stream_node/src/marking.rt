@@ -1,17 +1,20 @@
 // Entries marked deleted.
 
-ghost use Rattle.std.specs.Prelude.{◌≡◌, ◌+◌, ◌<◌, ◌≤◌, ◌^◌, ℕ, List, [], IfSome, IfNone, OnOk, OnErr, length};
+ghost use Rattle.std.specs.Prelude.{◌≡◌, ◌+◌, ◌<◌, ◌≤◌, ◌^◌, ℕ, List, [], None, IfOk, IfErr, IfSome, IfNone, IsTrue, OnOk, OnErr, length};
 ghost use Rattle.listpack.specs.Pack.{IsPack, texts, spellings_of};
 ghost use Rattle.listpack.specs.Writing.{spelling, entry};
 ghost use Rattle.stream_node.specs.declared.id.Id.{Id as AnId};
 ghost use Rattle.stream_node.specs.Entry.{Stored, number};
+ghost use Rattle.stream_node.specs.Entries.{behind_entry};
+ghost use Rattle.stream_node.specs.Next.{IsEntryFault};
 ghost use Rattle.stream_node.specs.Node.{Begins};
 ghost use Rattle.stream_node.specs.Rest.{rest_of};
 ghost use Rattle.stream_node.specs.Reading.{master_of};
 ghost use Rattle.stream_node.specs.Appended.{pack_len};
-ghost use Rattle.stream_node.specs.Marked.{CanMark, behind_entries, exchanged, marked_spellings, IsMarked, AreMarks, Inserts, Exchanges};
+ghost use Rattle.stream_node.specs.Marked.{CanMark, behind_entries, exchanged, marked_spellings, IsMarked, IsMarkOver, TakesByte, AreMarks, Inserts, Exchanges};
 
 use crate::entry::Entry;
+use crate::fault::NodeFault;
 use crate::head::Head;
 use crate::id::Id;
 use crate::rest::Rest;
@@ -27,6 +30,35 @@ pub(crate) struct Marks {
     pub(crate) deleted: usize,
 }
 
+// The elements behind the entry that a list begins with, of which no more is read than its flags and how many pairs it has. `None`
+// comes at most where no entry stands there.
+fn skip_whole<'a>(head: &Head<'a>, list: &Rest<'a>) -> Option<Rest<'a>>
+    ensures { IfSome result (λ x. rest_of x ≡ behind_entry (master_of head.now) (rest_of list.now)) }
+{
+    let (flags, _) = list.split_count()?;
+    if flags >= 2 {
+        return list.skip(head.count + 4);
+    }
+    let middle = list.skip(3)?;
+    let (count, pairs) = middle.split_count()?;
+    let end = pairs.skip(2 * count)?;
+    end.skip(1)
+}
+
+// The elements behind the entry that a list begins with, or what it lacks.
+fn skip_entry<'a>(key: Id, head: &Head<'a>, list: &Rest<'a>) -> Result<Rest<'a>, NodeFault>
+    ensures ok { IfOk result (λ x. rest_of x ≡ behind_entry (master_of head.now) (rest_of list.now)) }
+    ensures err { IfErr result (λ e. IsEntryFault key (master_of head.now) None (rest_of list.now) e) }
+{
+    match skip_whole(head, list) {
+        Some(behind) => Ok(behind),
+        None => match Entry::read(key, head, None, list) {
+            Ok((_, behind)) => Ok(behind),
+            Err(fault) => Err(fault),
+        },
+    }
+}
+
 // The elements behind so many entries, whatever the node's key.
 fn skip_entries<'a>(head: &Head<'a>, first: &Rest<'a>, count: usize) -> Option<Rest<'a>>
     ensures some { IfSome result (λ x. rest_of x ≡ behind_entries (master_of head.now) count (rest_of first.now)) }
@@ -35,8 +67,8 @@ fn skip_entries<'a>(head: &Head<'a>, first: &Rest<'a>, count: usize) -> Option<R
     let key = Id { ms: 0, seq: 0 };
     let mut rest = *first;
     for _ in 0..count {
-        match Entry::read(key, head, None, &rest) {
-            Ok((_, behind)) => rest = behind,
+        match skip_entry(key, head, &rest) {
+            Ok(behind) => rest = behind,
             Err(_) => return None,
         }
     }
@@ -108,4 +140,47 @@ pub fn mark_deleted(pack: &mut Vec<u8>, index: usize) -> Result<(), Memory>
     put_marks(&mut copy, &marks)?;
     *pack = copy;
     Ok(())
+}
+
+/// What is written over a node's bytes to mark an entry deleted: the counts of live and of marked entries, which are its seventh and its
+/// ninth byte, and the entry's flags, at a place of theirs.
+#[derive(Clone, Copy, Debug)]
+pub struct MarkOver {
+    pub live: u8,
+    pub deleted: u8,
+    pub at: usize,
+    pub flags: u8,
+}
+
+// Whether a number stands at a place that takes one byte, and another one takes one byte too.
+fn takes_byte(pack: &[u8], at: usize, number: usize) -> bool
+    ensures { IsTrue result → TakesByte pack.now at number }
+{
+    at < pack.len() && pack[at] < 128 && number < 128
+}
+
+/// What is written over a node's bytes to mark the entry at an index deleted. `None` comes where a number that changes doesn't take one
+/// byte before and then.
+pub fn mark_over(pack: &[u8], index: usize) -> Option<MarkOver>
+    requires packed { IsPack pack.now }
+    requires entry { (key : AnId) × CanMark key (texts pack.now) index }
+    ensures { IfSome result (λ mark. IsMarkOver pack.now index mark) }
+{
+    let marks = marks_of(pack, index);
+    let at = known(pack).seek(marks.at)?;
+    if !takes_byte(pack, 6, marks.live) {
+        return None;
+    }
+    if !takes_byte(pack, 8, marks.deleted) {
+        return None;
+    }
+    if !takes_byte(pack, at, marks.flags) {
+        return None;
+    }
+    Some(MarkOver {
+        live: marks.live as u8,
+        deleted: marks.deleted as u8,
+        at,
+        flags: marks.flags as u8,
+    })
 }

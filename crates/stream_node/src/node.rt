@@ -1,8 +1,9 @@
 // Stream nodes.
 
-ghost use Rattle.std.specs.Prelude.{◌≡◌, ◌↔◌, ◌+◌, ℕ, List, IsOk, IfOk, IfErr, OnOk};
+ghost use Rattle.std.specs.Prelude.{◌≡◌, ◌↔◌, ◌+◌, ℕ, List, IsOk, IfOk, IfErr, OnOk, length};
 ghost use Rattle.listpack.specs.View.{list_of};
-ghost use Rattle.stream_node.specs.Node.{IsHead, IsFault};
+ghost use Rattle.stream_node.specs.declared.id.Id.{Id as AnId};
+ghost use Rattle.stream_node.specs.Node.{IsHead, IsFault, marked};
 ghost use Rattle.stream_node.specs.Entries.{IsNode, entries_of};
 ghost use Rattle.stream_node.specs.Rest.{rest_of};
 ghost use Rattle.stream_node.specs.Reading.{master_of};
@@ -76,6 +77,17 @@ pub fn opened<'a>(key: Id, pack: &Pack<'a>) -> Node<'a>
                 rest: first,
             },
         },
+        None => unreachable!(),
+    }
+}
+
+/// How many entries of a stream node aren't marked deleted. It reads one element.
+pub fn live_len(pack: &Pack<'_>) -> usize
+    requires { (key : AnId) × IsNode key (list_of pack.now) }
+    ensures { (key : AnId) → IsNode key (list_of pack.now) → result + marked (entries_of key (list_of pack.now)) ≡ length (entries_of key (list_of pack.now)) }
+{
+    match Rest::all(pack).split_count() {
+        Some((live, _)) => live,
         None => unreachable!(),
     }
 }

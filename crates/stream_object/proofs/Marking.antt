@@ -1,8 +1,8 @@
 -- Entries of a node, one more of them, and one of them marked.
-use Rattle.std.proofs.Common.{◌≡◌, ◌≢◌, ◌∙◌, ℕ, suc, ◌+◌, ◌<◌, ◌≤◌, ◌^◌, true, false, List, [], ◌∷◌, ◌++◌, length, map, Option, Some, None, refl, sym, ap, subst, arith, length-append, append_assoc}
-use Rattle.std.specs.Prelude.{not, slice_get}
+use Rattle.std.proofs.Common.{◌≡◌, ◌≢◌, ◌∙◌, ℕ, suc, ◌+◌, ◌-◌, ◌<◌, ◌≤◌, ◌^◌, true, false, List, [], ◌∷◌, ◌++◌, length, map, take, drop, Option, Some, None, refl, sym, ap, subst, arith, length-append, append_assoc}
+use Rattle.std.specs.Prelude.{Bool, not, slice_get, if◌then◌else◌}
 use Rattle.std.specs.List.{AllByRecursion, filter}
-use Rattle.std.proofs.lemmas.List.{map-append}
+use Rattle.std.proofs.lemmas.List.{length-drop, length-take-le, map-append}
 use Rattle.std.proofs.lemmas.List.Elements.{filter-append}
 use Rattle.std.proofs.lemmas.Bool.{cond-true, cond-false}
 use Rattle.listpack.specs.Entry.{text_of}
@@ -10,10 +10,11 @@ use Rattle.listpack.specs.Pack.{IsPack, spellings_of, texts}
 use Rattle.stream_node.specs.declared.id.Id.{Id}
 use Rattle.stream_node.specs.declared.entry.Entry.{Entry}
 use Rattle.stream_node.specs.Entry.{Pair, Stored}
-use Rattle.stream_node.specs.Node.{Begins, IsAfter, last_id}
+use Rattle.stream_node.specs.Node.{Begins, IsAfter, last_id, marked}
 use Rattle.stream_node.specs.Entries.{IsNode, entries_of}
 use Rattle.stream_node.specs.Ids.{IsId, id_number}
-use Rattle.stream_node.specs.Appended.{IsAppended, held, appended, pack_len}
+use Rattle.stream_node.specs.declared.behind.Behind.{Behind}
+use Rattle.stream_node.specs.Appended.{IsAppended, IsOver, held, appended, pack_len, written_over}
 use Rattle.stream_node.specs.Marked.{CanMark, IsMarked, mark_at, marked_spellings}
 use Rattle.stream_node.specs.Room.{alone_len}
 use Rattle.stream_node.specs.View.{stored}
@@ -21,9 +22,8 @@ use Rattle.stream_node.proofs.Ids.{id_laws}
 use Rattle.stream_node.proofs.Rooms.{room_enough}
 use Rattle.stream_node.proofs.Written.{length_pack}
 use Rattle.rax_packed.proofs.Entries.{all-append, all_front, all_back}
-use Rattle.stream_object.specs.declared.node.Live.{Live}
 use Rattle.stream_object.specs.Parts.{IsNodeOf, is_live, plain, live_of}
-use Rattle.stream_object.specs.Node.{put, IsGrown, IsAt, IsLive, Lacks, Marks}
+use Rattle.stream_object.specs.Node.{put, IsGrown, IsOverGrown, IsAt, IsFirst, Lacks, Marks}
 use Rattle.stream_object.proofs.Lighter.{mark_lighter}
 use Rattle.stream_object.proofs.Parts.{between}
 
@@ -64,6 +64,20 @@ live_one_in_marking e h = ap (map plain) (cond-true _ (e ∷ []) [] (ap not h))
 pub live_none_in_marking : (e : Stored) → e.deleted ≡ true → live_of (e ∷ []) ≡ []
 live_none_in_marking e h = ap (map plain) (cond-false _ (e ∷ []) [] (ap not h))
 
+-- those that aren't marked deleted are the others
+live_beside : (es : List Stored) → length (live_of es) + marked es ≡ length es
+unfolding marked
+live_beside [] = refl
+live_beside (e ∷ es) = by_mark e es e.deleted refl (live_beside es)
+  where
+    by_mark : (e : Stored) (es : List Stored) (b : Bool) → e.deleted ≡ b → length (live_of es) + marked es ≡ length es
+        → length (live_of (e ∷ es)) + ((if b then 1 else 0) + marked es) ≡ suc (length es)
+    by_mark e es true is h = omega (arith, h, ap length (live_append (e ∷ []) es), ap length (live_none_in_marking e is), length-append (live_of (e ∷ [])) (live_of es))
+    by_mark e es false is h = omega (arith, h, ap length (live_append (e ∷ []) es), ap length (live_one_in_marking e is), length-append (live_of (e ∷ [])) (live_of es))
+
+pub live_left : (es : List Stored) (n : ℕ) → n + marked es ≡ length es → n ≡ length (live_of es)
+live_left es n told = omega (arith, told, live_beside es)
+
 -- an entry put in
 module _ (key id : Id) (old new : List ℕ) (pairs : List Pair) (es : List Stored) (app : IsAppended key old new id pairs) (was : held key (texts old) ≡ es)
     (from : AllByRecursion (λ e. id_number key ≤ id_number e.id) es) (low : id_number key ≤ id_number id) (few : length es < 100) (short : length new ≤ 536870000) where
@@ -89,6 +103,38 @@ pub joined_grown : (key id : Id) (old new : List ℕ) (pairs : List Pair) → Is
 joined_grown key id old new pairs n less app few short =
     let above : id_number key < id_number id = between (entries_of key (texts old)) (id_number key) (id_number id) n.some n.from less in
     grown key id old new pairs (entries_of key (texts old)) app (held_is key (texts old) n.node) n.from (omega (arith, above)) few short
+
+-- how long a node is over which something is written
+length_over : (old head entry : List ℕ) → length head ≡ 7 → 8 ≤ length old → 7 ≤ length entry → length (written_over old head (drop 6 entry)) + 7 ≡ length old + length entry
+length_over old head entry seven some header =
+    let front = take (length old - 1) old in
+    omega (
+      arith,
+      seven,
+      some,
+      header,
+      length-append head (drop (length head) front ++ drop 6 entry),
+      length-append (drop (length head) front) (drop 6 entry),
+      length-drop (length head) front,
+      length-take-le (length old - 1) old (omega arith),
+      length-drop 6 entry,
+    )
+
+-- what is written over a node gives it one entry more
+pub over_grown : (key id : Id) (old : List ℕ) (room : ℕ) (behind : Behind) (pairs : List Pair) → IsNodeOf key old
+    → AllByRecursion (λ e. id_number e.id < id_number id) (entries_of key (texts old)) → IsOver key old behind.head behind.entry.items id pairs
+    → length (entries_of key (texts old)) < 100 → length old + length behind.entry.items ≤ 4103 → length old + length behind.entry.items ≤ room + 7 → IsOverGrown key old room behind id pairs
+over_grown key id old room behind pairs n less over few short within =
+    let q = over.entry_pack in
+    let header : 7 ≤ length behind.entry.items = q.header in
+    let long = length_over old behind.head behind.entry.items over.seven over.some header in
+    record {
+      grown = joined_grown key id old (written_over old behind.head (drop 6 behind.entry.items)) pairs n less over.appended few (omega (arith, long, short));
+      seven = over.seven;
+      some = over.some;
+      header = header;
+      within = within;
+    }
 
 -- an empty listpack
 none_held : (bytes : List ℕ) → spellings_of bytes ≡ [] → texts bytes ≡ []
@@ -192,50 +238,15 @@ pub lacks_more : (id : Id) (xs : List Entry) (x : Entry) → Lacks id (map store
 lacks_more id xs x none other =
     subst (Lacks id) (sym (map-append stored xs (x ∷ []))) (all-append (λ e. e.deleted ≡ false → e.id ≢ id) (map stored xs) (stored x ∷ []) none (other, tt))
 
--- what is live among no entries, and with one more
-pub live_at_first : IsLive [] (record { count = 0; first = 0 })
-live_at_first = record { count = refl; first = λ h. absurd (omega arith) }
-
--- the first entry that is live stays the first
-abbrev First : List Stored → ℕ → Type 0
-First es index = (e : Stored) × (at : IsAt es index e) × (live_of at.before ≡ [])
-
-first_stays : (es : List Stored) (x : Stored) (index now : ℕ) → now ≡ index → First es index → First (es ++ x ∷ []) now
-first_stays es x index now same f = (
-  f.0,
-  record {
-    before = f.1.before;
-    after = f.1.after ++ x ∷ [];
-    place = ap (λ ys. ys ++ x ∷ []) f.1.place ∙ append_assoc f.1.before (f.0 ∷ f.1.after) (x ∷ []);
-    count = f.1.count
-        ∙ sym same;
-    live = f.1.live;
-  },
-  f.2,
+-- a walk that met no live entry, and then the first one
+pub walked_first : (xs : List Entry) (x : Entry) (left rest all : List Stored) (index : ℕ) → map stored xs ++ left ≡ all → left ≡ stored x ∷ rest → length xs ≡ index
+    → (stored x).deleted ≡ false → live_of (map stored xs) ≡ [] → IsFirst all index
+walked_first xs x left rest all index is next count live none = (
+  stored x,
+  record { before = map stored xs; after = rest; place = sym is ∙ ap (λ ys. map stored xs ++ ys) next; count = length_stored xs ∙ count; live = live },
+  none,
 )
 
-pub live_skips : (es : List Stored) (e : Stored) (live : Live) → IsLive es live → e.deleted ≡ true → IsLive (es ++ e ∷ []) live
-live_skips es e live is gone = record {
-  count = omega (arith, is.count, ap length (live_append es (e ∷ [])), ap length (live_none_in_marking e gone), length-append (live_of es) (live_of (e ∷ [])));
-  first = λ some. first_stays es e live.first live.first refl (is.first some);
-}
-
-pub live_begins : (es : List Stored) (e : Stored) (live now : Live) (index : ℕ) → IsLive es live → live.count ≡ 0 → length es ≡ index → e.deleted ≡ false → now.count ≡ 1
-    → now.first ≡ index → IsLive (es ++ e ∷ []) now
-live_begins es e live now index is none at here' one first =
-    let empty : live_of es ≡ [] = no_length (live_of es) (omega (arith, is.count, none)) in
-    record {
-      count = omega (arith, one, ap length (live_append es (e ∷ [])), ap length (live_one_in_marking e here'), length-append (live_of es) (live_of (e ∷ [])), ap length empty);
-      first = λ some. (e, record { before = es; after = []; place = refl; count = at ∙ sym first; live = here' }, empty);
-    }
-  where
-    no_length : {X : Type 0} (xs : List X) → length xs ≡ 0 → xs ≡ []
-    no_length [] h = refl
-    no_length (x ∷ xs) h = absurd (omega arith)
-
-pub live_grows : (es : List Stored) (e : Stored) (live now : Live) → IsLive es live → (live.count ≡ 0 → ⊥) → e.deleted ≡ false → now.count ≡ live.count + 1 → now.first ≡ live.first
-    → IsLive (es ++ e ∷ []) now
-live_grows es e live now is some here' more first = record {
-  count = omega (arith, more, is.count, ap length (live_append es (e ∷ [])), ap length (live_one_in_marking e here'), length-append (live_of es) (live_of (e ∷ [])));
-  first = λ _. first_stays es e live.first now.first first (is.first (omega (arith, some)));
-}
+pub none_live : (xs : List Entry) (x : Entry) → live_of (map stored xs) ≡ [] → (stored x).deleted ≡ true → live_of (map stored (xs ++ x ∷ [])) ≡ []
+none_live xs x none gone =
+    ap live_of (map-append stored xs (x ∷ [])) ∙ live_append (map stored xs) (stored x ∷ []) ∙ ap (λ ys. ys ++ live_of (stored x ∷ [])) none ∙ live_none_in_marking (stored x) gone

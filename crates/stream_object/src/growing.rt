@@ -8,7 +8,8 @@ ghost use Rattle.stream_object.specs.Streams.{AreBelow, Grows};
 ghost use Rattle.stream_object.specs.Tail.{IsKept};
 
 use crate::Memory;
-use crate::node::{begun, joined};
+use crate::block::write_behind;
+use crate::node::{Growth, MOST_BYTES, begun, joined};
 use crate::nodes::{put_last, replace};
 use crate::spot::Spot;
 use crate::tail::{Tail, last_node};
@@ -17,13 +18,15 @@ use rax_packed::PackedTree;
 use std::alloc::Global;
 use stream_node::{Id, Pairs};
 
-// An entry in a node of its own, behind all others. Answers that node.
+// An entry in a node of its own behind all others, in a block with room for as many bytes as the node is expected to get. Answers
+// that node.
 fn put_alone<B: BlockStore>(
     alloc: Global,
     store: &mut B,
     tree: &mut PackedTree,
     id: Id,
     pairs: &Pairs,
+    expected: usize,
 ) -> Result<Tail, Memory>
     requires parts { HasParts (B.blocks store.old) tree.old (parts_of (B.blocks store.old) tree.old) }
     requires below { AreBelow id (parts_of (B.blocks store.old) tree.old) }
@@ -35,7 +38,7 @@ fn put_alone<B: BlockStore>(
     ensures err_blocks { OnErr result (B.blocks store.new ≡ B.blocks store.old) }
 {
     let pack = begun(alloc, id, pairs)?;
-    let at = put_last(store, tree, id, &pack)?;
+    let at = put_last(store, tree, id, &pack, expected)?;
     Ok(Tail { key: id, at })
 }
 
@@ -60,14 +63,21 @@ pub(crate) fn put_entry<B: BlockStore>(
     ensures err_blocks { OnErr result (B.blocks store.new ≡ B.blocks store.old) }
 {
     let Some(spot) = last_node(store, tree, kept) else {
-        return put_alone(alloc, store, tree, id, pairs);
+        return put_alone(alloc, store, tree, id, pairs, 0);
     };
     let Spot { key, at, bytes } = spot;
-    match joined(alloc, key, bytes, id, pairs)? {
-        Some(pack) => {
+    let len = bytes.len();
+    let room = store.bytes(at).len();
+    match joined(alloc, key, bytes, room, id, pairs)? {
+        Growth::Over(behind) => {
+            write_behind(store, at, len, &behind);
+            Ok(Tail { key, at })
+        }
+        Growth::Whole(pack) => {
             let at = replace(store, tree, key, at, &pack)?;
             Ok(Tail { key, at })
         }
-        None => put_alone(alloc, store, tree, id, pairs),
+        // the next node may well become as long
+        Growth::Full => put_alone(alloc, store, tree, id, pairs, len.min(MOST_BYTES)),
     }
 }

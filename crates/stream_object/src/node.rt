@@ -1,6 +1,6 @@
 // One node: its entries, one put in behind the others, one found, one marked deleted.
 
-ghost use Rattle.std.specs.Prelude.{◌≡◌, ◌≢◌, ◌+◌, ◌<◌, ◌≤◌, ◌∷◌, ◌++◌, [], List, true, false, IfOk, IfSome, IfNone, length};
+ghost use Rattle.std.specs.Prelude.{◌≡◌, ◌≢◌, ◌<◌, ◌≤◌, [], ℕ, List, true, false, IfOk, IfSome, IfNone, length};
 ghost use Rattle.std.specs.List.{AllByRecursion};
 ghost use Rattle.listpack.specs.Pack.{texts};
 ghost use Rattle.stream_node.specs.declared.id.Id.{Id as AnId};
@@ -10,19 +10,22 @@ ghost use Rattle.stream_node.specs.Ids.{id_number};
 ghost use Rattle.stream_node.specs.Room.{alone_len};
 ghost use Rattle.stream_node.specs.View.{stored};
 ghost use Rattle.stream_node.specs.Views.{left_of};
-ghost use Rattle.stream_object.specs.Parts.{IsNodeOf};
-ghost use Rattle.stream_object.specs.Node.{IsGrown, IsAt, IsLive, Lacks, Marks};
+ghost use Rattle.stream_object.specs.Parts.{IsNodeOf, live_of};
+ghost use Rattle.stream_object.specs.Node.{IsGrown, IsGrowth, IsAt, IsFirst, Lacks, Marks};
 
 use crate::Memory;
 use listpack::{empty, known};
 use std::alloc::Global;
-use stream_node::{Entries, Entry, Id, Pairs, append, mark_deleted, opened, with_entry};
+use stream_node::{
+    Behind, Entries, Entry, Id, Pairs, append, entry_behind, live_len, mark_deleted, opened,
+    with_entry,
+};
 
 /// The most entries of a node.
 pub(crate) const MOST_ENTRIES: usize = 100;
 
 /// A node of more bytes gets no further entry.
-const MOST_BYTES: usize = 4096;
+pub(crate) const MOST_BYTES: usize = 4096;
 
 /// The entries of a node, those that are marked deleted among them.
 pub(crate) fn entries<'a>(key: Id, bytes: &'a [u8]) -> Entries<'a>
@@ -43,31 +46,69 @@ pub(crate) fn begun(alloc: Global, id: Id, pairs: &Pairs) -> Result<Vec<u8>, Mem
     Ok(pack)
 }
 
-/// A node with one entry more behind all others, unless it would have too many entries or bytes.
-pub(crate) fn joined(
+/// What becomes of a node with one entry more behind all others.
+#[derive(Drop)]
+pub(crate) enum Growth {
+    /// This is written over it in its block.
+    Over(Behind),
+    /// It gets these bytes.
+    Whole(Vec<u8>),
+    /// It would have too many entries or bytes.
+    Full,
+}
+
+// What becomes of a node with one entry more behind all others where it is written anew.
+fn written_anew(
     alloc: Global,
     key: Id,
     bytes: &[u8],
     id: Id,
     pairs: &Pairs,
-) -> Result<Option<Vec<u8>>, Memory>
+) -> Result<Growth, Memory>
     requires is_node { IsNodeOf key bytes.now }
     requires below { AllByRecursion (λ e. id_number e.id < id_number id) (entries_of key (texts bytes.now)) }
     requires some { 0 < length pairs.now }
     requires short { alone_len id pairs.now ≤ 536870000 }
-    ensures { IfOk result (λ joined. IfSome joined (λ pack. IsGrown key (entries_of key (texts bytes.now)) pack.items id pairs.now)) }
+    requires bytes { length bytes.now ≤ 4096 }
+    requires few { length (entries_of key (texts bytes.now)) < 100 }
+    ensures { IfOk result (λ growth. (room : ℕ) → IsGrowth key bytes.now room id pairs.now growth) }
 {
-    if bytes.len() > MOST_BYTES {
-        return Ok(None);
-    }
-    if entries(key, bytes).len() >= MOST_ENTRIES {
-        return Ok(None);
-    }
     let pack = with_entry(alloc, bytes, key, id, pairs)?;
     if pack.len() > MOST_BYTES {
-        return Ok(None);
+        return Ok(Growth::Full);
     }
-    Ok(Some(pack))
+    Ok(Growth::Whole(pack))
+}
+
+/// What becomes of a node with one entry more behind all others, in a block of so many bytes.
+pub(crate) fn joined(
+    alloc: Global,
+    key: Id,
+    bytes: &[u8],
+    room: usize,
+    id: Id,
+    pairs: &Pairs,
+) -> Result<Growth, Memory>
+    requires is_node { IsNodeOf key bytes.now }
+    requires below { AllByRecursion (λ e. id_number e.id < id_number id) (entries_of key (texts bytes.now)) }
+    requires some { 0 < length pairs.now }
+    requires short { alone_len id pairs.now ≤ 536870000 }
+    ensures { IfOk result (λ growth. IsGrowth key bytes.now room id pairs.now growth) }
+{
+    if bytes.len() > MOST_BYTES {
+        return Ok(Growth::Full);
+    }
+    if entries(key, bytes).len() >= MOST_ENTRIES {
+        return Ok(Growth::Full);
+    }
+    let Some(behind) = entry_behind(alloc, bytes, key, id, pairs)? else {
+        return written_anew(alloc, key, bytes, id, pairs);
+    };
+    let len = bytes.len() + behind.entry.len() - 7;
+    if len > MOST_BYTES || len > room {
+        return written_anew(alloc, key, bytes, id, pairs);
+    }
+    Ok(Growth::Over(behind))
 }
 
 // Whether an entry has this id and isn't marked deleted.
@@ -94,47 +135,27 @@ pub(crate) fn find(key: Id, bytes: &[u8], id: Id) -> Option<usize>
     None
 }
 
-/// How many entries of a node aren't marked deleted, and where the first of them stands.
-#[derive(Clone, Copy)]
-pub(crate) struct Live {
-    pub(crate) count: usize,
-    pub(crate) first: usize,
-}
-
-// With one entry more, which stands at this index.
-fn one_more(live: Live, index: usize, deleted: bool) -> Live
-    requires within { live.count ≤ index }
-    requires few { index < 100 }
-    ensures more { (es : List Stored) (e : Stored) → IsLive es live → length es ≡ index → e.deleted ≡ deleted → IsLive (es ++ e ∷ []) result }
-    ensures within { result.count ≤ index + 1 }
-{
-    if deleted {
-        return live;
-    }
-    if live.count == 0 {
-        return Live {
-            count: 1,
-            first: index,
-        };
-    }
-    Live {
-        count: live.count + 1,
-        first: live.first,
-    }
-}
-
-/// What of a node isn't marked deleted.
-pub(crate) fn count_live(key: Id, bytes: &[u8]) -> Live
+/// Where the first entry of a node stands that isn't marked deleted.
+pub(crate) fn first_live(key: Id, bytes: &[u8]) -> usize
     requires { IsNodeOf key bytes.now }
-    ensures { IsLive (entries_of key (texts bytes.now)) result }
+    ensures { IsFirst (entries_of key (texts bytes.now)) result }
 {
-    let mut live = Live { count: 0, first: 0 };
     let mut index = 0;
     for entry in entries(key, bytes) {
-        live = one_more(live, index, entry.deleted());
+        if !entry.deleted() {
+            return index;
+        }
         index += 1;
     }
-    live
+    unreachable!()
+}
+
+/// How many entries of a node aren't marked deleted. No entry is read.
+pub(crate) fn live_count(bytes: &[u8]) -> usize
+    requires { (key : AnId) × IsNodeOf key bytes.now }
+    ensures { (key : AnId) → IsNodeOf key bytes.now → result ≡ length (live_of (entries_of key (texts bytes.now))) }
+{
+    live_len(&known(bytes))
 }
 
 /// A node with the entry at an index marked deleted.

@@ -55,8 +55,7 @@ fn count_keys<B: BlockStore>(store: &B, tree: &PackedTree, from: u128, room: u32
     }
 }
 
-// Moves the blocks of the keys from a mark on that want it, of as many keys as there is room for all blocks of one more. Where no
-// block of the store wants to move, they are counted alone, in one way through the tree.
+// Moves the blocks of the keys from a mark on that want it, of as many keys as there is room for all blocks of one more.
 fn pass_keys<B: BlockStore>(store: &mut B, tree: &mut PackedTree, from: u128, room: u32) -> Moved
     requires parts { HasParts (B.blocks store.old) tree.old (parts_of (B.blocks store.old) tree.old) }
     requires room { 32 ≤ room }
@@ -66,9 +65,6 @@ fn pass_keys<B: BlockStore>(store: &mut B, tree: &mut PackedTree, from: u128, ro
     ensures bounded { IsBounded (tree_marks (B.blocks store.old) tree.old) from room result }
     ensures calmer { Calmer (B.heap store.old) (B.heap store.new) }
 {
-    if store.is_calm() {
-        return count_keys(store, tree, from, room);
-    }
     let mut at = Id::of_number(from);
     let mut used = 0;
     'keys: while let Some(spot) = near(store, tree, at, true) {
@@ -91,7 +87,8 @@ fn pass_keys<B: BlockStore>(store: &mut B, tree: &mut PackedTree, from: u128, ro
 impl Stream {
     /// Goes through its blocks from the mark `from` on, at most `room` of them, and moves each that wants it. The mark of a node is
     /// its key as a number, and that of a node of the tree the least key below it. It passes the blocks of a key together, and
-    /// begins them only where there is room for 18 more. It takes no memory.
+    /// begins them only where there is room for 18 more. Where no block of the store wants to move, they are counted alone, in one
+    /// way through the tree. It takes no memory.
     pub fn relocate_part<B: BlockStore>(&mut self, store: &mut B, from: u128, room: u32) -> Moved
         requires is_stream { IsStream (B.blocks store.old) self.old }
         requires room { 32 ≤ room }
@@ -100,6 +97,9 @@ impl Stream {
         ensures bounded { IsBounded (marks (B.blocks store.old) self.old) from room result }
         ensures calmer { Calmer (B.heap store.old) (B.heap store.new) }
     {
+        if store.is_calm() {
+            return count_keys(store, &self.tree, from, room);
+        }
         let moved = pass_keys(store, &mut self.tree, from, room);
         self.tail = None;
         moved

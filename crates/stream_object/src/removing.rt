@@ -12,8 +12,8 @@ ghost use Rattle.stream_object.specs.Parts.{HasParts, live_of, parts_of};
 ghost use Rattle.stream_object.specs.Streams.{IsChanged, IsStream, Loses, entries, greater, has_id, stream_of, without};
 
 use crate::Memory;
-use crate::block::node_in;
-use crate::node::{count_live, find, marked};
+use crate::block::{node_in, write_mark};
+use crate::node::{find, live_count, marked};
 use crate::nodes::{drop_node, near, replace};
 use crate::spot::Spot;
 use crate::stream::Stream;
@@ -21,7 +21,7 @@ use crate::tail::beside;
 use blocks::{BlockRef, BlockStore};
 use rax_packed::PackedTree;
 use std::alloc::Global;
-use stream_node::Id;
+use stream_node::{Id, mark_over};
 
 /// Marks an entry of a node deleted that has others. `Memory` leaves all as before.
 pub(crate) fn mark_out<B: BlockStore>(
@@ -41,6 +41,10 @@ pub(crate) fn mark_out<B: BlockStore>(
     ensures err_blocks { OnErr result (B.blocks store.new ≡ B.blocks store.old) }
 {
     let bytes = node_in(store, at);
+    if let Some(mark) = mark_over(bytes, index) {
+        write_mark(store, at, mark);
+        return Ok(());
+    }
     let pack = marked(alloc, bytes, index)?;
     replace(store, tree, key, at, &pack)?;
     Ok(())
@@ -63,7 +67,7 @@ fn take_out<B: BlockStore>(
     ensures err_blocks { OnErr result (B.blocks store.new ≡ B.blocks store.old) }
 {
     let bytes = node_in(store, at);
-    if count_live(key, bytes).count == 1 {
+    if live_count(bytes) == 1 {
         drop_node(store, tree, key, at);
         return Ok(());
     }

@@ -7,7 +7,7 @@ ghost use Rattle.stream_object.specs.Streams.{IsChanged, IsStream, dropping, ent
 
 use crate::Memory;
 use crate::below::count_below;
-use crate::node::count_live;
+use crate::node::{first_live, live_count};
 use crate::nodes::{LEAST, drop_node, near};
 use crate::removing::mark_out;
 use crate::spot::Spot;
@@ -35,15 +35,15 @@ impl Stream {
             unreachable!()
         };
         let Spot { key, at, bytes } = spot;
-        let live = count_live(key, bytes);
-        let count = live.count as u64;
+        let count = live_count(bytes) as u64;
         if count <= most {
             drop_node(store, &mut self.tree, key, at);
             self.tail = beside(self.tail, key);
             self.len -= count;
             return Ok(count);
         }
-        mark_out(self.alloc, store, &mut self.tree, key, at, live.first)?;
+        let first = first_live(key, bytes);
+        mark_out(self.alloc, store, &mut self.tree, key, at, first)?;
         self.tail = beside(self.tail, key);
         self.len -= 1;
         Ok(1)

@@ -2,7 +2,6 @@ use Rattle.std.proofs.Common.{sym, ap, ◌∙◌, arith}
 use Rattle.stream_node.specs.Entries.{behind_entry}
 use Rattle.stream_node.specs.Rest.{rest_of}
 use Rattle.stream_node.specs.Reading.{master_of}
-use Rattle.stream_node.proofs.ReadBack.{reads_entry}
 use Rattle.stream_node.proofs.Markings.{behind_none, behind_push, no_fault_there}
 use Rattle.stream_node.proofs.marking.skip_entries.Goals as goal
 
@@ -16,6 +15,4 @@ returns-in-Err-clause-none c =
 pub loop-preserved : goal.loop-preserved
 loop-preserved c =
     let master = master_of c.args.head.now in
-    let first = rest_of c.args.first.now in
-    let r = reads_entry _ master (rest_of c.loop.rest) _ (rest_of c.in-Ok.behind) c.in-Ok.ensures.ok in
-    sym r.1 ∙ ap (behind_entry master) c.loop.invariant ∙ sym (behind_push master c.loop.counter first)
+    c.in-Ok.ensures.ok ∙ ap (behind_entry master) c.loop.invariant ∙ sym (behind_push master c.loop.counter (rest_of c.args.first.now))

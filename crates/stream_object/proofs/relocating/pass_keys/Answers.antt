@@ -6,22 +6,10 @@ use Rattle.stream_node.specs.Ids.{id_number}
 use Rattle.stream_object.specs.Found.{IsNear}
 use Rattle.stream_object.specs.Parts.{Part, part, parts_of, all_refs}
 use Rattle.stream_object.specs.Relocation.{PassesAll, tree_marks}
-use Rattle.stream_object.proofs.Passed.{IsBeside, step_all, step_count, next_all, end_all, each_none, count_zero, count_same, passes_none, passes_same, passes_calm}
+use Rattle.stream_object.proofs.Passed.{IsBeside, step_all, step_count, next_all, end_all, each_none, count_zero, count_same, passes_none, passes_same}
 use Rattle.stream_object.proofs.Walkings.{moves_then, moves_none, marks_many, near_beside, all_below, all_small, near_small}
 use Rattle.blocks.proofs.Sweeps.{calmer_same, calmer_next}
 use Rattle.stream_object.proofs.relocating.pass_keys.Goals as goal
-
-pub returns-then-is_calm : goal.returns-then-is_calm
-returns-then-is_calm g c =
-    let m = g.B.BlockStore.blocks c.args.store.now in
-    let t0 = c.args.tree.now in
-    let h = g.B.BlockStore.heap c.args.store.now in
-    record {
-      moves = moves_none m t0 c.requires.parts;
-      passed = passes_calm h (is_passed c.args.from c.count_keys.result.next) (tree_marks m t0) (all_refs m t0) (marks_many m t0) c.if-is_calm.ensures;
-      bounded = c.count_keys.ensures;
-      calmer = calmer_same h;
-    }
 
 pub keys-init : goal.keys-init
 keys-init g c =

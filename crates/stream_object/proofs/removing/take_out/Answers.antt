@@ -15,23 +15,26 @@ node_in-bytes-requires g c =
       (stands_node m c.args.tree.now (parts_of m c.args.tree.now) c.args.key c.args.at c.requires.parts s).pack,
     )
 
-pub count_live-requires : goal.count_live-requires
-count_live-requires g c =
+pub live_count-requires : goal.live_count-requires
+live_count-requires g c =
     let m = g.B.BlockStore.blocks c.args.store.now in
-    let s = c.requires.stands.0 in
-    subst (IsNodeOf c.args.key) (sym (stands_bytes m c.args.tree.now c.args.key c.args.at s c.requires.parts c.node_in-bytes.result.now c.node_in-bytes.ensures))
-    (stands_node m c.args.tree.now (parts_of m c.args.tree.now) c.args.key c.args.at c.requires.parts s)
+    let s = c.requires.stands.0 in (
+      c.args.key,
+      subst (IsNodeOf c.args.key) (sym (stands_bytes m c.args.tree.now c.args.key c.args.at s c.requires.parts c.node_in-bytes.result.now c.node_in-bytes.ensures))
+          (stands_node m c.args.tree.now (parts_of m c.args.tree.now) c.args.key c.args.at c.requires.parts s),
+    )
 
 pub drop_node-requires-clause-stands : goal.drop_node-requires-clause-stands
 drop_node-requires-clause-stands g c = c.requires.stands.0
 
-pub returns-then-count_live-eq1-clause-loses : goal.returns-then-count_live-eq1-clause-loses
-returns-then-count_live-eq1-clause-loses g c =
+pub returns-then-live_count-eq1-clause-loses : goal.returns-then-live_count-eq1-clause-loses
+returns-then-live_count-eq1-clause-loses g c =
     let m = g.B.BlockStore.blocks c.args.store.now in
     let after = g.B.BlockStore.blocks c.drop_node.new.store in
     λ s e a. (let same = stands_bytes m c.args.tree.now c.args.key c.args.at s c.requires.parts c.node_in-bytes.result.now c.node_in-bytes.ensures in
+    let is_node = subst (IsNodeOf c.args.key) (sym same) (stands_node m c.args.tree.now (parts_of m c.args.tree.now) c.args.key c.args.at c.requires.parts s) in
     let one : length (live_of (entries_of c.args.key (texts s.bytes))) ≡ 1 =
-    omega (arith, c.count_live.ensures.count, ap (λ (b : List ℕ). length (live_of (entries_of c.args.key (texts b)))) same, c.if-count_live-eq1.true) in
+    omega (arith, c.live_count.ensures c.args.key is_node, ap (λ (b : List ℕ). length (live_of (entries_of c.args.key (texts b)))) same, c.if-live_count-eq1.true) in
     goes_whole m after c.args.tree.now c.drop_node.new.tree c.args.key c.args.at s c.args.index e a one (c.drop_node.ensures.dropped s))
 
 pub mark_out-requires-clause-others : goal.mark_out-requires-clause-others
@@ -39,4 +42,10 @@ mark_out-requires-clause-others g c =
     let m = g.B.BlockStore.blocks c.args.store.now in
     λ s. (let same = stands_bytes m c.args.tree.now c.args.key c.args.at s c.requires.parts c.node_in-bytes.result.now c.node_in-bytes.ensures in
     let is_node = stands_node m c.args.tree.now (parts_of m c.args.tree.now) c.args.key c.args.at c.requires.parts s in
-    omega (arith, is_node.some, c.count_live.ensures.count, ap (λ (b : List ℕ). length (live_of (entries_of c.args.key (texts b)))) same, c.if-count_live-eq1.false))
+    omega (
+      arith,
+      is_node.some,
+      c.live_count.ensures c.args.key (subst (IsNodeOf c.args.key) (sym same) is_node),
+      ap (λ (b : List ℕ). length (live_of (entries_of c.args.key (texts b)))) same,
+      c.if-live_count-eq1.false,
+    ))

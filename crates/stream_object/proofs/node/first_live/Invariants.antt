@@ -1,13 +1,12 @@
-use Rattle.std.proofs.Common.{◌≡◌, ◌≤◌, ◌++◌, length, map}
+use Rattle.std.proofs.Common.{◌≡◌, [], ◌++◌, length, map}
 use Rattle.stream_node.specs.View.{stored}
 use Rattle.stream_node.specs.Views.{left_of}
-use Rattle.stream_object.specs.Node.{IsLive}
-use Rattle.stream_object.proofs.node.count_live.Given as goal
+use Rattle.stream_object.specs.Parts.{live_of}
+use Rattle.stream_object.proofs.node.first_live.Given as goal
 
 abbrev pub invariant-loop-entry : goal.invariant-loop-entry
 invariant-loop-entry l = record {
   joined : map stored l.yielded ++ left_of l.entry-iterator ≡ left_of l.initial.entry-iterator;
   count : length l.yielded ≡ l.index;
-  live : IsLive (map stored l.yielded) l.live;
-  within : l.live.count ≤ l.index;
+  none : live_of (map stored l.yielded) ≡ [];
 }
