@@ -19,7 +19,8 @@ use Rattle.held.proofs.Written.{written_key}
 use Rattle.keyspace.specs.Values.{OfForm, value_refs}
 use Rattle.keyspace.specs.Databases.{Keyspace}
 use Rattle.keyspace.specs.Scopes.{one_key}
-use Rattle.keyspace.specs.Forms.{AsAt, HasForm, Formed, IsHashRisen, IsSourceForm, RisesBy, hash_of, hash_at, hash_to}
+use Rattle.keyspace.specs.Forms.{AsAt, HasForm, Formed, IsHashRisen, IsSourceForm, RisesBy, hash_of, hash_at, hash_to, hash_form, Unwritten}
+use Rattle.keyspace.proofs.Forming.{formed_ok}
 use Rattle.keyspace.specs.Commands.{KeepsTo, visible}
 use Rattle.cmd_hashes.specs.Changed.{HasHash, IsBefore, IsValue, Made, HashChanged}
 use Rattle.cmd_hashes.specs.Set.{IsSet, Unsets}
@@ -157,3 +158,12 @@ module _ {S : Type 0} (own : Made) (blocks : S → Blocks) (step : S → S → T
       written_key value_refs (HasForm (AsAt at.db key) old.bases (blocks old.store)) at.db key p.value
       (had.0, had.1, p.encoded ∙ ap OfForm same ∙ sym had.2)
       old.bases new.bases (blocks old.store) (blocks new.store) held.within held.sound.arranged p.only
+
+-- HSETNX set the value of a field that was missing
+pub set_where_missing : {S E : Type 0} (blocks : S → Blocks) (old new : Keyspace S) (world : World) (db : ℕ) (key field value : List ℕ) (found : Option (List ℕ)) (result : Result (List Part) E)
+    → IsValue world key field found → is_some found ≡ false → Formed blocks (hash_to db world key ((field, value) ∷ [])) old new
+    → IfOk result (λ reply. Formed blocks (hash_form db world (hashes.HSetNx key field value)) old new)
+set_where_missing blocks old new world db key field value found result v lacks formed =
+    let none : is_some (get (hash_at world key) field) ≡ false = ap (λ (m : Fields). is_some (get m field)) (fields_before world key v.before v.stands) ∙ ap is_some v.is ∙ lacks in
+    subst (λ b. IfOk result (λ reply. Formed blocks (if b then Unwritten else hash_to db world key ((field, value) ∷ [])) old new)) (sym none)
+    (formed_ok blocks (hash_to db world key ((field, value) ∷ [])) old new result formed)

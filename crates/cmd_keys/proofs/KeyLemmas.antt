@@ -158,7 +158,7 @@ told_connection blocks step keyspace at command same result is none told ready s
 pub ran_keys : {S E : Type 0} (blocks : S → Blocks) (step : S → S → Type 0) (old new : Keyspace S) (at : Ctx) (command same : KeyCommand) (result : Result (List Part) E)
     → ((reply : List Part) (world : World) → IsOutcome (key_outcome at.moment (visible blocks old at) same) reply world → may_keys old.bases.seed (visible blocks old at) at.moment same reply world)
     → ((reply : List Part) → key_shown old.bases (blocks old.store) at same reply)
-    → command ≡ same → Gives blocks old new at same result → KeepsOrRefuses blocks step (key_scope at.db same) old new result → IfOk result (λ reply. Formed blocks (key_form at.db same) old new)
+    → command ≡ same → Gives blocks old new at same result → KeepsOrRefuses blocks step (key_scope at.db same) old new result → IfOk result (λ reply. Formed blocks (key_form at.db (visible blocks old at) same) old new)
     → Runs blocks step old new at (Keys command) result
 ran_keys {E = E} blocks step old new at command same result fixed shows is given kept forms =
     subst (λ c. Runs {E = E} blocks step old new at (Keys c) result) (sym is) (record { answers = answers result given; kept = kept; shows = key_shows _ result shows; forms = forms })
@@ -175,7 +175,7 @@ pub removed_keys : {S E : Type 0} (blocks : S → Blocks) (step : S → S → Ty
     → command ≡ same → Gives blocks old new at same result → KeepsOrRefuses blocks step (key_scope at.db same) old new result → Runs blocks step old new at (Keys command) result
 removed_keys blocks step old new at command same result fixed shows none is given kept =
     ran_keys blocks step old new at command same result fixed shows is given kept
-    (formed_ok blocks (key_form at.db same) old new result (formed_scope (key_form at.db same) (key_scope at.db same) none old.bases new.bases (blocks old.store) (blocks new.store) kept.held.within))
+    (formed_ok blocks (key_form at.db (visible blocks old at) same) old new result (formed_scope (key_form at.db (visible blocks old at) same) (key_scope at.db same) none old.bases new.bases (blocks old.store) (blocks new.store) kept.held.within))
 
 -- a command on keys only looked
 pub asked_keys : {S E : Type 0} (blocks : S → Blocks) (step : S → S → Type 0) (keyspace : Keyspace S) (at : Ctx) (command same : KeyCommand) (result : Result (List Part) E)
@@ -185,7 +185,7 @@ pub asked_keys : {S E : Type 0} (blocks : S → Blocks) (step : S → S → Type
 asked_keys {E = E} blocks step keyspace at command same result is given shows ready =
     subst (λ c. Runs {E = E} blocks step keyspace keyspace at (Keys c) result) (sym is)
     (record
-    { answers = given; kept = unchanged blocks step (key_scope at.db same) keyspace result ready.sound; shows = shows; forms = unformed blocks (key_form at.db same) keyspace result })
+    { answers = given; kept = unchanged blocks step (key_scope at.db same) keyspace result ready.sound; shows = shows; forms = unformed blocks (key_form at.db (visible blocks keyspace at) same) keyspace result })
 
 -- and told what the model tells
 pub told_keys : {S E : Type 0} (blocks : S → Blocks) (step : S → S → Type 0) (keyspace : Keyspace S) (at : Ctx) (command same : KeyCommand) (result : Result (List Part) E)
@@ -196,7 +196,7 @@ pub told_keys : {S E : Type 0} (blocks : S → Blocks) (step : S → S → Type 
     → command ≡ same → Gives blocks keyspace keyspace at same result → Ready blocks keyspace at → Runs blocks step keyspace keyspace at (Keys command) result
 told_keys blocks step keyspace at command same result fixed shows is given ready =
     ran_keys blocks step keyspace keyspace at command same result fixed shows is given (unchanged blocks step (key_scope at.db same) keyspace result ready.sound)
-    (unformed blocks (key_form at.db same) keyspace result)
+    (unformed blocks (key_form at.db (visible blocks keyspace at) same) keyspace result)
 
 -- what is asked of a key alone leaves the world
 pub and_stays : {E : Type 0} (P : List Part → Type 0) (world : World) (result : Result (List Part) E) → IfOk result P → IfOk result (λ reply. P reply × (world ≡ world))

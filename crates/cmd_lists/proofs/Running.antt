@@ -15,7 +15,7 @@ use Rattle.plain_model.specs.declared.list_command.ListCommand.TheVariants as li
 use Rattle.plain_model.proofs.Asked.{lists_fit}
 use Rattle.keyspace.specs.Databases.{Keyspace}
 use Rattle.keyspace.specs.Scopes.{list_scope, scope_of}
-use Rattle.keyspace.specs.Forms.{Formed, list_form, form_of}
+use Rattle.keyspace.specs.Forms.{Formed, FormedBy, list_form}
 use Rattle.keyspace.specs.Shown.{Shows}
 use Rattle.keyspace.specs.Commands.{Ready, KeepsOrRefuses, Runs, visible}
 use Rattle.keyspace.proofs.Running.{outcome_is, unchanged, nothing_shown}
@@ -37,7 +37,7 @@ module _ {S E : Type 0} (blocks : S → Blocks) (step : S → S → Type 0) wher
         answers = step_of old.bases.seed at.moment (visible blocks old at) (visible blocks new at) command own same result e f given;
         kept = subst (λ x. KeepsOrRefuses blocks step (scope_of at.db x) old new result) (sym is) kept;
         shows = subst (λ x. IfOk result (λ reply. Shows blocks old new at x reply)) (sym is) (nothing_shown result);
-        forms = subst (λ x. IfOk result (λ reply. Formed blocks (form_of at.db (visible blocks old at) x) old new)) (sym is) forms;
+        forms = subst (λ x. IfOk result (λ reply. FormedBy blocks at.db (visible blocks old at) x reply old new)) (sym is) forms;
       }
 
   -- a command that only looked

@@ -1,6 +1,6 @@
 -- A member that moves from one set to another.
 use Rattle.std.proofs.Common.{◌≡◌, inl, inr, ℕ, Bool, true, false, List, [], ◌∷◌, Option, None, Some, refl, sym, ap, subst, ◌∙◌, arith}
-use Rattle.std.specs.Prelude.{◌==◌, ◌<◌, unwrap_or, pos, bytes_eq, is_some, IfSome, IfNone}
+use Rattle.std.specs.Prelude.{◌==◌, ◌<◌, ◌&&◌, not, unwrap_or, pos, bytes_eq, is_some, IfSome, IfNone}
 use Rattle.std.specs.FinMap.{empty, len, insert}
 use Rattle.std.specs.FinMap as finite
 use Rattle.std.proofs.lemmas.Bool.{cond-true, cond-false, cases_Bool}
@@ -30,7 +30,7 @@ use Rattle.keyspace.specs.Values.{value_refs}
 use Rattle.keyspace.specs.Databases.{Bases, Keyspace}
 use Rattle.keyspace.specs.Scopes.{one_key, two_keys, Within}
 use Rattle.keyspace.specs.Seeking.{Sees}
-use Rattle.keyspace.specs.Forms.{AsAt, Either, HasForm, Formed, RisesWith, IsSourceForm, set_of, set_at, set_with, set_form}
+use Rattle.keyspace.specs.Forms.{AsAt, Either, HasForm, Formed, RisesWith, IsSourceForm, set_of, set_at, set_with, set_passed}
 use Rattle.keyspace.specs.Commands.{KeepsTo, seen, visible}
 use Rattle.keyspace.proofs.Running.{held_then}
 use Rattle.keyspace.proofs.Absent.{look_put_other, look_remove_other}
@@ -38,7 +38,7 @@ use Rattle.cmd_sets.specs.Found.{FoundOther}
 use Rattle.cmd_sets.specs.Changed.{HasSet, IsBefore, IsSetThere}
 use Rattle.cmd_sets.specs.Edited.{Adds, Drops}
 use Rattle.cmd_sets.specs.Moves.{IsMove}
-use Rattle.cmd_sets.proofs.Telling.{on_before, before_is}
+use Rattle.cmd_sets.proofs.Telling.{on_before, before_is, set_before}
 
 -- ---- what is to be done
 
@@ -190,9 +190,15 @@ module _ {S : Type 0} (blocks : S → Blocks) (step : S → S → Type 0) (old m
   }
 
   pub formed_both : Formed blocks (AsAt at.db from) old mid → Formed blocks (set_with at.db (visible blocks mid at) to (member ∷ [])) mid new
-      → Formed blocks (set_form at.db (visible blocks old at) (sets.SMove from to member)) old new
+      → Formed blocks (set_passed at.db (visible blocks old at) from to member) old new
   formed_both first second =
       written_then value_refs (HasForm (Either (AsAt at.db from) (set_with at.db (visible blocks old at) to (member ∷ []))) old.bases (blocks old.store)) old.bases mid.bases new.bases
       (blocks old.store) (blocks mid.store) (blocks new.store)
       (λ number i e found. elim (first number i e found) [ inl stayed ↦ inl stayed | inr is ↦ inr (inl is) ])
       (λ number i e found. elim (second number i e found) [ inl stayed ↦ inl stayed | inr is ↦ inr (inr (risen_before e.value is)) ])
+
+-- a member that is moved is in the first set, and the keys differ
+pub moves_on : (world : World) (from to member : List ℕ) → IsMove world from to member → (has (set_at world from) member && not (bytes_eq from to)) ≡ true
+moves_on world from to member m =
+    let there = ap (λ (s : Members). has s member) (set_before world from (Some m.members) m.stands) ∙ m.there in
+    ap (λ b. b && not (bytes_eq from to)) there ∙ ap not m.apart

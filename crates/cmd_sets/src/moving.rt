@@ -5,7 +5,7 @@ ghost use Rattle.plain_model.specs.SetSteps.{set_outcome};
 ghost use Rattle.plain_model.specs.ListSteps.{tells_number};
 ghost use Rattle.plain_model.specs.declared.set_command.SetCommand.TheVariants as sets;
 ghost use Rattle.keyspace.specs.Scopes.{two_keys};
-ghost use Rattle.keyspace.specs.Forms.{Formed, set_form};
+ghost use Rattle.keyspace.specs.Forms.{Formed, set_form, set_passed};
 ghost use Rattle.keyspace.specs.Commands.{Ready, KeepsTo, KeepsOrRefuses, visible};
 ghost use Rattle.cmd_sets.specs.Found.{Gives};
 ghost use Rattle.cmd_sets.specs.Moves.{IsMove, IsPlan, Takes};
@@ -82,7 +82,7 @@ fn move_member<B: BlockStore>(
     requires moves { IsMove (visible B.blocks keyspace.old at.now) from.now to.now member.now }
     ensures moved { OnOk result (set_outcome (visible B.blocks keyspace.old at.now) (sets.SMove from.now to.now member.now) ≡ tells_number (pos 1) (visible B.blocks keyspace.new at.now)) }
     ensures held { KeepsTo B.blocks B.step (two_keys at.now.db from.now at.now.db to.now) keyspace.old keyspace.new }
-    ensures forms { OnOk result (Formed B.blocks (set_form at.now.db (visible B.blocks keyspace.old at.now) (sets.SMove from.now to.now member.now)) keyspace.old keyspace.new) }
+    ensures forms { OnOk result (Formed B.blocks (set_passed at.now.db (visible B.blocks keyspace.old at.now) from.now to.now member.now) keyspace.old keyspace.new) }
 {
     let words = [Word::new(member)];
     let found = seek(keyspace, at, from);

@@ -3,3 +3,4 @@ pub mod StringLemmas
 pub mod Lowering
 pub mod Pairs
 pub mod Sought
+pub mod Placing

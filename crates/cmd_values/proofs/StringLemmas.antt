@@ -16,8 +16,8 @@ use Rattle.std.specs.Prelude.{Bool}
 use Rattle.plain_model.specs.StringSteps.{string_outcome, on_string, or_null, string_part, string_or_null, replace}
 use Rattle.keyspace.proofs.Running.{outcome_is, unchanged, nothing_shown}
 use Rattle.keyspace.specs.Shown.{Shows}
-use Rattle.keyspace.specs.Forms.{Formed, string_form, form_of}
-use Rattle.keyspace.proofs.Forming.{formed_ok, formed_scope, unformed}
+use Rattle.keyspace.specs.Forms.{Formed, FormedString, FormedBy, Place, string_form, string_places}
+use Rattle.keyspace.proofs.Forming.{formed_ok, formed_scope, unformed, formed_both, nowhere_placed}
 use Rattle.plain_model.specs.declared.ctx.Ctx.{Ctx}
 use Rattle.keyspace.specs.declared.value.Value.TheVariants as values
 use Rattle.keyspace.specs.Databases.{Bases, means}
@@ -343,31 +343,35 @@ overflowed old key n next (Err x) at large is = tt
 -- a command on strings ran
 pub ran_strings : {S E : Type 0} (blocks : S → Blocks) (step : S → S → Type 0) (old new : Keyspace S) (at : Ctx) (command : Command) (own same : StringCommand) (result : Result (List Part) E)
     → command ≡ Strings own → own ≡ same → Gives blocks old new at same result → KeepsOrRefuses blocks step (string_scope at.db same) old new result
-    → IfOk result (λ reply. Formed blocks (string_form (visible blocks old at) same) old new) → Runs blocks step old new at command result
+    → IfOk result (λ reply. FormedString blocks at.db (visible blocks old at) same reply old new) → Runs blocks step old new at command result
 ran_strings blocks step old new at command own same result e f given kept forms =
     record {
       answers = step_of old.bases.seed at.moment (visible blocks old at) (visible blocks new at) command own same result e f given;
       kept = subst (λ x. KeepsOrRefuses blocks step (scope_of at.db x) old new result) (sym e) (subst (λ x. KeepsOrRefuses blocks step (string_scope at.db x) old new result) (sym f) kept);
       shows = subst (λ x. IfOk result (λ reply. Shows blocks old new at x reply)) (sym e) (nothing_shown result);
-      forms = subst (λ x. IfOk result (λ reply. Formed blocks (form_of at.db (visible blocks old at) x) old new)) (sym e)
-          (subst (λ x. IfOk result (λ reply. Formed blocks (string_form (visible blocks old at) x) old new)) (sym f) forms);
+      forms = subst (λ x. IfOk result (λ reply. FormedBy blocks at.db (visible blocks old at) x reply old new)) (sym e)
+          (subst (λ x. IfOk result (λ reply. FormedString blocks at.db (visible blocks old at) x reply old new)) (sym f) forms);
     }
 
 -- a command on strings that writes none
 pub removed_strings : {S E : Type 0} (blocks : S → Blocks) (step : S → S → Type 0) (old new : Keyspace S) (at : Ctx) (command : Command) (own same : StringCommand) (result : Result (List Part) E)
     → ((db : ℕ) (key : List ℕ) → (string_scope at.db same).writes db key → ⊥) → command ≡ Strings own → own ≡ same → Gives blocks old new at same result
-    → KeepsOrRefuses blocks step (string_scope at.db same) old new result → Runs blocks step old new at command result
-removed_strings blocks step old new at command own same result none e f given kept =
+    → KeepsOrRefuses blocks step (string_scope at.db same) old new result → string_places at.db (visible blocks old at) same ≡ [] → Runs blocks step old new at command result
+removed_strings blocks step old new at command own same result none e f given kept nowhere =
     ran_strings blocks step old new at command own same result e f given kept
+    (formed_both blocks (string_form (visible blocks old at) same) (string_places at.db (visible blocks old at) same) old new result
     (formed_ok blocks (string_form (visible blocks old at) same) old new result
     (formed_scope (string_form (visible blocks old at) same) (string_scope at.db same) none old.bases new.bases (blocks old.store) (blocks new.store) kept.held.within))
+    (nowhere_placed blocks (string_places at.db (visible blocks old at) same) old new result nowhere))
 
 -- a command on strings only looked
 pub looked_strings : {S E : Type 0} (blocks : S → Blocks) (step : S → S → Type 0) (keyspace : Keyspace S) (at : Ctx) (command : Command) (own same : StringCommand) (result : Result (List Part) E)
-    → command ≡ Strings own → own ≡ same → Gives blocks keyspace keyspace at same result → Ready blocks keyspace at → Runs blocks step keyspace keyspace at command result
-looked_strings blocks step keyspace at command own same result e f given ready =
+    → command ≡ Strings own → own ≡ same → Gives blocks keyspace keyspace at same result → Ready blocks keyspace at → string_places at.db (visible blocks keyspace at) same ≡ [] → Runs blocks step keyspace keyspace at command result
+looked_strings blocks step keyspace at command own same result e f given ready nowhere =
     ran_strings blocks step keyspace keyspace at command own same result e f given (unchanged blocks step (string_scope at.db same) keyspace result ready.sound)
+    (formed_both blocks (string_form (visible blocks keyspace at) same) (string_places at.db (visible blocks keyspace at) same) keyspace keyspace result
     (unformed blocks (string_form (visible blocks keyspace at) same) keyspace result)
+    (nowhere_placed blocks (string_places at.db (visible blocks keyspace at) same) keyspace keyspace result nowhere))
 
 -- what was put stands there
 pub put_there : (old mid : World) (key bytes : List ℕ) → mid ≡ replace old key bytes → IsThere mid key bytes

@@ -1,9 +1,12 @@
 -- Which encodings values have that were written.
-use Rattle.std.proofs.Common.{◌≡◌, inl, inr, ℕ, List, Some, Result, Ok, Err, OnOk, IfOk, refl, sym, ap, subst, ◌∙◌}
+use Rattle.std.proofs.Common.{◌≡◌, ◌+◌, ◌<◌, ◌≤◌, inl, inr, ℕ, List, [], ◌∷◌, Bool, true, false, Option, Some, Result, Ok, Err, OnOk, IfOk, unwrap_or, refl, sym, ap, subst, ◌∙◌, arith}
 use Rattle.std.specs.FinMap.{get, get-empty}
 use Rattle.std.specs.Ordering.{nat_cmp}
 use Rattle.std.specs.Cmp.Lexicographic.{slice_cmp}
+use Rattle.std.proofs.lemmas.Bool.{cond-true}
 use Rattle.blocks.specs.Blocks.{Blocks, bytes_at}
+use Rattle.blocks.proofs.Refs.{ref_eq_refl}
+use Rattle.blocks.proofs.Change.{one}
 use Rattle.rehash_dict.proofs.Keys.{live_bytes}
 use Rattle.plain_world.specs.Worlds.{World, new_world}
 use Rattle.held.specs.Calls.{HasValue, AllAt, HasOnly}
@@ -18,7 +21,15 @@ use Rattle.keyspace.specs.Databases.{Bases, Keyspace, means, table_at}
 use Rattle.keyspace.specs.Sound.{IsArranged}
 use Rattle.keyspace.specs.Scopes.{Scope, one_key, Within}
 use Rattle.keyspace.specs.Values.{value_of, value_refs, value_own, IsWrittenWhole, IsLike}
-use Rattle.keyspace.specs.Forms.{AreWhole, FormRule, Unwritten, Whole, AsAt, HasForm, Forms, Formed}
+use Rattle.keyspace.specs.Forms.{AreWhole, FormRule, Unwritten, Whole, AsAt, HasForm, Forms, Formed, Place, ArePlaced, Placed, FormedBy}
+use Rattle.keyspace.specs.Forms.{string_form, string_places, list_form, set_form, hash_form, zset_form, stream_form, key_form}
+use Rattle.plain_model.specs.declared.command.Command.{Command}
+use Rattle.plain_model.specs.declared.command.Command.TheVariants.{Strings, Lists, Sets, Hashes, Zsets, Streams, Keys, Connection}
+use Rattle.std.specs.Prelude.{not, ◌&&◌, if◌then◌else◌}
+use Rattle.plain_model.specs.Outcomes.{IsRefusal}
+use Rattle.plain_world.specs.declared.refusal.Refusal.{Refusal}
+use Rattle.plain_world.specs.declared.reply.Part.{Part}
+use Rattle.plain_world.specs.declared.reply.Part.TheVariants.{Refused}
 
 -- what was whole stays so, and so is what is written
 whole_on : (old new : Bases) (m after : Blocks) → held.Written value_refs IsWrittenWhole old new m after → AreWhole old → AreWhole new
@@ -109,3 +120,80 @@ pub formed_on : {S : Type 0} (blocks : S → Blocks) (form : FormRule) (scope : 
 formed_on blocks form scope old mid new none formed within =
     written_then value_refs (HasForm form old.bases (blocks old.store)) old.bases mid.bases new.bases (blocks old.store) (blocks mid.store) (blocks new.store) formed
     (written_within value_refs (HasForm form old.bases (blocks old.store)) scope none mid.bases new.bases (blocks mid.store) (blocks new.store) within)
+
+-- ---- where strings stand
+
+-- nothing changes, and the reply is an error
+pub formed_refused : {S E : Type 0} (blocks : S → Blocks) (form : FormRule) (places : List Place) (keyspace : Keyspace S) (refusal : Refusal) (result : Result (List Part) E)
+    → IfOk result (λ reply. reply ≡ Refused refusal ∷ []) → IfOk result (λ reply. Formed blocks form keyspace keyspace × Placed blocks places reply keyspace keyspace)
+formed_refused blocks form places keyspace refusal (Ok reply) told = (formed_none blocks form keyspace, λ calm. absurd (calm (subst IsRefusal (sym told) tt)))
+formed_refused blocks form places keyspace refusal (Err e) told = tt
+
+-- whatever is answered
+pub placed_ok : {S E : Type 0} (blocks : S → Blocks) (places : List Place) (old new : Keyspace S) (result : Result (List Part) E)
+    → ArePlaced places old.bases new.bases (blocks old.store) (blocks new.store) → IfOk result (λ reply. Placed blocks places reply old new)
+placed_ok blocks places old new (Ok reply) placed = λ calm. placed
+placed_ok blocks places old new (Err e) placed = tt
+
+-- where nothing is written there is nothing to say
+pub nowhere_placed : {S E : Type 0} (blocks : S → Blocks) (places : List Place) (old new : Keyspace S) (result : Result (List Part) E) → places ≡ []
+    → IfOk result (λ reply. Placed blocks places reply old new)
+nowhere_placed blocks places old new result none =
+    placed_ok blocks places old new result (subst (λ l. ArePlaced l old.bases new.bases (blocks old.store) (blocks new.store)) (sym none) tt)
+
+-- both of what is said of encodings
+pub formed_both : {S E : Type 0} (blocks : S → Blocks) (form : FormRule) (places : List Place) (old new : Keyspace S) (result : Result (List Part) E)
+    → IfOk result (λ reply. Formed blocks form old new) → IfOk result (λ reply. Placed blocks places reply old new)
+    → IfOk result (λ reply. Formed blocks form old new × Placed blocks places reply old new)
+formed_both blocks form places old new (Ok reply) formed placed = (formed, placed)
+formed_both blocks form places old new (Err e) formed placed = tt
+
+-- what stands at a key that isn't written stood there before, and so is encoded as it was
+pub stayed_at : (Is : Value → Type 0) (scope : Scope) (db : ℕ) (key : List ℕ) → (scope.writes db key → ⊥) → (old new : Bases) (m after : Blocks) → Within scope old new m after
+    → AllAt Is old m db key → AllAt Is new after db key
+stayed_at Is scope db key apart old new m after within all at e found bytes =
+    let stayed = within.stayed db at e found (λ named. apart (subst (scope.writes db) (ap (λ (o : Option (List ℕ)). unwrap_or o []) bytes) named)) in
+    let itself : one e.key e.key ≡ 1 = cond-true _ _ _ (ref_eq_refl e.key) in
+    all at e stayed.stood (sym (stayed.bytes e.key (omega (arith, itself))) ∙ bytes)
+
+-- a whole string stands at the key
+pub whole_only : {E : Type 0} (value : Value) → IsWrittenWhole value → (new : Bases) (after : Blocks) (db : ℕ) (key : List ℕ) (result : Result (Unit {0}) E)
+    → OnOk result (HasOnly new after db key value) → OnOk result (AllAt IsWrittenWhole new after db key)
+whole_only value is new after db key (Ok u) only = λ at e found bytes. subst IsWrittenWhole (sym (only at e found bytes)) is
+whole_only value is new after db key (Err e) only = tt
+
+-- what was written has its form, where this holds
+pub written_where : {A S E : Type 0} (blocks : S → Blocks) (old new : Keyspace S) (writes : Bool) (form : FormRule) (result : Result A E) → writes ≡ true → Formed blocks form old new
+    → IfOk result (λ reply. Formed blocks (if writes then form else Unwritten) old new)
+written_where blocks old new writes form result is formed =
+    subst (λ t. IfOk result (λ reply. Formed blocks (if t then form else Unwritten) old new)) (sym is) (formed_ok blocks form old new result formed)
+
+-- this holds, and that doesn't
+pub holds_alone : (a b : Bool) → a ≡ true → b ≡ false → (a && not b) ≡ true
+holds_alone a b is none = ap (λ x. x && not b) is ∙ ap not none
+
+-- ---- and then no key is written
+
+placed_on : {S : Type 0} (blocks : S → Blocks) (scope : Scope) (places : List Place) (old mid new : Keyspace S) → ((db : ℕ) (key : List ℕ) → scope.writes db key → ⊥)
+    → ArePlaced places old.bases mid.bases (blocks old.store) (blocks mid.store) → Within scope mid.bases new.bases (blocks mid.store) (blocks new.store)
+    → ArePlaced places old.bases new.bases (blocks old.store) (blocks new.store)
+placed_on blocks scope [] old mid new none placed within = tt
+placed_on blocks scope (place ∷ places) old mid new none placed within = (
+  stayed_at (HasForm place.form old.bases (blocks old.store)) scope place.db place.key (none place.db place.key) mid.bases new.bases (blocks mid.store) (blocks new.store) within placed.0,
+  placed_on blocks scope places old mid new none placed.1 within,
+)
+
+pub formed_by_on : {S : Type 0} (blocks : S → Blocks) (scope : Scope) (db : ℕ) (world : World) (command : Command) (reply : List Part) (old mid new : Keyspace S)
+    → ((db : ℕ) (key : List ℕ) → scope.writes db key → ⊥) → FormedBy blocks db world command reply old mid → Within scope mid.bases new.bases (blocks mid.store) (blocks new.store)
+    → FormedBy blocks db world command reply old new
+formed_by_on blocks scope db world (Strings command) reply old mid new none formed within = (
+  formed_on blocks (string_form world command) scope old mid new none formed.0 within,
+  λ calm. placed_on blocks scope (string_places db world command) old mid new none (formed.1 calm) within,
+)
+formed_by_on blocks scope db world (Lists command) reply old mid new none formed within = formed_on blocks (list_form db world command) scope old mid new none formed within
+formed_by_on blocks scope db world (Sets command) reply old mid new none formed within = formed_on blocks (set_form db world command) scope old mid new none formed within
+formed_by_on blocks scope db world (Hashes command) reply old mid new none formed within = formed_on blocks (hash_form db world command) scope old mid new none formed within
+formed_by_on blocks scope db world (Zsets command) reply old mid new none formed within = formed_on blocks (zset_form db world command) scope old mid new none formed within
+formed_by_on blocks scope db world (Streams command) reply old mid new none formed within = formed_on blocks (stream_form command) scope old mid new none formed within
+formed_by_on blocks scope db world (Keys command) reply old mid new none formed within = formed_on blocks (key_form db world command) scope old mid new none formed within
+formed_by_on blocks scope db world (Connection command) reply old mid new none formed within = formed_on blocks Unwritten scope old mid new none formed within

@@ -11,10 +11,10 @@ use Rattle.keyspace.specs.Databases.{Bases, SameSettings}
 use Rattle.keyspace.specs.Sound.{Sound}
 use Rattle.keyspace.specs.Databases.{Keyspace}
 use Rattle.keyspace.specs.Scopes.{Scope, scope_of}
-use Rattle.keyspace.specs.Forms.{Formed, form_of}
+use Rattle.keyspace.specs.Forms.{Formed, FormRule, FormedBy}
 use Rattle.keyspace.specs.Shown.{Shows}
 use Rattle.keyspace.specs.Commands.{Ready, KeepsTo, KeepsOrRefuses, Runs, visible}
-use Rattle.keyspace.proofs.Forming.{unformed}
+use Rattle.keyspace.proofs.Forming.{formed_none}
 use Rattle.blocks.proofs.Serve.{served_then}
 use Rattle.keyspace.proofs.Serving.{unmoved, further}
 
@@ -68,14 +68,20 @@ module _ {S E : Type 0} (blocks : S → Blocks) (step : S → S → Type 0) wher
   pub ran : (old new : Keyspace S) (at : Ctx) (command same : Command) (result : Result (List Part) E) → command ≡ same
       → IfOk result (λ reply. may old.bases.seed (visible blocks old at) at.moment same reply (visible blocks new at))
       → KeepsOrRefuses blocks step (scope_of at.db same) old new result → IfOk result (λ reply. Shows blocks old new at same reply)
-      → IfOk result (λ reply. Formed blocks (form_of at.db (visible blocks old at) same) old new) → Runs blocks step old new at command result
+      → IfOk result (λ reply. FormedBy blocks at.db (visible blocks old at) same reply old new) → Runs blocks step old new at command result
   ran old new at command same result is answers kept shows forms =
       subst (λ c. Runs blocks step old new at c result) (sym is) (record { answers = answers; kept = kept; shows = shows; forms = forms })
 
   -- the same of a command that only looked
   pub looked : (keyspace : Keyspace S) (at : Ctx) (command same : Command) (result : Result (List Part) E) → command ≡ same
       → IfOk result (λ reply. may keyspace.bases.seed (visible blocks keyspace at) at.moment same reply (visible blocks keyspace at))
-      → IfOk result (λ reply. Shows blocks keyspace keyspace at same reply) → Ready blocks keyspace at → Runs blocks step keyspace keyspace at command result
-  looked keyspace at command same result is answers shows ready =
+      → IfOk result (λ reply. Shows blocks keyspace keyspace at same reply) → Ready blocks keyspace at
+      → (form : FormRule) → ((reply : List Part) → FormedBy blocks at.db (visible blocks keyspace at) same reply keyspace keyspace ≡ Formed blocks form keyspace keyspace)
+      → Runs blocks step keyspace keyspace at command result
+  looked keyspace at command same result is answers shows ready form rule =
       ran keyspace keyspace at command same result is answers (unchanged blocks step (scope_of at.db same) keyspace result ready.sound) shows
-      (unformed blocks (form_of at.db (visible blocks keyspace at) same) keyspace result)
+      (calm_forms result)
+    where
+      calm_forms : (result : Result (List Part) E) → IfOk result (λ reply. FormedBy blocks at.db (visible blocks keyspace at) same reply keyspace keyspace)
+      calm_forms (Ok reply) = subst (λ (T : Type 0). T) (sym (rule reply)) (formed_none blocks form keyspace)
+      calm_forms (Err e) = tt

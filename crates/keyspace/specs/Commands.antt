@@ -11,7 +11,7 @@ use Rattle.keyspace.specs.Databases.{Bases, Keyspace, means, SameSettings}
 use Rattle.keyspace.specs.Sound.{Sound}
 use Rattle.keyspace.specs.Scopes.{Scope, Within, scope_of}
 use Rattle.keyspace.specs.Shown.{Shows}
-use Rattle.keyspace.specs.Forms.{Formed, form_of}
+use Rattle.keyspace.specs.Forms.{FormedBy}
 
 -- the world that a command sees
 abbrev pub seen : Ctx → Bases → Blocks → World
@@ -48,4 +48,4 @@ pub record Runs {S E : Type 0} (blocks : S → Blocks) (step : S → S → Type 
       (λ reply. may old.bases.seed (visible blocks old at) at.moment command reply (visible blocks new at))
   pub kept : KeepsOrRefuses blocks step (scope_of at.db command) old new result
   pub shows : IfOk result (λ reply. Shows blocks old new at command reply)
-  pub forms : IfOk result (λ reply. Formed blocks (form_of at.db (visible blocks old at) command) old new)
+  pub forms : IfOk result (λ reply. FormedBy blocks at.db (visible blocks old at) command reply old new)

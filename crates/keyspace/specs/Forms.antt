@@ -1,7 +1,8 @@
 -- How commands leave the encodings of values (Redis command reference, "OBJECT ENCODING").
-use Rattle.std.specs.Prelude.{◌≡◌, ◌⊎◌, ℕ, List, [], ◌∷◌, length, Bool, true, false, Option, None, Some, is_some, bytes_eq, ℤ, ◌+ℤ◌, if◌then◌else◌}
+use Rattle.std.specs.Prelude.{◌≡◌, ◌⊎◌, ◌==◌, ◌&&◌, ℕ, List, [], ◌∷◌, map, length, Bool, true, false, Option, None, Some, is_some, not, bytes_eq, ℤ, ◌+ℤ◌, if◌then◌else◌}
 use Rattle.blocks.specs.Blocks.{Blocks}
-use Rattle.plain_world.specs.Worlds.{World, Entry, look}
+use Rattle.plain_world.specs.Worlds.{World, Entry, look, look_in}
+use Rattle.plain_model.specs.KeySteps.{or_selected}
 use Rattle.plain_model.specs.declared.command.Command.{Command}
 use Rattle.plain_model.specs.declared.command.Command.TheVariants.{Strings, Lists, Sets, Hashes, Zsets, Streams, Keys, Connection}
 use Rattle.plain_model.specs.declared.command.StringCommand.{StringCommand}
@@ -20,6 +21,7 @@ use Rattle.plain_model.specs.declared.stream_command.StreamCommand.TheVariants a
 use Rattle.plain_model.specs.declared.keys.KeyCommand.{KeyCommand}
 use Rattle.plain_model.specs.declared.keys.KeyCommand.TheVariants as keys
 use Rattle.std.specs.FinMap.{empty, get, insert}
+use Rattle.std.specs.List.{AllByRecursion}
 use Rattle.object_codec.specs.declared.limits.Limits.{Limits}
 use Rattle.hash_object.specs.Maps.{FitsFields}
 use Rattle.set_object.specs.Strings.{FitsMembers}
@@ -30,13 +32,16 @@ use Rattle.plain_model.specs.SetSteps.{Members, or_no_members, has, is_joined, s
 use Rattle.plain_model.specs.HashSteps.{Fields, or_no_fields, number_in}
 use Rattle.plain_model.specs.ZsetSteps.{Scores, Scored, or_no_scores, permits, write_score, or_zero, joined_score, weights_of, zsets_at}
 use Rattle.plain_model.specs.ListSteps.{Elements, or_none, added, from_end, place_of, replaced, inserted_beside}
+use Rattle.plain_model.specs.StringSteps.{allows, any_there}
+use Rattle.plain_model.specs.Outcomes.{IsRefusal}
+use Rattle.plain_world.specs.declared.reply.Part.{Part}
 use Rattle.plain_model.specs.declared.list_command.ListEnd.{ListEnd}
 use Rattle.plain_model.specs.declared.list_command.ListEnd.TheVariants.{Head, Tail}
 use Rattle.object_codec.specs.Forms.{IsLeast, IsLeastFrom, FitsList}
 use Rattle.object_codec.specs.declared.form.Form as codec
 use Rattle.object_codec.specs.declared.form.Form.TheVariants as forms
 use Rattle.quicklist.specs.Nodes.{pack_len}
-use Rattle.held.specs.Calls.{HasValue}
+use Rattle.held.specs.Calls.{HasValue, AllAt}
 use Rattle.held.specs.Table.{Element, item}
 use Rattle.held.specs.Written as held
 use Rattle.keyspace.specs.Databases.{Bases, Keyspace, table_at}
@@ -193,22 +198,69 @@ Forms form old new m after = held.Written value_refs (HasForm form old m) old ne
 abbrev pub Formed : {S : Type 0} → (S → Blocks) → FormRule → Keyspace S → Keyspace S → Type 0
 Formed blocks form old new = Forms form old.bases new.bases (blocks old.store) (blocks new.store)
 
--- APPEND to a key that is there and SETRANGE change a part; all others that write a string write it whole
+-- What stands at a key of a database is encoded by a rule.
+pub record Place : Type 0 where
+  pub db : ℕ
+  pub key : List ℕ
+  pub form : FormRule
+
+-- what stands at these keys is encoded by their rules, also where the same value stood there before
+abbrev pub ArePlaced : List Place → Bases → Bases → Blocks → Blocks → Type 0
+ArePlaced places old new m after =
+    AllByRecursion (λ place. AllAt (HasForm place.form old m) new after place.db place.key) places
+
+-- The same from one keyspace to another, where the reply is no error.
+abbrev pub Placed : {S : Type 0} → (S → Blocks) → List Place → List Part → Keyspace S → Keyspace S → Type 0
+Placed blocks places reply old new =
+    (IsRefusal reply → ⊥) → ArePlaced places old.bases new.bases (blocks old.store) (blocks new.store)
+
+-- this key, where anything is written to it
+abbrev pub placed_at : ℕ → List ℕ → FormRule → List Place
+placed_at db key Unwritten = []
+placed_at db key form = record { db = db; key = key; form = form } ∷ []
+
+-- a string is written whole where this holds, and else not
+abbrev pub whole_where : Bool → FormRule
+whole_where writes = if writes then Whole else Unwritten
+
+-- What is written to a string: by SET where its condition allows it, by SETNX and MSETNX where nothing stands, by SETRANGE
+-- where its piece has a byte. APPEND to a key that is there and SETRANGE change a part; all others write it whole.
 abbrev pub string_form : World → StringCommand → FormRule
-string_form world (strings.Set key value options) = Whole
-string_form world (strings.SetNx key value) = Whole
+string_form world (strings.Set key value options) = whole_where (allows options.condition (is_some (look world key)))
+string_form world (strings.SetNx key value) = whole_where (not (is_some (look world key)))
 string_form world (strings.SetEx key n value) = Whole
 string_form world (strings.PSetEx key n value) = Whole
 string_form world (strings.GetSet key value) = Whole
 string_form world (strings.MSet pairs) = Whole
-string_form world (strings.MSetNx pairs) = Whole
+string_form world (strings.MSetNx pairs) = whole_where (not (any_there world pairs))
 string_form world (strings.Append key tail) = if is_some (look world key) then Raw else Whole
-string_form world (strings.SetRange key at piece) = Raw
+string_form world (strings.SetRange key at piece) = if length piece == 0 then Unwritten else Raw
 string_form world (strings.Incr key) = Whole
 string_form world (strings.Decr key) = Whole
 string_form world (strings.IncrBy key n) = Whole
 string_form world (strings.DecrBy key n) = Whole
 string_form world other = Unwritten
+
+-- each key of these pairs, written whole
+abbrev pub places_whole : ℕ → List (List ℕ × List ℕ) → List Place
+places_whole db pairs = map (λ pair. record { db = db; key = pair.0; form = Whole }) pairs
+
+-- the keys at which a command on strings lets a string stand, each with its rule
+abbrev pub string_places : ℕ → World → StringCommand → List Place
+string_places db world (strings.Set key value options) = placed_at db key (string_form world (strings.Set key value options))
+string_places db world (strings.SetNx key value) = placed_at db key (string_form world (strings.SetNx key value))
+string_places db world (strings.SetEx key n value) = placed_at db key Whole
+string_places db world (strings.PSetEx key n value) = placed_at db key Whole
+string_places db world (strings.GetSet key value) = placed_at db key Whole
+string_places db world (strings.MSet pairs) = places_whole db pairs
+string_places db world (strings.MSetNx pairs) = if any_there world pairs then [] else places_whole db pairs
+string_places db world (strings.Append key tail) = placed_at db key (string_form world (strings.Append key tail))
+string_places db world (strings.SetRange key at piece) = placed_at db key (string_form world (strings.SetRange key at piece))
+string_places db world (strings.Incr key) = placed_at db key Whole
+string_places db world (strings.Decr key) = placed_at db key Whole
+string_places db world (strings.IncrBy key n) = placed_at db key Whole
+string_places db world (strings.DecrBy key n) = placed_at db key Whole
+string_places db world other = []
 
 -- the list that stands at a key, without an element where none does
 abbrev pub list_of : Option Entry → Elements
@@ -276,7 +328,8 @@ counted_to db world key field by (Some n) = hash_to db world key ((field, canoni
 abbrev pub hash_form : ℕ → World → HashCommand → FormRule
 hash_form db world (hashes.HSet key pairs) = hash_to db world key pairs
 hash_form db world (hashes.HMSet key pairs) = hash_to db world key pairs
-hash_form db world (hashes.HSetNx key field value) = hash_to db world key ((field, value) ∷ [])
+hash_form db world (hashes.HSetNx key field value) =
+    if is_some (get (hash_at world key) field) then Unwritten else hash_to db world key ((field, value) ∷ [])
 hash_form db world (hashes.HDel key others) = AsAt db key
 hash_form db world (hashes.HIncrBy key field by) =
     counted_to db world key field by (number_in (get (hash_at world key) field))
@@ -294,11 +347,16 @@ set_at world key = set_of (look world key)
 abbrev pub set_with : ℕ → World → List ℕ → List (List ℕ) → FormRule
 set_with db world key others = SetRisen (is_some (look world key)) (set_at world key) others db key
 
+-- a member that was taken out of a set is added to another one
+abbrev pub set_passed : ℕ → World → List ℕ → List ℕ → List ℕ → FormRule
+set_passed db world from to member = Either (AsAt db from) (set_with db world to (member ∷ []))
+
 -- what is added to a set is written member by member, and what is left of one keeps its form
 abbrev pub set_form : ℕ → World → SetCommand → FormRule
 set_form db world (sets.SAdd key others) = set_with db world key others
 set_form db world (sets.SRem key others) = AsAt db key
-set_form db world (sets.SMove from to member) = Either (AsAt db from) (set_with db world to (member ∷ []))
+set_form db world (sets.SMove from to member) =
+    if has (set_at world from) member && not (bytes_eq from to) then set_passed db world from to member else Unwritten
 set_form db world (sets.SPop key n) = AsAt db key
 set_form db world (sets.SJoinStore how to keys) = NewSet (is_joined how (or_no_sources (sets_at world keys)))
 set_form db world other = Unwritten
@@ -336,21 +394,34 @@ stream_form (streams.XRead limit asked) = Unwritten
 stream_form (streams.XPending key name) = Unwritten
 stream_form other = Log
 
--- what is copied or moved is encoded as before
-abbrev pub key_form : ℕ → KeyCommand → FormRule
-key_form db (keys.Rename from to) = AsAt db from
-key_form db (keys.RenameNx from to) = AsAt db from
-key_form db (keys.Copy from to options) = AsAt db from
-key_form db (keys.MoveKey key number) = AsAt db key
-key_form db other = Unwritten
+-- the value of a key stands elsewhere where this holds, and else nothing is written
+abbrev pub like_where : Bool → ℕ → List ℕ → FormRule
+like_where writes db key = if writes then AsAt db key else Unwritten
 
--- the form of what a command writes in a world, where this database is selected
-abbrev pub form_of : ℕ → World → Command → FormRule
-form_of db world (Strings command) = string_form world command
-form_of db world (Lists command) = list_form db world command
-form_of db world (Sets command) = set_form db world command
-form_of db world (Hashes command) = hash_form db world command
-form_of db world (Zsets command) = zset_form db world command
-form_of db world (Streams command) = stream_form command
-form_of db world (Keys command) = key_form db command
-form_of db world (Connection command) = Unwritten
+-- what is copied or moved is encoded as before
+abbrev pub key_form : ℕ → World → KeyCommand → FormRule
+key_form db world (keys.Rename from to) = AsAt db from
+key_form db world (keys.RenameNx from to) = like_where (not (is_some (look world to))) db from
+key_form db world (keys.Copy from to options) =
+    like_where (is_some (look world from)
+    && not (is_some (look_in world (or_selected world options.db) to) && not options.replace)) db from
+key_form db world (keys.MoveKey key number) =
+    like_where (is_some (look world key) && not (is_some (look_in world number key))) db key
+key_form db world other = Unwritten
+
+-- How a command on strings leaves the encodings of values: each that it wrote by its rule, also where the same bytes
+-- stood there.
+abbrev pub FormedString : {S : Type 0} → (S → Blocks) → ℕ → World → StringCommand → List Part → Keyspace S → Keyspace S → Type 0
+FormedString blocks db world command reply old new =
+    Formed blocks (string_form world command) old new × Placed blocks (string_places db world command) reply old new
+
+-- How a command leaves the encodings of values: each that it wrote by its rule.
+abbrev pub FormedBy : {S : Type 0} → (S → Blocks) → ℕ → World → Command → List Part → Keyspace S → Keyspace S → Type 0
+FormedBy blocks db world (Strings command) reply old new = FormedString blocks db world command reply old new
+FormedBy blocks db world (Lists command) reply old new = Formed blocks (list_form db world command) old new
+FormedBy blocks db world (Sets command) reply old new = Formed blocks (set_form db world command) old new
+FormedBy blocks db world (Hashes command) reply old new = Formed blocks (hash_form db world command) old new
+FormedBy blocks db world (Zsets command) reply old new = Formed blocks (zset_form db world command) old new
+FormedBy blocks db world (Streams command) reply old new = Formed blocks (stream_form command) old new
+FormedBy blocks db world (Keys command) reply old new = Formed blocks (key_form db world command) old new
+FormedBy blocks db world (Connection command) reply old new = Formed blocks Unwritten old new

@@ -26,8 +26,7 @@ use Rattle.keyspace.specs.Databases.{Bases, Keyspace, means}
 use Rattle.keyspace.specs.Sound.{Sound}
 use Rattle.keyspace.specs.Scopes.{Scope, no_key, Within, AreSettled, scope_of}
 use Rattle.keyspace.specs.Commands.{visible, KeepsTo, Runs}
-use Rattle.keyspace.specs.Forms.{form_of}
-use Rattle.keyspace.proofs.Forming.{formed_on}
+use Rattle.keyspace.proofs.Forming.{formed_by_on}
 use Rattle.keyspace.proofs.Running.{held_then}
 use Rattle.keyspace.proofs.Serving.{further}
 use Rattle.redis_core.specs.declared.settling.Touched.{Touched}
@@ -153,7 +152,7 @@ module _ {S E : Type 0} (blocks : S → Blocks) (step : S → S → Type 0) (old
   pub settled_runs : IsCommon command → ((number : ℕ) → means number new.bases (blocks new.store) ≡ means number mid.bases (blocks mid.store)) → Runs {E = E} blocks step old new at command (Ok reply)
   settled_runs none world = record {
     shows = shows_on blocks old mid new at (world at.db) command none reply ran.shows;
-    forms = formed_on blocks (form_of at.db (visible blocks old at) command) (shrinking (touched_of at.db command)) old mid new (λ db key no. no) ran.forms settled.within;
+    forms = formed_by_on blocks (shrinking (touched_of at.db command)) at.db (visible blocks old at) command reply old mid new (λ db key no. no) ran.forms settled.within;
     answers = subst (λ w. may old.bases.seed (visible blocks old at) at.moment command reply (live w at.moment)) (sym (world at.db)) ran.answers;
     kept = record { refusals = λ refused. absurd (calm refused); held = held_both };
   }

@@ -21,7 +21,7 @@ use Rattle.keyspace.specs.Databases.{Keyspace}
 use Rattle.keyspace.specs.Commands.{visible}
 use Rattle.keyspace.specs.Scopes.{Within, AreGrown}
 use Rattle.keyspace.specs.Forms.{Formed}
-use Rattle.redis_core.specs.Touched.{may_meant, form_meant, scope_meant, AsksNoSteps, AsksNoMoves, ShowsMeant, Settles}
+use Rattle.redis_core.specs.Touched.{may_meant, FormedMeant, scope_meant, AsksNoSteps, AsksNoMoves, ShowsMeant, Settles}
 use Rattle.redis_core.specs.Walking.{IsOpen, TendsMeant}
 use Rattle.redis_core.specs.declared.answering.Own.{Own}
 use Rattle.redis_core.specs.declared.answering.Own.TheVariants as own
@@ -128,7 +128,7 @@ pub record Answers {S E : Type 0} (blocks : S → Blocks) (heap : S → Heap) (s
   pub shows : IfOk result (λ answered. ShowsMeant blocks old new at asked answered.reply)
   -- what is written is encoded by the command's rule, and every other value stays as it was
   pub forms : IfOk result (λ answered. AsksNoMoves asked
-      → Formed blocks (form_meant at.db (visible blocks old at) asked) old new)
+      → FormedMeant blocks at.db (visible blocks old at) asked answered.reply old new)
   pub settles : IfOk result (λ answered. Settles old.bases new.bases (blocks old.store) (blocks new.store))
   pub stands : Stands blocks old new at result
 

@@ -13,7 +13,7 @@ use Rattle.plain_model.specs.declared.command.Command.TheVariants.{Strings, List
 use Rattle.plain_model.specs.declared.connection.ConnectionCommand.TheVariants as connection
 use Rattle.keyspace.specs.Databases.{Bases, Keyspace}
 use Rattle.keyspace.specs.Shown.{Shows}
-use Rattle.keyspace.specs.Forms.{FormRule, Unwritten, form_of}
+use Rattle.keyspace.specs.Forms.{Unwritten, Formed, FormedBy}
 use Rattle.cmd_keys.specs.Found as found
 use Rattle.plain_model.specs.declared.ctx.Ctx.{Ctx}
 use Rattle.plain_world.specs.declared.reply.Part.{Part}
@@ -69,10 +69,10 @@ abbrev pub scope_meant : ℕ → Result Command Refusal → Scope
 scope_meant db (Ok command) = scope_of db command
 scope_meant db (Err refusal) = untouched
 
--- how a value is encoded that a request writes in a world
-abbrev pub form_meant : ℕ → World → Result Command Refusal → FormRule
-form_meant db world (Ok command) = form_of db world command
-form_meant db world (Err refusal) = Unwritten
+-- how a request leaves the encodings of values
+abbrev pub FormedMeant : {S : Type 0} → (S → Blocks) → ℕ → World → Result Command Refusal → List Part → Keyspace S → Keyspace S → Type 0
+FormedMeant blocks db world (Ok command) reply old new = FormedBy blocks db world command reply old new
+FormedMeant blocks db world (Err refusal) reply old new = Formed blocks Unwritten old new
 
 -- the command runs over the keyspace alone, and what it may answer is one outcome in the world
 abbrev pub IsCommon : Command → Type 0

@@ -9,7 +9,7 @@ ghost use Rattle.keyspace.specs.Values.{value_of, value_refs, IsSound};
 ghost use Rattle.keyspace.specs.Databases.{means, SameSettings};
 ghost use Rattle.keyspace.specs.Sound.{Sound, SoundBeside};
 ghost use Rattle.keyspace.specs.Scopes.{one_key, two_keys, number_or, Within};
-ghost use Rattle.keyspace.specs.Forms.{AsAt, HasForm, Formed};
+ghost use Rattle.keyspace.specs.Forms.{AsAt, HasForm, Formed, key_form};
 ghost use Rattle.held.specs.Calls.{StandsAt, HasUntil, IsDeadline};
 ghost use Rattle.keyspace.specs.Commands.{Ready, KeepsTo, KeepsOrRefuses, visible};
 ghost use Rattle.cmd_keys.specs.Found.{Gives, IsDatabase};
@@ -121,7 +121,7 @@ pub fn copy<B: BlockStore>(
     requires database { IsDatabase options.db }
     ensures gives { Gives B.blocks keyspace.old keyspace.new at.now (commands.Copy from.now to.now options) result }
     ensures kept { KeepsOrRefuses B.blocks B.step (two_keys at.now.db from.now (number_or at.now.db options.db) to.now) keyspace.old keyspace.new result }
-    ensures forms { IfOk result (λ reply. Formed B.blocks (AsAt at.now.db from.now) keyspace.old keyspace.new) }
+    ensures forms { IfOk result (λ reply. Formed B.blocks (key_form at.now.db (visible B.blocks keyspace.old at.now) (commands.Copy from.now to.now options)) keyspace.old keyspace.new) }
 {
     let alloc = keyspace.alloc();
     let number = number_of(at, options.db);

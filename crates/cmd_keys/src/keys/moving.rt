@@ -7,7 +7,7 @@ ghost use Rattle.plain_model.specs.KeySteps.{IsSomeKey};
 ghost use Rattle.plain_model.specs.declared.keys.KeyCommand.TheVariants as commands;
 ghost use Rattle.cmd_keys.specs.Found.{Gives};
 ghost use Rattle.keyspace.specs.Scopes.{two_keys};
-ghost use Rattle.keyspace.specs.Forms.{AsAt, Formed};
+ghost use Rattle.keyspace.specs.Forms.{AsAt, Formed, key_form};
 ghost use Rattle.keyspace.specs.Commands.{Ready, KeepsTo, KeepsOrRefuses, visible};
 ghost use Rattle.keyspace.specs.Seeking.{Sees};
 ghost use Rattle.held.specs.Calls.{Seeks};
@@ -121,7 +121,7 @@ pub fn renamenx<B: BlockStore>(
     requires ready { Ready B.blocks keyspace.old at.now }
     ensures gives { Gives B.blocks keyspace.old keyspace.new at.now (commands.RenameNx from.now to.now) result }
     ensures kept { KeepsOrRefuses B.blocks B.step (two_keys at.now.db from.now at.now.db to.now) keyspace.old keyspace.new result }
-    ensures forms { IfOk result (λ reply. Formed B.blocks (AsAt at.now.db from.now) keyspace.old keyspace.new) }
+    ensures forms { IfOk result (λ reply. Formed B.blocks (key_form at.now.db (visible B.blocks keyspace.old at.now) (commands.RenameNx from.now to.now)) keyspace.old keyspace.new) }
 {
     let alloc = keyspace.alloc();
     let found = seek(keyspace, at, from);
@@ -151,7 +151,7 @@ pub fn move_key<B: BlockStore>(
     requires number { number < 16 }
     ensures gives { Gives B.blocks keyspace.old keyspace.new at.now (commands.MoveKey key.now number) result }
     ensures kept { KeepsOrRefuses B.blocks B.step (two_keys at.now.db key.now number key.now) keyspace.old keyspace.new result }
-    ensures forms { IfOk result (λ reply. Formed B.blocks (AsAt at.now.db key.now) keyspace.old keyspace.new) }
+    ensures forms { IfOk result (λ reply. Formed B.blocks (key_form at.now.db (visible B.blocks keyspace.old at.now) (commands.MoveKey key.now number)) keyspace.old keyspace.new) }
 {
     let alloc = keyspace.alloc();
     if number == at.db {

@@ -8,7 +8,7 @@ ghost use Rattle.string_object.specs.Text.{text_bytes, text_refs, is_raw};
 ghost use Rattle.plain_model.specs.declared.command.StringCommand.TheVariants as strings;
 ghost use Rattle.keyspace.specs.Scopes.{one_key};
 ghost use Rattle.held.specs.Calls.{AllAt};
-ghost use Rattle.keyspace.specs.Forms.{Whole, Raw, Formed};
+ghost use Rattle.keyspace.specs.Forms.{FormedString};
 ghost use Rattle.keyspace.specs.Values.{IsRaw};
 ghost use Rattle.keyspace.specs.Commands.{Ready, KeepsTo, KeepsOrRefuses, visible};
 ghost use Rattle.cmd_values.specs.Found.{Gives, IsThere, Becomes};
@@ -87,7 +87,7 @@ pub fn append<B: BlockStore>(
     requires ready { Ready B.blocks keyspace.old at.now }
     ensures gives { Gives B.blocks keyspace.old keyspace.new at.now (strings.Append key.now tail.now) result }
     ensures kept { KeepsOrRefuses B.blocks B.step (one_key at.now.db key.now) keyspace.old keyspace.new result }
-    ensures forms { IfOk result (λ reply. Formed B.blocks (if is_some (look (visible B.blocks keyspace.old at.now) key.now) then Raw else Whole) keyspace.old keyspace.new) }
+    ensures forms { IfOk result (λ reply. FormedString B.blocks at.now.db (visible B.blocks keyspace.old at.now) (strings.Append key.now tail.now) reply keyspace.old keyspace.new) }
 {
     let alloc = keyspace.alloc();
     match length_at(keyspace, at, key) {
@@ -122,7 +122,7 @@ pub fn setrange<B: BlockStore>(
     requires room { 0 < length piece.now → place + length piece.now ≤ longest }
     ensures gives { Gives B.blocks keyspace.old keyspace.new at.now (strings.SetRange key.now place piece.now) result }
     ensures kept { KeepsOrRefuses B.blocks B.step (one_key at.now.db key.now) keyspace.old keyspace.new result }
-    ensures forms { IfOk result (λ reply. Formed B.blocks Raw keyspace.old keyspace.new) }
+    ensures forms { IfOk result (λ reply. FormedString B.blocks at.now.db (visible B.blocks keyspace.old at.now) (strings.SetRange key.now place piece.now) reply keyspace.old keyspace.new) }
 {
     let alloc = keyspace.alloc();
     let found = seek(keyspace, at, key);

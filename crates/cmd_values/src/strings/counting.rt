@@ -7,10 +7,11 @@ ghost use Rattle.plain_model.specs.StringSteps.{change};
 ghost use Rattle.plain_world.specs.declared.reply.Part.TheVariants as parts;
 ghost use Rattle.plain_model.specs.declared.command.StringCommand.TheVariants as strings;
 ghost use Rattle.keyspace.specs.Scopes.{one_key};
-ghost use Rattle.keyspace.specs.Forms.{Whole, Formed};
+ghost use Rattle.keyspace.specs.Forms.{Whole, Formed, FormedString};
+ghost use Rattle.keyspace.specs.Values.{IsWrittenWhole};
 ghost use Rattle.keyspace.specs.Commands.{Ready, KeepsTo, KeepsOrRefuses, visible};
 ghost use Rattle.keyspace.specs.Seeking.{Sees};
-ghost use Rattle.held.specs.Calls.{Seeks, StandsAt};
+ghost use Rattle.held.specs.Calls.{AllAt, Seeks, StandsAt};
 ghost use Rattle.cmd_values.specs.Found.{Gives, IsString};
 ghost use Rattle.cmd_values.specs.Counted.{IsCounted};
 
@@ -65,6 +66,7 @@ fn put_number<B: BlockStore>(
     ensures world { OnOk result (visible B.blocks keyspace.new at.now ≡ change (visible B.blocks keyspace.old at.now) key.now (canonical n)) }
     ensures held { KeepsTo B.blocks B.step (one_key at.now.db key.now) keyspace.old keyspace.new }
     ensures forms { OnOk result (Formed B.blocks Whole keyspace.old keyspace.new) }
+    ensures whole { OnOk result (AllAt IsWrittenWhole keyspace.new.bases (B.blocks keyspace.new.store) at.now.db key.now) }
 {
     keyspace.put_sought(at.db, key, sought, Value::Text(Text::Number(n)), None)
 }
@@ -83,7 +85,7 @@ fn write_number<B: BlockStore>(
     ensures reply { IfOk result (λ reply. reply ≡ parts.Number n ∷ []) }
     ensures world { OnOk result (visible B.blocks keyspace.new at.now ≡ change (visible B.blocks keyspace.old at.now) key.now (canonical n)) }
     ensures held { KeepsTo B.blocks B.step (one_key at.now.db key.now) keyspace.old keyspace.new }
-    ensures forms { IfOk result (λ reply. Formed B.blocks Whole keyspace.old keyspace.new) }
+    ensures forms { IfOk result (λ reply. FormedString B.blocks at.now.db (visible B.blocks keyspace.old at.now) (strings.Incr key.now) reply keyspace.old keyspace.new) }
 {
     let alloc = keyspace.alloc();
     match found.there {
@@ -114,7 +116,7 @@ pub fn incrby<B: BlockStore>(
     requires ready { Ready B.blocks keyspace.old at.now }
     ensures gives { Gives B.blocks keyspace.old keyspace.new at.now (strings.IncrBy key.now by) result }
     ensures kept { KeepsOrRefuses B.blocks B.step (one_key at.now.db key.now) keyspace.old keyspace.new result }
-    ensures forms { IfOk result (λ reply. Formed B.blocks Whole keyspace.old keyspace.new) }
+    ensures forms { IfOk result (λ reply. FormedString B.blocks at.now.db (visible B.blocks keyspace.old at.now) (strings.IncrBy key.now by) reply keyspace.old keyspace.new) }
 {
     let found = seek(keyspace, at, key);
     match number_at(keyspace, at, key, found) {
@@ -138,7 +140,7 @@ pub fn decrby<B: BlockStore>(
     requires ready { Ready B.blocks keyspace.old at.now }
     ensures gives { Gives B.blocks keyspace.old keyspace.new at.now (strings.DecrBy key.now by) result }
     ensures kept { KeepsOrRefuses B.blocks B.step (one_key at.now.db key.now) keyspace.old keyspace.new result }
-    ensures forms { IfOk result (λ reply. Formed B.blocks Whole keyspace.old keyspace.new) }
+    ensures forms { IfOk result (λ reply. FormedString B.blocks at.now.db (visible B.blocks keyspace.old at.now) (strings.DecrBy key.now by) reply keyspace.old keyspace.new) }
 {
     let found = seek(keyspace, at, key);
     match number_at(keyspace, at, key, found) {
@@ -160,7 +162,7 @@ pub fn incr<B: BlockStore>(
     requires ready { Ready B.blocks keyspace.old at.now }
     ensures gives { Gives B.blocks keyspace.old keyspace.new at.now (strings.Incr key.now) result }
     ensures kept { KeepsOrRefuses B.blocks B.step (one_key at.now.db key.now) keyspace.old keyspace.new result }
-    ensures forms { IfOk result (λ reply. Formed B.blocks Whole keyspace.old keyspace.new) }
+    ensures forms { IfOk result (λ reply. FormedString B.blocks at.now.db (visible B.blocks keyspace.old at.now) (strings.Incr key.now) reply keyspace.old keyspace.new) }
 {
     incrby(keyspace, at, key, 1)
 }
@@ -174,7 +176,7 @@ pub fn decr<B: BlockStore>(
     requires ready { Ready B.blocks keyspace.old at.now }
     ensures gives { Gives B.blocks keyspace.old keyspace.new at.now (strings.Decr key.now) result }
     ensures kept { KeepsOrRefuses B.blocks B.step (one_key at.now.db key.now) keyspace.old keyspace.new result }
-    ensures forms { IfOk result (λ reply. Formed B.blocks Whole keyspace.old keyspace.new) }
+    ensures forms { IfOk result (λ reply. FormedString B.blocks at.now.db (visible B.blocks keyspace.old at.now) (strings.Decr key.now) reply keyspace.old keyspace.new) }
 {
     decrby(keyspace, at, key, 1)
 }

@@ -9,7 +9,7 @@ ghost use Rattle.plain_model.specs.declared.times.TimeUnit.TheVariants.{Seconds,
 ghost use Rattle.plain_model.specs.declared.times.Renewal.TheVariants as renewals;
 ghost use Rattle.plain_model.specs.declared.command.StringCommand.TheVariants as strings;
 ghost use Rattle.keyspace.specs.Scopes.{one_key, no_key};
-ghost use Rattle.keyspace.specs.Forms.{Whole, Formed};
+ghost use Rattle.keyspace.specs.Forms.{FormedString};
 ghost use Rattle.keyspace.specs.Commands.{Ready, KeepsOrRefuses, visible};
 ghost use Rattle.cmd_values.specs.Found.{Gives};
 
@@ -43,7 +43,7 @@ fn set_for_units<B: BlockStore>(
     requires ready { Ready B.blocks keyspace.old at.now }
     ensures gives { IfOk result (λ reply. set_for (visible B.blocks keyspace.old at.now) at.now.moment key.now unit n value.now ≡ leaves reply (visible B.blocks keyspace.new at.now)) }
     ensures kept { KeepsOrRefuses B.blocks B.step (one_key at.now.db key.now) keyspace.old keyspace.new result }
-    ensures forms { IfOk result (λ reply. Formed B.blocks Whole keyspace.old keyspace.new) }
+    ensures forms { IfOk result (λ reply. FormedString B.blocks at.now.db (visible B.blocks keyspace.old at.now) (strings.SetEx key.now n value.now) reply keyspace.old keyspace.new) }
 {
     let alloc = keyspace.alloc();
     let time = Time {
@@ -71,7 +71,7 @@ pub fn setex<B: BlockStore>(
     requires ready { Ready B.blocks keyspace.old at.now }
     ensures gives { Gives B.blocks keyspace.old keyspace.new at.now (strings.SetEx key.now seconds value.now) result }
     ensures kept { KeepsOrRefuses B.blocks B.step (one_key at.now.db key.now) keyspace.old keyspace.new result }
-    ensures forms { IfOk result (λ reply. Formed B.blocks Whole keyspace.old keyspace.new) }
+    ensures forms { IfOk result (λ reply. FormedString B.blocks at.now.db (visible B.blocks keyspace.old at.now) (strings.SetEx key.now seconds value.now) reply keyspace.old keyspace.new) }
 {
     set_for_units(keyspace, at, key, TimeUnit::Seconds, seconds, value)
 }
@@ -87,7 +87,7 @@ pub fn psetex<B: BlockStore>(
     requires ready { Ready B.blocks keyspace.old at.now }
     ensures gives { Gives B.blocks keyspace.old keyspace.new at.now (strings.PSetEx key.now milliseconds value.now) result }
     ensures kept { KeepsOrRefuses B.blocks B.step (one_key at.now.db key.now) keyspace.old keyspace.new result }
-    ensures forms { IfOk result (λ reply. Formed B.blocks Whole keyspace.old keyspace.new) }
+    ensures forms { IfOk result (λ reply. FormedString B.blocks at.now.db (visible B.blocks keyspace.old at.now) (strings.PSetEx key.now milliseconds value.now) reply keyspace.old keyspace.new) }
 {
     set_for_units(
         keyspace,

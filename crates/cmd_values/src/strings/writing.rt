@@ -1,15 +1,16 @@
 //! Commands that write strings whole.
 
-ghost use Rattle.std.specs.Prelude.{◌≡◌, ◌<◌, ◌≤◌, List, ℕ, Bool, IfOk, OnOk, IfSome, is_some, if◌then◌else◌};
+ghost use Rattle.std.specs.Prelude.{◌≡◌, ◌<◌, ◌≤◌, List, ℕ, Bool, IfOk, OnOk, IfSome, is_some, true, if◌then◌else◌};
 ghost use Rattle.plain_world.specs.Worlds.{Str, deadline_of, look, stand};
-ghost use Rattle.held.specs.Calls.{IsDeadline, Seeks};
+ghost use Rattle.held.specs.Calls.{AllAt, IsDeadline, Seeks};
 ghost use Rattle.keyspace.specs.Seeking.{Sees};
 ghost use Rattle.plain_model.specs.Outcomes.{leaves};
 ghost use Rattle.plain_model.specs.StringSteps.{replace, replace_all, any_there, allows, set_outcome};
 ghost use Rattle.plain_model.specs.declared.command.Condition.{Condition};
 ghost use Rattle.plain_model.specs.declared.command.StringCommand.TheVariants as strings;
 ghost use Rattle.keyspace.specs.Scopes.{one_key, no_key, some_keys, first_words};
-ghost use Rattle.keyspace.specs.Forms.{Whole, Formed};
+ghost use Rattle.keyspace.specs.Forms.{Whole, Formed, FormedString, ArePlaced, places_whole, whole_where};
+ghost use Rattle.keyspace.specs.Values.{IsWrittenWhole};
 ghost use Rattle.keyspace.specs.Commands.{Ready, KeepsTo, KeepsOrRefuses, visible};
 ghost use Rattle.cmd_values.specs.Found.{Gives, IsSetReply, IsLifetime, IsOldValue};
 
@@ -53,6 +54,7 @@ pub fn put_lasting<B: BlockStore>(
     ensures world { OnOk result (visible B.blocks keyspace.new at.now ≡ stand (visible B.blocks keyspace.old at.now) at.now.moment key.now (record { value = Str value.now; deadline = deadline })) }
     ensures held { KeepsTo B.blocks B.step (one_key at.now.db key.now) keyspace.old keyspace.new }
     ensures forms { OnOk result (Formed B.blocks Whole keyspace.old keyspace.new) }
+    ensures whole { OnOk result (AllAt IsWrittenWhole keyspace.new.bases (B.blocks keyspace.new.store) at.now.db key.now) }
 {
     let sought = sought_of(keyspace, at, key, found);
     let text = Text::make(&mut keyspace.store, value)?;
@@ -72,6 +74,7 @@ pub fn put_string<B: BlockStore>(
     ensures world { OnOk result (visible B.blocks keyspace.new at.now ≡ replace (visible B.blocks keyspace.old at.now) key.now value.now) }
     ensures held { KeepsTo B.blocks B.step (one_key at.now.db key.now) keyspace.old keyspace.new }
     ensures forms { OnOk result (Formed B.blocks Whole keyspace.old keyspace.new) }
+    ensures whole { OnOk result (AllAt IsWrittenWhole keyspace.new.bases (B.blocks keyspace.new.store) at.now.db key.now) }
 {
     put_lasting(keyspace, at, key, found, value, None)
 }
@@ -221,7 +224,8 @@ fn put_if<B: BlockStore>(
         (visible B.blocks keyspace.new at.now ≡
         (if written then stand (visible B.blocks keyspace.old at.now) at.now.moment key.now (record { value = Str value.now; deadline = deadline }) else visible B.blocks keyspace.old at.now)) }
     ensures held { KeepsTo B.blocks B.step (one_key at.now.db key.now) keyspace.old keyspace.new }
-    ensures forms { OnOk result (Formed B.blocks Whole keyspace.old keyspace.new) }
+    ensures forms { OnOk result (Formed B.blocks (whole_where written) keyspace.old keyspace.new) }
+    ensures whole { OnOk result (written ≡ true → AllAt IsWrittenWhole keyspace.new.bases (B.blocks keyspace.new.store) at.now.db key.now) }
 {
     if written {
         return put_lasting(keyspace, at, key, found, value, deadline);
@@ -246,7 +250,7 @@ fn set_lasting<B: BlockStore>(
         (λ reply. set_outcome (visible B.blocks keyspace.old at.now) at.now.moment key.now (record { value = Str value.now; deadline = deadline }) options.condition options.get ≡ leaves
         reply (visible B.blocks keyspace.new at.now)) }
     ensures kept { KeepsOrRefuses B.blocks B.step (one_key at.now.db key.now) keyspace.old keyspace.new result }
-    ensures forms { IfOk result (λ reply. Formed B.blocks Whole keyspace.old keyspace.new) }
+    ensures forms { IfOk result (λ reply. FormedString B.blocks at.now.db (visible B.blocks keyspace.old at.now) (strings.Set key.now value.now options) reply keyspace.old keyspace.new) }
 {
     let written = writes(keyspace, at, key, found, options.condition);
     match set_reply(keyspace, at, key, found, options.get, written)? {
@@ -287,7 +291,7 @@ pub fn set<B: BlockStore>(
     requires ready { Ready B.blocks keyspace.old at.now }
     ensures gives { Gives B.blocks keyspace.old keyspace.new at.now (strings.Set key.now value.now options) result }
     ensures kept { KeepsOrRefuses B.blocks B.step (one_key at.now.db key.now) keyspace.old keyspace.new result }
-    ensures forms { IfOk result (λ reply. Formed B.blocks Whole keyspace.old keyspace.new) }
+    ensures forms { IfOk result (λ reply. FormedString B.blocks at.now.db (visible B.blocks keyspace.old at.now) (strings.Set key.now value.now options) reply keyspace.old keyspace.new) }
 {
     let found = found_by(keyspace, at, key, options);
     match lifetime_at(keyspace, at, key, found, options.lifetime) {
@@ -306,7 +310,7 @@ pub fn setnx<B: BlockStore>(
     requires ready { Ready B.blocks keyspace.old at.now }
     ensures gives { Gives B.blocks keyspace.old keyspace.new at.now (strings.SetNx key.now value.now) result }
     ensures kept { KeepsOrRefuses B.blocks B.step (one_key at.now.db key.now) keyspace.old keyspace.new result }
-    ensures forms { IfOk result (λ reply. Formed B.blocks Whole keyspace.old keyspace.new) }
+    ensures forms { IfOk result (λ reply. FormedString B.blocks at.now.db (visible B.blocks keyspace.old at.now) (strings.SetNx key.now value.now) reply keyspace.old keyspace.new) }
 {
     let found = Some(seek(keyspace, at, key));
     if is_seen(keyspace, at, key, found) {
@@ -326,7 +330,7 @@ pub fn getset<B: BlockStore>(
     requires ready { Ready B.blocks keyspace.old at.now }
     ensures gives { Gives B.blocks keyspace.old keyspace.new at.now (strings.GetSet key.now value.now) result }
     ensures kept { KeepsOrRefuses B.blocks B.step (one_key at.now.db key.now) keyspace.old keyspace.new result }
-    ensures forms { IfOk result (λ reply. Formed B.blocks Whole keyspace.old keyspace.new) }
+    ensures forms { IfOk result (λ reply. FormedString B.blocks at.now.db (visible B.blocks keyspace.old at.now) (strings.GetSet key.now value.now) reply keyspace.old keyspace.new) }
 {
     let found = Some(seek(keyspace, at, key));
     match seen_value(keyspace, at, key, found)? {
@@ -387,6 +391,7 @@ fn put_pairs<B: BlockStore>(
     ensures world { OnOk result (visible B.blocks keyspace.new at.now ≡ replace_all (visible B.blocks keyspace.old at.now) pairs.now) }
     ensures held { KeepsTo B.blocks B.step (some_keys at.now.db (first_words pairs.now)) keyspace.old keyspace.new }
     ensures forms { OnOk result (Formed B.blocks Whole keyspace.old keyspace.new) }
+    ensures whole { OnOk result (ArePlaced (places_whole at.now.db pairs.now) keyspace.old.bases keyspace.new.bases (B.blocks keyspace.old.store) (B.blocks keyspace.new.store)) }
 {
     for pair in pairs {
         put_string(keyspace, at, pair.0.as_slice(), None, pair.1.as_slice())?;
@@ -403,7 +408,7 @@ pub fn mset<B: BlockStore>(
     requires ready { Ready B.blocks keyspace.old at.now }
     ensures gives { Gives B.blocks keyspace.old keyspace.new at.now (strings.MSet pairs.now) result }
     ensures kept { KeepsOrRefuses B.blocks B.step (some_keys at.now.db (first_words pairs.now)) keyspace.old keyspace.new result }
-    ensures forms { IfOk result (λ reply. Formed B.blocks Whole keyspace.old keyspace.new) }
+    ensures forms { IfOk result (λ reply. FormedString B.blocks at.now.db (visible B.blocks keyspace.old at.now) (strings.MSet pairs.now) reply keyspace.old keyspace.new) }
 {
     put_pairs(keyspace, at, pairs)?;
     Reply::simple(keyspace.alloc(), Line::ok())
@@ -418,7 +423,7 @@ pub fn msetnx<B: BlockStore>(
     requires ready { Ready B.blocks keyspace.old at.now }
     ensures gives { Gives B.blocks keyspace.old keyspace.new at.now (strings.MSetNx pairs.now) result }
     ensures kept { KeepsOrRefuses B.blocks B.step (some_keys at.now.db (first_words pairs.now)) keyspace.old keyspace.new result }
-    ensures forms { IfOk result (λ reply. Formed B.blocks Whole keyspace.old keyspace.new) }
+    ensures forms { IfOk result (λ reply. FormedString B.blocks at.now.db (visible B.blocks keyspace.old at.now) (strings.MSetNx pairs.now) reply keyspace.old keyspace.new) }
 {
     if is_any_there(keyspace, at, pairs) {
         return Reply::number(keyspace.alloc(), 0);

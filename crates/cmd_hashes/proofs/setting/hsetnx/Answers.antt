@@ -4,6 +4,7 @@ use Rattle.keyspace.specs.Commands.{visible}
 use Rattle.keyspace.proofs.Running.{unchanged}
 use Rattle.cmd_hashes.proofs.Telling.{kept_told, missing_told}
 use Rattle.cmd_hashes.proofs.setting.hsetnx.Goals as goal
+use Rattle.cmd_hashes.proofs.Telling.{set_where_missing}
 
 pub returns-in-Other-clause-kept : goal.returns-in-Other-clause-kept
 returns-in-Other-clause-kept g c = unchanged g.B.BlockStore.blocks g.B.BlockStore.step (one_key c.args.at.now.db c.args.key.now) c.args.keyspace.now c.refused.result c.requires.ready.sound
@@ -24,3 +25,10 @@ returns-clause-gives g c =
     let s = c.in_ok-set_field_at.ensures.set in
     missing_told (visible blocks c.args.keyspace.now c.args.at.now) (visible blocks c.set_field_at.new.keyspace c.args.at.now) c.args.key.now c.args.field.now c.args.value.now f.0 s.0 s.1 f.1
     (sym f.2 ∙ c.if-has_field.false) c.number-2.result c.number-2.ensures
+
+pub returns-clause-forms : goal.returns-clause-forms
+returns-clause-forms g c =
+    let world = visible g.B.BlockStore.blocks c.args.keyspace.now c.args.at.now in
+    let f = c.has_field.ensures in
+    set_where_missing g.B.BlockStore.blocks c.args.keyspace.now c.set_field_at.new.keyspace world c.args.at.now.db c.args.key.now c.args.field.now c.args.value.now f.0 c.number-2.result f.1
+    (sym f.2 ∙ c.if-has_field.false) c.in_ok-set_field_at.ensures.forms

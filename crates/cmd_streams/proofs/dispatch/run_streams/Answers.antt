@@ -1,4 +1,4 @@
-use Rattle.std.proofs.Common.{◌≡◌, rules, ap, subst}
+use Rattle.std.proofs.Common.{◌≡◌, rules, ap, subst, refl}
 use Rattle.plain_world.specs.Words.{most_words}
 use Rattle.plain_model.specs.GroupSteps.{stream_outcome}
 use Rattle.plain_model.specs.declared.command.Command.TheVariants.{Streams}
@@ -7,6 +7,7 @@ use Rattle.plain_model.proofs.StreamsAsked.{FitsStreams, streams_fit}
 use Rattle.keyspace.specs.Commands.{visible}
 use Rattle.keyspace.proofs.Running.{told, ran, looked, nothing_shown}
 use Rattle.cmd_streams.proofs.dispatch.run_streams.Goals as goal
+use Rattle.keyspace.specs.Forms.{Unwritten}
 
 pub xadd-requires-clause-entry : goal.xadd-requires-clause-entry
 xadd-requires-clause-entry g c =
@@ -27,7 +28,7 @@ pub returns-in-XLen : goal.returns-in-XLen
 returns-in-XLen g c = looked g.B.BlockStore.blocks g.B.BlockStore.step c.args.keyspace.now c.args.at.now (Streams c.args.command.now) (Streams (streams.XLen c.as_slice-in-XLen.result.now))
     c.xlen.result (ap Streams (search rules))
     (told (stream_outcome (visible g.B.BlockStore.blocks c.args.keyspace.now c.args.at.now) c.args.at.now.moment (streams.XLen c.as_slice-in-XLen.result.now))
-    (visible g.B.BlockStore.blocks c.args.keyspace.now c.args.at.now) c.xlen.result c.xlen.ensures.gives) (nothing_shown c.xlen.result) c.requires.ready
+    (visible g.B.BlockStore.blocks c.args.keyspace.now c.args.at.now) c.xlen.result c.xlen.ensures.gives) (nothing_shown c.xlen.result) c.requires.ready Unwritten (λ reply. refl)
 
 pub returns-in-XRange : goal.returns-in-XRange
 returns-in-XRange g c = looked g.B.BlockStore.blocks g.B.BlockStore.step c.args.keyspace.now c.args.at.now (Streams c.args.command.now)
@@ -35,7 +36,7 @@ returns-in-XRange g c = looked g.B.BlockStore.blocks g.B.BlockStore.step c.args.
     (told
     (stream_outcome (visible g.B.BlockStore.blocks c.args.keyspace.now c.args.at.now) c.args.at.now.moment
     (streams.XRange c.as_slice-in-XRange.result.now c.in-XRange.from c.in-XRange.to c.in-XRange.order c.in-XRange.limit)) (visible g.B.BlockStore.blocks c.args.keyspace.now c.args.at.now)
-    c.xrange.result c.xrange.ensures.gives) (nothing_shown c.xrange.result) c.requires.ready
+    c.xrange.result c.xrange.ensures.gives) (nothing_shown c.xrange.result) c.requires.ready Unwritten (λ reply. refl)
 
 pub returns-in-XDel : goal.returns-in-XDel
 returns-in-XDel g c = ran g.B.BlockStore.blocks g.B.BlockStore.step c.args.keyspace.now c.xdel.new.keyspace c.args.at.now (Streams c.args.command.now)
@@ -53,7 +54,7 @@ pub returns-in-XRead : goal.returns-in-XRead
 returns-in-XRead g c = looked g.B.BlockStore.blocks g.B.BlockStore.step c.args.keyspace.now c.args.at.now (Streams c.args.command.now)
     (Streams (streams.XRead c.in-XRead.limit c.as_slice-in-XRead.result.now)) c.xread.result (ap Streams (search rules))
     (told (stream_outcome (visible g.B.BlockStore.blocks c.args.keyspace.now c.args.at.now) c.args.at.now.moment (streams.XRead c.in-XRead.limit c.as_slice-in-XRead.result.now))
-    (visible g.B.BlockStore.blocks c.args.keyspace.now c.args.at.now) c.xread.result c.xread.ensures.gives) (nothing_shown c.xread.result) c.requires.ready
+    (visible g.B.BlockStore.blocks c.args.keyspace.now c.args.at.now) c.xread.result c.xread.ensures.gives) (nothing_shown c.xread.result) c.requires.ready Unwritten (λ reply. refl)
 
 pub returns-in-XGroupCreate : goal.returns-in-XGroupCreate
 returns-in-XGroupCreate g c = ran g.B.BlockStore.blocks g.B.BlockStore.step c.args.keyspace.now c.xgroup_create.new.keyspace c.args.at.now (Streams c.args.command.now)
@@ -97,4 +98,4 @@ returns-in-XPending g c = looked g.B.BlockStore.blocks g.B.BlockStore.step c.arg
     (told
     (stream_outcome (visible g.B.BlockStore.blocks c.args.keyspace.now c.args.at.now) c.args.at.now.moment
     (streams.XPending c.as_slice-in-XPending.result.now c.as_slice-in-XPending-2.result.now)) (visible g.B.BlockStore.blocks c.args.keyspace.now c.args.at.now) c.xpending.result
-    c.xpending.ensures.gives) (nothing_shown c.xpending.result) c.requires.ready
+    c.xpending.ensures.gives) (nothing_shown c.xpending.result) c.requires.ready Unwritten (λ reply. refl)

@@ -1,4 +1,4 @@
-use Rattle.std.proofs.Common.{arith}
+use Rattle.std.proofs.Common.{arith, IfOk}
 use Rattle.cmd_values.proofs.StringLemmas.{append_some}
 use Rattle.keyspace.proofs.Running.{unchanged}
 use Rattle.keyspace.specs.Scopes.{one_key}
@@ -9,6 +9,10 @@ use Rattle.keyspace.specs.Commands.{visible}
 use Rattle.keyspace.specs.Forms.{Whole, Raw, Formed}
 use Rattle.keyspace.proofs.Forming.{unformed, formed_ok, formed_key}
 use Rattle.cmd_values.proofs.strings.changing.append.Goals as goal
+use Rattle.plain_world.specs.declared.refusal.Refusal.TheVariants.{ValueOutOfRange, WrongType}
+use Rattle.keyspace.specs.Forms.{placed_at, Placed}
+use Rattle.keyspace.proofs.Forming.{formed_refused}
+use Rattle.cmd_values.proofs.Placing.{wrote_whole, wrote_raw}
 
 pub returns-in_ok-change_there-in-There-clause-gives : goal.returns-in_ok-change_there-in-There-clause-gives
 returns-in_ok-change_there-in-There-clause-gives g c =
@@ -24,29 +28,37 @@ pub returns-then-length-gt-LONGEST-clause-kept : goal.returns-then-length-gt-LON
 returns-then-length-gt-LONGEST-clause-kept g c =
     unchanged g.B.BlockStore.blocks g.B.BlockStore.step (one_key c.args.at.now.db c.args.key.now) c.args.keyspace.now _ c.requires.ready.sound
 
+pub returns-in-Other-clause-kept : goal.returns-in-Other-clause-kept
+returns-in-Other-clause-kept g c =
+    unchanged g.B.BlockStore.blocks g.B.BlockStore.step (one_key c.args.at.now.db c.args.key.now) c.args.keyspace.now _ c.requires.ready.sound
+
 pub returns-then-tail-gt-LONGEST-clause-forms : goal.returns-then-tail-gt-LONGEST-clause-forms
-returns-then-tail-gt-LONGEST-clause-forms g c = unformed g.B.BlockStore.blocks
-    (if is_some (look (visible g.B.BlockStore.blocks c.args.keyspace.now c.args.at.now) c.args.key.now) then Raw else Whole) c.args.keyspace.now _
+returns-then-tail-gt-LONGEST-clause-forms g c =
+    formed_refused g.B.BlockStore.blocks (if is_some (look (visible g.B.BlockStore.blocks c.args.keyspace.now c.args.at.now) c.args.key.now) then Raw else Whole)
+    (placed_at c.args.at.now.db c.args.key.now (if is_some (look (visible g.B.BlockStore.blocks c.args.keyspace.now c.args.at.now) c.args.key.now) then Raw else Whole)) c.args.keyspace.now ValueOutOfRange _ c.refused-then-tail-gt-LONGEST.ensures
 
 pub returns-then-length-gt-LONGEST-clause-forms : goal.returns-then-length-gt-LONGEST-clause-forms
-returns-then-length-gt-LONGEST-clause-forms g c = unformed g.B.BlockStore.blocks
-    (if is_some (look (visible g.B.BlockStore.blocks c.args.keyspace.now c.args.at.now) c.args.key.now) then Raw else Whole) c.args.keyspace.now _
+returns-then-length-gt-LONGEST-clause-forms g c =
+    formed_refused g.B.BlockStore.blocks (if is_some (look (visible g.B.BlockStore.blocks c.args.keyspace.now c.args.at.now) c.args.key.now) then Raw else Whole)
+    (placed_at c.args.at.now.db c.args.key.now (if is_some (look (visible g.B.BlockStore.blocks c.args.keyspace.now c.args.at.now) c.args.key.now) then Raw else Whole)) c.args.keyspace.now ValueOutOfRange _ c.refused-then-length-gt-LONGEST.ensures
 
 pub returns-in_ok-put_string-in-Missing-clause-forms : goal.returns-in_ok-put_string-in-Missing-clause-forms
 returns-in_ok-put_string-in-Missing-clause-forms g c =
-    formed_ok g.B.BlockStore.blocks (if is_some (look (visible g.B.BlockStore.blocks c.args.keyspace.now c.args.at.now) c.args.key.now) then Raw else Whole) c.args.keyspace.now
-    c.put_string.new.keyspace _
-    (subst (λ (o : Option Entry). Formed g.B.BlockStore.blocks (if is_some o then Raw else Whole) c.args.keyspace.now c.put_string.new.keyspace) (sym c.in-Missing.ensures)
-    c.in_ok-put_string-in-Missing.ensures.forms)
+    subst (λ (o : Option Entry). IfOk c.length_reply.result (λ reply. Formed g.B.BlockStore.blocks (if is_some o then Raw else Whole) c.args.keyspace.now c.put_string.new.keyspace
+    × Placed g.B.BlockStore.blocks (placed_at c.args.at.now.db c.args.key.now (if is_some o then Raw else Whole)) reply c.args.keyspace.now c.put_string.new.keyspace)) (sym c.in-Missing.ensures)
+    (wrote_whole c.args.at.now.db c.args.key.now g.B.BlockStore.blocks c.args.keyspace.now c.put_string.new.keyspace c.length_reply.result c.in_ok-put_string-in-Missing.ensures.forms
+    c.in_ok-put_string-in-Missing.ensures.whole)
 
 pub returns-in_ok-change_there-in-There-clause-forms : goal.returns-in_ok-change_there-in-There-clause-forms
 returns-in_ok-change_there-in-There-clause-forms g c =
     let held = c.change_there.ensures.held in
-    formed_ok g.B.BlockStore.blocks (if is_some (look (visible g.B.BlockStore.blocks c.args.keyspace.now c.args.at.now) c.args.key.now) then Raw else Whole) c.args.keyspace.now
-    c.change_there.new.keyspace _
-    (subst (λ (o : Option Entry). Formed g.B.BlockStore.blocks (if is_some o then Raw else Whole) c.args.keyspace.now c.change_there.new.keyspace) (sym c.in-There.ensures.1.stands)
-    (formed_key Raw c.args.at.now.db c.args.key.now c.args.keyspace.now.bases c.change_there.new.keyspace.bases _ _ held.within held.sound.arranged c.in_ok-change_there-in-There.ensures.raw))
+    let raw = c.in_ok-change_there-in-There.ensures.raw in
+    subst (λ (o : Option Entry). IfOk c.length_reply-in-There.result (λ reply. Formed g.B.BlockStore.blocks (if is_some o then Raw else Whole) c.args.keyspace.now c.change_there.new.keyspace
+    × Placed g.B.BlockStore.blocks (placed_at c.args.at.now.db c.args.key.now (if is_some o then Raw else Whole)) reply c.args.keyspace.now c.change_there.new.keyspace)) (sym c.in-There.ensures.1.stands)
+    (wrote_raw c.args.at.now.db c.args.key.now g.B.BlockStore.blocks c.args.keyspace.now c.change_there.new.keyspace c.length_reply-in-There.result
+    (formed_key Raw c.args.at.now.db c.args.key.now c.args.keyspace.now.bases c.change_there.new.keyspace.bases _ _ held.within held.sound.arranged raw) raw)
 
-pub returns-in-Other-clause-kept : goal.returns-in-Other-clause-kept
-returns-in-Other-clause-kept g c =
-    unchanged g.B.BlockStore.blocks g.B.BlockStore.step (one_key c.args.at.now.db c.args.key.now) c.args.keyspace.now _ c.requires.ready.sound
+pub returns-in-Other-clause-forms : goal.returns-in-Other-clause-forms
+returns-in-Other-clause-forms g c =
+    formed_refused g.B.BlockStore.blocks (if is_some (look (visible g.B.BlockStore.blocks c.args.keyspace.now c.args.at.now) c.args.key.now) then Raw else Whole)
+    (placed_at c.args.at.now.db c.args.key.now (if is_some (look (visible g.B.BlockStore.blocks c.args.keyspace.now c.args.at.now) c.args.key.now) then Raw else Whole)) c.args.keyspace.now WrongType _ c.refused.ensures

@@ -9,6 +9,9 @@ use Rattle.keyspace.specs.Scopes.{one_key}
 use Rattle.keyspace.specs.Forms.{Whole}
 use Rattle.keyspace.proofs.Forming.{unformed}
 use Rattle.cmd_values.proofs.strings.counting.incrby.Goals as goal
+use Rattle.plain_world.specs.declared.refusal.Refusal.TheVariants.{NotAnInteger, Overflow, WrongType}
+use Rattle.keyspace.specs.Forms.{placed_at}
+use Rattle.keyspace.proofs.Forming.{formed_refused}
 
 pub returns-in-NoNumber-clause-gives : goal.returns-in-NoNumber-clause-gives
 returns-in-NoNumber-clause-gives g c =
@@ -45,15 +48,15 @@ pub returns-in-Some-clause-kept : goal.returns-in-Some-clause-kept
 returns-in-Some-clause-kept g c =
     calm g.B.BlockStore.blocks g.B.BlockStore.step (one_key c.args.at.now.db c.args.key.now) c.args.keyspace.now c.write_number.new.keyspace _ (search rules) c.write_number.ensures.held
 
-pub returns-in-NoNumber-clause-forms : goal.returns-in-NoNumber-clause-forms
-returns-in-NoNumber-clause-forms g c = unformed g.B.BlockStore.blocks Whole c.args.keyspace.now _
-
-pub returns-in-None-clause-forms : goal.returns-in-None-clause-forms
-returns-in-None-clause-forms g c = unformed g.B.BlockStore.blocks Whole c.args.keyspace.now _
-
 pub returns-in-Other-clause-kept : goal.returns-in-Other-clause-kept
 returns-in-Other-clause-kept g c =
     unchanged g.B.BlockStore.blocks g.B.BlockStore.step (one_key c.args.at.now.db c.args.key.now) c.args.keyspace.now _ c.requires.ready.sound
 
+pub returns-in-NoNumber-clause-forms : goal.returns-in-NoNumber-clause-forms
+returns-in-NoNumber-clause-forms g c = formed_refused g.B.BlockStore.blocks Whole (placed_at c.args.at.now.db c.args.key.now Whole) c.args.keyspace.now NotAnInteger c.refused-in-NoNumber.result c.refused-in-NoNumber.ensures
+
+pub returns-in-None-clause-forms : goal.returns-in-None-clause-forms
+returns-in-None-clause-forms g c = formed_refused g.B.BlockStore.blocks Whole (placed_at c.args.at.now.db c.args.key.now Whole) c.args.keyspace.now Overflow c.refused-in-None.result c.refused-in-None.ensures
+
 pub returns-in-Other-clause-forms : goal.returns-in-Other-clause-forms
-returns-in-Other-clause-forms g c = unformed g.B.BlockStore.blocks Whole c.args.keyspace.now _
+returns-in-Other-clause-forms g c = formed_refused g.B.BlockStore.blocks Whole (placed_at c.args.at.now.db c.args.key.now Whole) c.args.keyspace.now WrongType c.refused.result c.refused.ensures

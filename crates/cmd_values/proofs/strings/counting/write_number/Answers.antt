@@ -13,6 +13,8 @@ use Rattle.keyspace.specs.Values.{IsWrittenWhole}
 use Rattle.keyspace.specs.Forms.{Whole}
 use Rattle.keyspace.proofs.Forming.{formed_ok, formed_key}
 use Rattle.cmd_values.proofs.strings.counting.write_number.Goals as goal
+use Rattle.cmd_values.proofs.Placing.{wrote_whole}
+use Rattle.held.specs.Calls.{AllAt}
 
 pub lower-requires-clause-intact : goal.lower-requires-clause-intact
 lower-requires-clause-intact g c =
@@ -61,9 +63,6 @@ returns-in-Some-clause-world g c =
 pub returns-in_ok-put_number-in-None-clause-world : goal.returns-in_ok-put_number-in-None-clause-world
 returns-in_ok-put_number-in-None-clause-world g c = on_ok c.number.result (rw (to_z-of_z w64 c.args.n c.ranges.n) at c.in_ok-put_number-in-None.ensures.world)
 
-pub returns-in_ok-put_number-in-None-clause-forms : goal.returns-in_ok-put_number-in-None-clause-forms
-returns-in_ok-put_number-in-None-clause-forms g c = formed_ok g.B.BlockStore.blocks Whole c.args.keyspace.now c.put_number.new.keyspace _ c.in_ok-put_number-in-None.ensures.forms
-
 pub returns-in-Some-clause-forms : goal.returns-in-Some-clause-forms
 returns-in-Some-clause-forms g c =
     let held = returns-in-Some-clause-held g c in
@@ -72,10 +71,15 @@ returns-in-Some-clause-forms g c =
     (c.lift_at-lifted.ensures.lifts c.args.key.now c.args.at.now.moment (rw c.in-Some.is at c.requires.sees.there))
     (c.lift_at-lifted.ensures.sound c.args.key.now c.args.at.now.moment (rw c.in-Some.is at c.requires.sees.there) [] c.requires.ready.sound) c.set_number.ensures.changes
     c.lower.new.self.bases _ (ap g.B.BlockStore.blocks c.lower.ensures.store) c.lower.ensures.has in
-    formed_ok g.B.BlockStore.blocks Whole c.args.keyspace.now c.lower.new.self _
-    (formed_key Whole c.args.at.now.db c.args.key.now c.args.keyspace.now.bases c.lower.new.self.bases _ _ held.within held.sound.arranged
-    (λ i e found bytes. subst IsWrittenWhole (sym (has i e found bytes)) (ap OfText c.set_number.ensures.whole)))
+    let whole : AllAt IsWrittenWhole c.lower.new.self.bases (g.B.BlockStore.blocks c.lower.new.self.store) c.args.at.now.db c.args.key.now = λ i e found bytes. subst IsWrittenWhole (sym (has i e found bytes)) (ap OfText c.set_number.ensures.whole) in
+    wrote_whole c.args.at.now.db c.args.key.now g.B.BlockStore.blocks c.args.keyspace.now c.lower.new.self c.number-in-Some.result
+    (formed_key Whole c.args.at.now.db c.args.key.now c.args.keyspace.now.bases c.lower.new.self.bases _ _ held.within held.sound.arranged whole) whole
 
 pub into_text-text-requires : goal.into_text-text-requires
 into_text-text-requires g c = lifted_string c.args.keyspace.now.bases c.lift_at-lifted.new.self.bases (g.B.BlockStore.blocks c.args.keyspace.now.store) c.args.at.now c.args.key.now
     c.lift_at-lifted.result (c.lift_at-lifted.ensures.lifts c.args.key.now c.args.at.now.moment (rw c.in-Some.is at c.requires.sees.there)) c.requires.string
+
+pub returns-in_ok-put_number-in-None-clause-forms : goal.returns-in_ok-put_number-in-None-clause-forms
+returns-in_ok-put_number-in-None-clause-forms g c =
+    wrote_whole c.args.at.now.db c.args.key.now g.B.BlockStore.blocks c.args.keyspace.now c.put_number.new.keyspace c.number.result c.in_ok-put_number-in-None.ensures.forms
+    c.in_ok-put_number-in-None.ensures.whole

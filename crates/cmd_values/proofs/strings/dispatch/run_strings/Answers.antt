@@ -15,7 +15,7 @@ pub returns-in-GetRange : goal.returns-in-GetRange
 returns-in-GetRange g c =
     looked_strings _ _ c.args.keyspace.now c.args.at.now (Strings c.args.command.now) c.args.command.now
     (strings.GetRange c.as_slice-in-GetRange.result.now (to_z w64 (of_z w64 c.in-GetRange.a)) (to_z w64 (of_z w64 c.in-GetRange.b))) c.getrange.result
-    refl (search rules) c.getrange.ensures c.requires.ready
+    refl (search rules) c.getrange.ensures c.requires.ready refl
 
 pub returns-in-Set : goal.returns-in-Set
 returns-in-Set g c =
@@ -43,7 +43,7 @@ returns-in-PSetEx g c =
 pub returns-in-GetEx : goal.returns-in-GetEx
 returns-in-GetEx g c =
     removed_strings g.B.BlockStore.blocks g.B.BlockStore.step c.args.keyspace.now c.getex.new.keyspace c.args.at.now (Strings c.args.command.now) c.args.command.now
-    (strings.GetEx c.as_slice-in-GetEx.result.now c.in-GetEx.renewal) c.getex.result (λ db key named. named.1) refl (search rules) c.getex.ensures.gives c.getex.ensures.kept
+    (strings.GetEx c.as_slice-in-GetEx.result.now c.in-GetEx.renewal) c.getex.result (λ db key named. named.1) refl (search rules) c.getex.ensures.gives c.getex.ensures.kept refl
 
 pub returns-in-GetSet : goal.returns-in-GetSet
 returns-in-GetSet g c =
@@ -60,7 +60,7 @@ returns-in-Append g c =
 pub returns-in-MGet : goal.returns-in-MGet
 returns-in-MGet g c =
     looked_strings g.B.BlockStore.blocks g.B.BlockStore.step c.args.keyspace.now c.args.at.now (Strings c.args.command.now) c.args.command.now (strings.MGet c.as_slice-in-MGet.result.now)
-    c.mget.result refl (search rules) c.mget.ensures c.requires.ready
+    c.mget.result refl (search rules) c.mget.ensures c.requires.ready refl
 
 pub returns-in-SetRange : goal.returns-in-SetRange
 returns-in-SetRange g c =
@@ -83,12 +83,12 @@ returns-in-DecrBy g c =
 pub returns-in-Get : goal.returns-in-Get
 returns-in-Get g c =
     looked_strings g.B.BlockStore.blocks g.B.BlockStore.step c.args.keyspace.now c.args.at.now (Strings c.args.command.now) c.args.command.now (strings.Get c.as_slice.result.now)
-    c.get.result refl (search rules) c.get.ensures c.requires.ready
+    c.get.result refl (search rules) c.get.ensures c.requires.ready refl
 
 pub returns-in-StrLen : goal.returns-in-StrLen
 returns-in-StrLen g c =
     looked_strings g.B.BlockStore.blocks g.B.BlockStore.step c.args.keyspace.now c.args.at.now (Strings c.args.command.now) c.args.command.now
-    (strings.StrLen c.as_slice-in-StrLen.result.now) c.strlen.result refl (search rules) c.strlen.ensures c.requires.ready
+    (strings.StrLen c.as_slice-in-StrLen.result.now) c.strlen.result refl (search rules) c.strlen.ensures c.requires.ready refl
 
 pub returns-in-MSet : goal.returns-in-MSet
 returns-in-MSet g c =
@@ -113,4 +113,4 @@ returns-in-Decr g c =
 pub returns-in-GetDel : goal.returns-in-GetDel
 returns-in-GetDel g c =
     removed_strings g.B.BlockStore.blocks g.B.BlockStore.step c.args.keyspace.now c.getdel.new.keyspace c.args.at.now (Strings c.args.command.now) c.args.command.now
-    (strings.GetDel c.as_slice-in-GetDel.result.now) c.getdel.result (λ db key named. named.1) refl (search rules) c.getdel.ensures.gives c.getdel.ensures.kept
+    (strings.GetDel c.as_slice-in-GetDel.result.now) c.getdel.result (λ db key named. named.1) refl (search rules) c.getdel.ensures.gives c.getdel.ensures.kept refl

@@ -10,6 +10,10 @@ use Rattle.cmd_values.proofs.StringLemmas.{set_lasting}
 use Rattle.keyspace.specs.Forms.{Whole}
 use Rattle.keyspace.proofs.Forming.{unformed, formed_ok}
 use Rattle.cmd_values.proofs.strings.lasting.set_for_units.Goals as goal
+use Rattle.plain_world.specs.declared.refusal.Refusal.TheVariants.{InvalidExpireTime}
+use Rattle.keyspace.specs.Forms.{placed_at}
+use Rattle.keyspace.proofs.Forming.{formed_refused}
+use Rattle.cmd_values.proofs.Placing.{wrote_whole}
 
 pub returns-in-None-clause-kept : goal.returns-in-None-clause-kept
 returns-in-None-clause-kept g c =
@@ -28,7 +32,9 @@ returns-in_ok-put_lasting-in-Some-clause-gives g c =
     (rw (to_z-of_z w64 c.in-Some.due fits) at c.from_zero.ensures.value) c.in_ok-put_lasting-in-Some.ensures.world (ap Simple c.ok.ensures) c.simple.ensures
 
 pub returns-in-None-clause-forms : goal.returns-in-None-clause-forms
-returns-in-None-clause-forms g c = unformed g.B.BlockStore.blocks Whole c.args.keyspace.now _
+returns-in-None-clause-forms g c = formed_refused g.B.BlockStore.blocks Whole (placed_at c.args.at.now.db c.args.key.now Whole) c.args.keyspace.now InvalidExpireTime _ c.refused.ensures
 
 pub returns-in_ok-put_lasting-in-Some-clause-forms : goal.returns-in_ok-put_lasting-in-Some-clause-forms
-returns-in_ok-put_lasting-in-Some-clause-forms g c = formed_ok g.B.BlockStore.blocks Whole c.args.keyspace.now c.put_lasting.new.keyspace _ c.in_ok-put_lasting-in-Some.ensures.forms
+returns-in_ok-put_lasting-in-Some-clause-forms g c =
+    wrote_whole c.args.at.now.db c.args.key.now g.B.BlockStore.blocks c.args.keyspace.now c.put_lasting.new.keyspace c.simple.result c.in_ok-put_lasting-in-Some.ensures.forms
+    c.in_ok-put_lasting-in-Some.ensures.whole

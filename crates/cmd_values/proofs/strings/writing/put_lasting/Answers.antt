@@ -12,6 +12,7 @@ use Rattle.keyspace.specs.Scopes.{one_key, Within}
 use Rattle.keyspace.specs.Forms.{Whole}
 use Rattle.keyspace.proofs.Forming.{formed_put}
 use Rattle.cmd_values.proofs.strings.writing.put_lasting.Goals as goal
+use Rattle.keyspace.proofs.Forming.{whole_only}
 
 pub put_sought-requires-clause-intact : goal.put_sought-requires-clause-intact
 put_sought-requires-clause-intact g c = made_intact _ _ _ (values.Text c.in_ok-text.text) c.requires.ready.sound c.in_ok-text.ensures.changes tt
@@ -46,3 +47,8 @@ pub returns-clause-forms : goal.returns-clause-forms
 returns-clause-forms g c =
     formed_put Whole c.args.at.now.db c.args.key.now (values.Text c.in_ok-text.text) c.args.keyspace.now.bases c.put_sought.new.self.bases (g.B.BlockStore.blocks c.args.keyspace.now.store)
     _ (ap OfText c.in_ok-text.ensures.whole) (returns-clause-held g c).within (returns-clause-held g c).sound.arranged c.put_sought.result c.put_sought.ensures.has
+
+pub returns-clause-whole : goal.returns-clause-whole
+returns-clause-whole g c =
+    whole_only (values.Text c.in_ok-text.text) (ap OfText c.in_ok-text.ensures.whole) c.put_sought.new.self.bases _ c.args.at.now.db c.args.key.now c.put_sought.result
+    c.put_sought.ensures.has

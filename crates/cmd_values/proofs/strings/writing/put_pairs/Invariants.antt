@@ -1,11 +1,11 @@
-use Rattle.std.proofs.Common.{◌≡◌, drop}
+use Rattle.std.proofs.Common.{◌≡◌, drop, take}
 use Rattle.blocks.specs.Blocks.{Served}
 use Rattle.plain_model.specs.StringSteps.{replace_all}
 use Rattle.keyspace.specs.Databases.{SameSettings}
 use Rattle.keyspace.specs.Sound.{Sound}
 use Rattle.keyspace.specs.Commands.{seen}
 use Rattle.keyspace.specs.Scopes.{some_keys, first_words, Within}
-use Rattle.keyspace.specs.Forms.{Whole, Formed}
+use Rattle.keyspace.specs.Forms.{Whole, Formed, ArePlaced, places_whole}
 use Rattle.cmd_values.proofs.Pairs.{ArePart}
 use Rattle.cmd_values.proofs.strings.writing.put_pairs.Given as goal
 
@@ -20,4 +20,5 @@ invariant-loop-pair g l =
       within : Within (some_keys l.at.db (first_words l.pairs)) l.fn.keyspace.bases l.keyspace.bases (blocks l.fn.keyspace.store) (blocks l.keyspace.store);
       settings : SameSettings l.fn.keyspace.bases l.keyspace.bases;
       forms : Formed blocks Whole l.fn.keyspace l.keyspace;
+      whole : ArePlaced (places_whole l.at.db (take l.pair-index l.pairs)) l.fn.keyspace.bases l.keyspace.bases (blocks l.fn.keyspace.store) (blocks l.keyspace.store);
     }
