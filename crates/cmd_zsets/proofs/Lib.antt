@@ -11,7 +11,6 @@ pub mod Removed
 pub mod Telling
 pub mod Counting
 pub mod Raised
-pub mod Taking
 pub mod Dropping
 pub mod Popped
 pub mod Paged

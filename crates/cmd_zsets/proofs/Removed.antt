@@ -1,5 +1,5 @@
 -- Members taken out of a sorted set.
-use Rattle.std.proofs.Common.{◌≡◌, inl, inr, ◌⊎◌, Bool, true, false, List, ℕ, Option, None, Some, Result, Ok, Err, OnErr, refl, sym, ap, ◌∙◌}
+use Rattle.std.proofs.Common.{◌≡◌, inl, inr, ◌⊎◌, Bool, true, false, List, ℕ, Option, None, Some, Result, Ok, Err, OnOk, OnErr, refl, sym, ap, ◌∙◌}
 use Rattle.std.specs.Prelude.{◌≢◌, is_some}
 use Rattle.std.specs.Ordering.{nat_cmp, eq_by_cmp, is_eq}
 use Rattle.std.specs.declared.cmp.Ordering.{Ordering}
@@ -73,3 +73,17 @@ pub removed_is : {E : Type 0} (before after : Blocks) (old new : kept.Scored) (m
 removed_is before after old new member true result is there c s b = (c is).scores_are
 removed_is before after old new member false result is there c s b =
     ap (scores after) (s is) ∙ ap (λ m. scores m old) (b is) ∙ sym (remove_absent (scores before old) member (none_in (get (scores before old) member) there))
+
+module _ (before after : Blocks) (old new : kept.Scored) (sound : IsScored before old) (map : Scores) where
+  -- from the clauses of `remove_range`
+  pub range_keeps : {A E : Type 0} (result : Result A E) → OnOk result (IsChanged before after old new map) → OnErr result (form_of old ≢ Skiplist → new ≡ old)
+      → OnErr result (form_of old ≢ Skiplist → after ≡ before) → OnErr result (form_of old ≡ Skiplist → IsChanged before after old new map) → Keeps before after old new
+  range_keeps (Ok u) c es eb ec = changed before after old new sound map c
+  range_keeps (Err e) c es eb ec = elim (table_or_not old.body) [
+    | inl table ↦ changed before after old new sound map (ec table)
+    | inr packed ↦ left before after old new sound map (es packed) (eb packed)
+  ]
+
+  pub range_is : {A E : Type 0} (result : Result A E) (then : Scores) → map ≡ then → OnOk result (IsChanged before after old new map) → OnOk result (scores after new ≡ then)
+  range_is (Ok u) then same c = c.scores_are ∙ same
+  range_is (Err e) then same c = tt

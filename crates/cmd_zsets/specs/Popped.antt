@@ -1,18 +1,9 @@
 -- Members that were taken off a sorted set in its order.
-use Rattle.std.specs.Prelude.{◌≡◌, ℕ, suc, List, ◌∷◌, length, take, drop, Option, Some, true}
-use Rattle.std.specs.FinMap.{remove}
+use Rattle.std.specs.Prelude.{◌≡◌, ℕ, List, length, take, Option, Some, true}
 use Rattle.object_codec.specs.declared.form.Form.{Form}
 use Rattle.plain_world.specs.declared.reply.Part.{Part}
 use Rattle.plain_model.specs.ZsetSteps.{Scores, Scored, met, ranked, listed, members_of, without_members}
 use Rattle.plain_model.specs.declared.zset_command.Direction.{Direction}
-
--- the member that is met at a place from an end was taken out
-pub record TakesMet (from : Direction) (place : ℕ) (old : Scores) (list : List Scored) (new : Scores) (left : List Scored)
-    : Type 0 where
-  pub taken : Scored
-  pub there : drop place (met from list) ≡ taken ∷ drop place (met from left)
-  pub is : new ≡ remove old taken.1
-  pub shorter : suc (length left) ≡ length list
 
 -- the first members that are met from an end were taken off, so many at most, and this is told of them
 pub record PopsMany (from : Direction) (n : ℕ) (told : Option (List Part)) (old : Scores) (was : Form) (new : Scores)

@@ -1,6 +1,6 @@
 //! Commands that take members off a sorted set in its order.
 
-ghost use Rattle.std.specs.Prelude.{◌≡◌, ◌+◌, ◌<◌, ◌≤◌, [], ◌∷◌, ℤ, true, Some, IsSome, IfOk, OnOk, slice_get};
+ghost use Rattle.std.specs.Prelude.{◌≡◌, ◌+◌, ◌≤◌, [], ◌∷◌, true, Some, IsSome, IfOk, OnOk};
 ghost use Rattle.std.specs.FinMap.{len};
 ghost use Rattle.blocks.specs.Blocks.{Changes, Served};
 ghost use Rattle.zset_object.specs.Scored.{IsScored, KeepsSettings, scores, ranked, form_of, refs};
@@ -13,66 +13,20 @@ ghost use Rattle.keyspace.specs.Forms.{Formed, zset_form};
 ghost use Rattle.keyspace.specs.Commands.{Ready, KeepsOrRefuses, visible};
 ghost use Rattle.cmd_zsets.specs.Found.{Gives};
 ghost use Rattle.cmd_zsets.specs.Spans.{in_span};
-ghost use Rattle.cmd_zsets.specs.Popped.{TakesMet, PopsMany, DropsPart};
+ghost use Rattle.cmd_zsets.specs.Popped.{PopsMany, DropsPart};
 
 use crate::changing::{change_zset, zset_sought};
 use crate::edits::ZsetEdit;
-use crate::ranges::{by_rank, by_score};
-use crate::removing::take_out;
-use crate::spans::{Span, rank_met, span_reply};
+use crate::ranges::{by_rank, by_score, start_met};
+use crate::spans::{Span, span_reply};
 use blocks::BlockStore;
-use keyspace::{Keyspace, Look, bytes_of, count_reply, seek};
-use plain_model::{Bytes, Ctx, Direction, Memory, Part, Parts, Refusal, Reply, ScoreBound};
+use keyspace::{Keyspace, Look, count_reply, seek};
+use plain_model::{Ctx, Direction, Memory, Part, Parts, Refusal, Reply, ScoreBound};
 use std::alloc::Global;
 use zset_object::Scored;
 
-// The bytes of the member at a rank.
-fn bytes_at<B: BlockStore>(
-    alloc: Global,
-    store: &B,
-    zset: &Scored,
-    rank: usize,
-) -> Result<Bytes, Memory>
-    requires sound { IsScored (B.blocks store.now) zset.now }
-    requires inside { rank < len (scores (B.blocks store.now) zset.now) }
-    ensures { IfOk result (λ bytes. (score : ℤ) × (slice_get (ranked (B.blocks store.now) zset.now) rank ≡ Some (score, bytes))) }
-{
-    match zset.at_rank(store, rank) {
-        None => unreachable!(),
-        Some((member, _)) => bytes_of(alloc, member),
-    }
-}
-
-// Takes out the member that is met at a place from an end.
-fn take_met<B: BlockStore>(
-    alloc: Global,
-    zset: &mut Scored,
-    store: &mut B,
-    from: Direction,
-    place: usize,
-) -> Result<(), Memory>
-    requires sound { IsScored (B.blocks store.old) zset.old }
-    requires inside { place < len (scores (B.blocks store.old) zset.old) }
-    ensures sound { IsScored (B.blocks store.new) zset.new }
-    ensures settings { KeepsSettings zset.old zset.new }
-    ensures taken { OnOk result
-        (TakesMet from place (scores (B.blocks store.old) zset.old) (ranked (B.blocks store.old) zset.old) (scores (B.blocks store.new) zset.new) (ranked (B.blocks store.new) zset.new)) }
-    ensures form { form_of zset.new ≡ form_of zset.old }
-    ensures changes { Changes (B.blocks store.old) (B.blocks store.new) (refs zset.old) (refs zset.new) }
-    ensures served { Served B.step store.old store.new }
-{
-    let rank = rank_met(from, zset.len(), place);
-    let member = bytes_at(alloc, store, zset, rank)?;
-    take_out(zset, store, member.as_slice())
-}
-
-// Takes out the members of a span.
-fn take_span<B: BlockStore>(
-    alloc: Global,
-    zset: &mut Scored,
-    store: &mut B,
-    span: Span,
-) -> Result<(), Memory>
+// Takes out the members of a span. From either end they have one range of ranks, whose place is found once.
+fn take_span<B: BlockStore>(zset: &mut Scored, store: &mut B, span: Span) -> Result<(), Memory>
     requires sound { IsScored (B.blocks store.old) zset.old }
     requires inside { span.start + span.count ≤ len (scores (B.blocks store.old) zset.old) }
     ensures sound { IsScored (B.blocks store.new) zset.new }
@@ -82,10 +36,14 @@ fn take_span<B: BlockStore>(
     ensures changes { Changes (B.blocks store.old) (B.blocks store.new) (refs zset.old) (refs zset.new) }
     ensures served { Served B.step store.old store.new }
 {
-    for _ in 0..span.count {
-        take_met(alloc, zset, store, span.from, span.start)?;
+    if span.count == 0 {
+        return Ok(());
     }
-    Ok(())
+    let len = zset.len();
+    let high = span.start + span.count;
+    let low = start_met(span.from, len, span.start, high);
+    let end = low + span.count;
+    zset.remove_range(store, low, end)
 }
 
 /// So many members to be taken off an end of a sorted set.
@@ -110,7 +68,7 @@ impl ZsetEdit for PopMany {
             count: zset.len().min(self.most as usize),
         };
         self.told = Some(span_reply(self.alloc, store, zset, span, true)?);
-        take_span(self.alloc, zset, store, span)
+        take_span(zset, store, span)
     }
 }
 
@@ -119,7 +77,6 @@ impl ZsetEdit for PopMany {
 pub struct DropRanks {
     pub a: i64,
     pub b: i64,
-    pub alloc: Global,
     pub gone: usize,
 }
 
@@ -131,7 +88,7 @@ impl ZsetEdit for DropRanks {
     fn edit_zset<B: BlockStore>(&mut self, zset: &mut Scored, store: &mut B) -> Result<(), Memory> {
         let span = by_rank(zset.len(), Direction::Rising, self.a, self.b);
         self.gone = span.count;
-        take_span(self.alloc, zset, store, span)
+        take_span(zset, store, span)
     }
 }
 
@@ -140,7 +97,6 @@ impl ZsetEdit for DropRanks {
 pub struct DropScores {
     pub min: ScoreBound,
     pub max: ScoreBound,
-    pub alloc: Global,
     pub gone: usize,
 }
 
@@ -152,7 +108,7 @@ impl ZsetEdit for DropScores {
     fn edit_zset<B: BlockStore>(&mut self, zset: &mut Scored, store: &mut B) -> Result<(), Memory> {
         let span = by_score(store, zset, self.min, self.max, Direction::Rising);
         self.gone = span.count;
-        take_span(self.alloc, zset, store, span)
+        take_span(zset, store, span)
     }
 }
 
@@ -228,12 +184,7 @@ pub fn zremrangebyrank<B: BlockStore>(
         Look::Missing => return count_reply(alloc, 0),
         Look::There(item) => item,
     };
-    let remove = DropRanks {
-        a,
-        b,
-        alloc,
-        gone: 0,
-    };
+    let remove = DropRanks { a, b, gone: 0 };
     let remove = change_zset(keyspace, at, key, found.sought, Some(item), remove)?;
     count_reply(alloc, remove.gone)
 }
@@ -259,12 +210,7 @@ pub fn zremrangebyscore<B: BlockStore>(
         Look::Missing => return count_reply(alloc, 0),
         Look::There(item) => item,
     };
-    let remove = DropScores {
-        min,
-        max,
-        alloc,
-        gone: 0,
-    };
+    let remove = DropScores { min, max, gone: 0 };
     let remove = change_zset(keyspace, at, key, found.sought, Some(item), remove)?;
     count_reply(alloc, remove.gone)
 }

@@ -112,8 +112,9 @@ fn up_to_bound<B: BlockStore>(store: &B, zset: &Scored, max: ScoreBound) -> usiz
     }
 }
 
-// Where the members from one rank up to another are met, of so many.
-fn start_met(from: Direction, len: usize, low: usize, high: usize) -> usize
+/// Where the members from one rank up to another are met, of so many; and at which rank those begin that are met from one place up to
+/// another.
+pub fn start_met(from: Direction, len: usize, low: usize, high: usize) -> usize
     requires { high ≤ len }
     ensures { result ≡ start_of from len low high }
 {

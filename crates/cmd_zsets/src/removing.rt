@@ -19,12 +19,8 @@ use keyspace::{Keyspace, Look, count_reply, seek};
 use plain_model::{Ctx, Memory, Refusal, Reply, Word};
 use zset_object::Scored;
 
-/// Takes a member out, where it is there.
-pub(crate) fn take_out<B: BlockStore>(
-    zset: &mut Scored,
-    store: &mut B,
-    member: &[u8],
-) -> Result<(), Memory>
+// Takes a member out, where it is there.
+fn take_out<B: BlockStore>(zset: &mut Scored, store: &mut B, member: &[u8]) -> Result<(), Memory>
     requires { IsScored (B.blocks store.old) zset.old }
     ensures sound { IsScored (B.blocks store.new) zset.new }
     ensures settings { KeepsSettings zset.old zset.new }

@@ -58,7 +58,7 @@ tall_without : (tall : ℕ → Bool) (x : ℕ) (front back : List ℕ) → AllTa
 tall_without tall x [] back a = a.1
 tall_without tall x (k ∷ ks) back a = (a.0, tall_without tall x ks back a.1)
 
-pub map_without : (f : ℕ → Element) (ks : List ℕ) (rank : ℕ) → map f (without_at ks rank) ≡ without_at (map f ks) rank
+pub map_without : {A B : Type 0} (f : A → B) (ks : List A) (rank : ℕ) → map f (without_at ks rank) ≡ without_at (map f ks) rank
 map_without f ks rank = map-append f (take rank ks) (drop (suc rank) ks) ∙ ap (λ xs. xs ++ map f (drop (suc rank) ks)) (sym (take-map f rank ks))
     ∙ ap (λ xs. take rank (map f ks) ++ xs) (sym (drop-map f (suc rank) ks))
 

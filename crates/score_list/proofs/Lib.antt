@@ -10,3 +10,4 @@ pub mod Renaming
 pub mod Walks
 pub mod Taken
 pub mod Between
+pub mod Ranges

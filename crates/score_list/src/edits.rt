@@ -1,6 +1,8 @@
 //! Elements join and leave the towers at a rank.
 
-ghost use Rattle.std.specs.Prelude.{◌≡◌, ◌≢◌, ℕ, suc, ◌+◌, ◌<◌, ◌^◌, length, take, drop, get_or, true, false, List, [], Some, None, IfOk, OnOk, OnErr, IsTrue, count_by, slice_set, slice_index_or};
+ghost use Rattle.std.specs.Prelude.{◌≡◌, ◌≢◌, ℕ, suc, ◌+◌, ◌<◌, ◌≤◌, ◌^◌, length, take, drop, get_or, true, false, List, [], Some, None, IfOk, OnOk, OnErr, IsTrue, count_by};
+ghost use Rattle.std.specs.Prelude.{slice_set, slice_index_or};
+ghost use Rattle.std.specs.List.{remove_range as range_removed};
 ghost use Rattle.score_list.specs.Linked.{Element, no_element, element_at, order, items, IsLinked, IsPath, IsAt, Adds, with_at, without_at, renamed_at};
 ghost use Rattle.score_list.specs.Sorted.{AllAre, IsParted, EachIs};
 
@@ -64,7 +66,7 @@ impl Towers {
         }
     }
 
-    /// Takes the element at a rank out, to which a path leads.
+    /// Takes the element at a rank out, to which a path leads. The path leads to the rank then too.
     pub(crate) fn remove_at(&mut self, rank: usize, key: usize, path: &[Place; LEVELS])
         requires linked { IsLinked self.old }
         requires path { IsPath self.old rank path.now }
@@ -73,10 +75,28 @@ impl Towers {
         requires fits { key + 1 < 2 ^ 64 }
         ensures linked { IsLinked self.new }
         ensures items { items self.new ≡ without_at (items self.old) rank }
+        ensures path { IsPath self.new rank path.now }
     {
         self.unthread(key, rank, path);
         self.len -= 1;
         self.slab.remove(key);
+    }
+
+    /// Takes the elements from a rank to below another one out. The way to the first is the way to each that takes its place.
+    pub(crate) fn remove_range(&mut self, from: usize, to: usize)
+        requires linked { IsLinked self.old }
+        requires order { from ≤ to }
+        requires inside { to ≤ length (order self.old) }
+        ensures linked { IsLinked self.new }
+        ensures items { items self.new ≡ range_removed (items self.old) from to }
+    {
+        let mut path = [START; LEVELS];
+        self.path_to(from, &mut path);
+        for _ in from..to {
+            let link = self.link(0, path[0].owner);
+            let key = link.next - 1;
+            self.remove_at(from, key, &path);
+        }
     }
 
     /// The tower at a rank, to which a path leads, leaves it, and stands beside the others with another score.

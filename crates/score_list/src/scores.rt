@@ -2,6 +2,7 @@
 
 ghost use Rattle.std.specs.Prelude.{◌≡◌, ◌≢◌, ℕ, suc, ◌+◌, ◌<◌, ◌≤◌, length, List, [], Some, None, IfSome, IfNone, MatchOption, OnOk, OnErr, int_lt, count_by, slice_get, slice_set};
 ghost use Rattle.std.specs.Prelude.{slice_index_or, IsSome};
+ghost use Rattle.std.specs.List.{remove_range as range_removed};
 ghost use Rattle.blocks.specs.Blocks.{Blocks, bytes_at};
 ghost use Rattle.score_list.specs.Linked.{Element, no_element, with_at, without_at, renamed_at};
 ghost use Rattle.score_list.specs.Sorted.{IsSorted, Misses, place_of, HasAt, Removes, Rescores, Carries, key_of};
@@ -105,6 +106,15 @@ impl Scores {
                 true
             }
         }
+    }
+
+    /// Takes the elements from a rank to below another one out. Their place is found once.
+    pub fn remove_range(&mut self, from: usize, to: usize)
+        requires order { from ≤ to }
+        requires inside { to ≤ length self.old }
+        ensures { self.new ≡ range_removed self.old from to }
+    {
+        self.towers.remove_range(from, to);
     }
 
     /// Gives a pair that is there another score, and its place among the others then, and answers whether it was there. It takes no memory.

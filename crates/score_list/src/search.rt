@@ -105,6 +105,22 @@ impl Towers {
         self.link(0, place.owner).next - 1
     }
 
+    /// Finds the path to a rank.
+    pub(crate) fn path_to(&self, to: usize, path: &mut [Place; LEVELS])
+        requires linked { IsLinked self.now }
+        requires rank { to ≤ length (order self.now) }
+        ensures path { IsPath self.now to path.new }
+        ensures long { length path.new ≡ 16 }
+    {
+        let mut place = START;
+        let mut level = LEVELS;
+        while level > 0 {
+            level -= 1;
+            place = self.advance(level, place, to);
+            path[level] = place;
+        }
+    }
+
     /// The rank and the tower of a pair, to which the path leads then. `None` comes exactly where there is none.
     pub(crate) fn locate<B: BlockStore>(
         &self,

@@ -5,7 +5,7 @@ use Rattle.std.proofs.lemmas.Bool.{cond-true}
 use Rattle.blocks.specs.declared.BlockRef.{BlockRef}
 use Rattle.blocks.specs.Blocks.{Blocks, ref_eq, times, with_block, bytes_at, Changes}
 use Rattle.blocks.proofs.Refs.{ref_eq_refl, cases_ref, with_block_other}
-use Rattle.blocks.proofs.Change.{one, changes_beside, changes_counted, changes_same, counts_ended, counts_same, owned_others}
+use Rattle.blocks.proofs.Change.{one, changes_beside, changes_counted, changes_same, changes_then, counts_ended, counts_same, owned_others}
 use Rattle.collection_walk.proofs.Named.{names_key}
 use Rattle.rehash_dict.specs.Table.{Table, Element, at_item, item}
 use Rattle.rehash_dict.specs.Keyed.{Keyed, Lacks, Stands, hash_of, key_of as key_bytes, key_tables}
@@ -14,11 +14,12 @@ use Rattle.rehash_dict.specs.Grown.{Grown}
 use Rattle.rehash_dict.specs.MapOf.{content, value_of, key_refs, own_of}
 use Rattle.rehash_dict.proofs.Keys.{keyed_frame, live_bytes}
 use Rattle.rehash_dict.proofs.MapOf.{cases_key, map_of_stands, map_of_frame, map_of_adds, refs_changed, key_refs_owned}
-use Rattle.rehash_dict.proofs.Growing.{grown_same}
+use Rattle.rehash_dict.proofs.Growing.{grown_same, grown_then}
 use Rattle.score_list.specs.Linked.{Element as Scored, no_element, with_at, without_at}
 use Rattle.score_list.specs.Sorted.{Key, key_of, place_of, IsSorted, Misses, Rescores, Removes as ListRemoves}
 use Rattle.score_list.proofs.Renaming.{Alike, sorted_alike}
 use Rattle.score_table.specs.declared.table.ScoreTable.{ScoreTable}
+use Rattle.score_table.specs.Ranking.{ScoreMap}
 use Rattle.score_table.specs.Scored.{IsScoreTable, IsChanged, IsJoined, scores, ranked, refs, tables, seed_of}
 use Rattle.score_table.proofs.Bytes.{insert_same}
 use Rattle.score_table.proofs.Among.{Among, among_contained, contained_among, misses_all, missed, it_is, Follows, follows_with, follows_without, follows_removed, follows_moved}
@@ -269,14 +270,16 @@ module _ (m n : Blocks) (old : ScoreTable) (table : Table ℤ) (ys : List Scored
   key_is : ◌≡◌ {A = Key} (score, q) (key_of m (score, ref))
   key_is = ap (λ (o : Option (List ℕ)). let k : Key = (score, unwrap_or o []) in k) (sym r.bytes)
 
+  -- what a removal of its key leaves of the list
+  follows : (removed : Bool) → ListRemoves m (score, q) old.list removed ys → Follows old.list ys (Some (score, ref)) None
+  follows removed removes = follows_removed m old.list is.sorted (score, ref) gone_there removed ys (subst (λ k. ListRemoves m k old.list removed ys) key_is removes)
+
   -- without the member in the dictionary and in the list, the table is sound over the old store
-  taken_out : Keyed m table → IsSorted m ys → (removed : Bool) → ListRemoves m (score, q) old.list removed ys → IsScoreTable m mid
-  taken_out keyed sorted removed removes = record {
+  taken_out : Keyed m table → IsSorted m ys → Follows old.list ys (Some (score, ref)) None → IsScoreTable m mid
+  taken_out keyed sorted follows = record {
     keyed = keyed;
     sorted = sorted;
-    agree = agree_follows m old.table table old.list ys r.at None is.keyed r.updates is.agree
-        (subst (λ o. Follows old.list ys o None) (sym (ap entry_of r.found))
-        (follows_removed m old.list is.sorted (score, ref) gone_there removed ys (subst (λ k. ListRemoves m k old.list removed ys) key_is removes)));
+    agree = agree_follows m old.table table old.list ys r.at None is.keyed r.updates is.agree (subst (λ o. Follows old.list ys o None) (sym (ap entry_of r.found)) follows);
   }
 
   -- no element that is left has the block that is given back
@@ -308,10 +311,10 @@ module _ (m n : Blocks) (old : ScoreTable) (table : Table ℤ) (ys : List Scored
   live = subst (λ o. IsSome o) (sym r.bytes) refl
 
   -- where the member left and its block was given back, the table has its old scores without that member
-  pub taken : Keyed m table → IsSorted m ys → (removed : Bool) → ListRemoves m (score, q) old.list removed ys → content m table ≡ remove (content m old.table) q
+  pub taken_off : Keyed m table → IsSorted m ys → Follows old.list ys (Some (score, ref)) None → content m table ≡ remove (content m old.table) q
       → Grown (hash_of old.table.seed) (key_tables m old.table) (key_tables m table)
       → IsChanged m n old mid (remove (scores m old) q)
-  taken keyed sorted removed removes map_is grown = record {
+  taken_off keyed sorted follows map_is grown = record {
     sound = kept_sound m n mid sound others_same;
     scores_are = kept_scores m n mid sound others_same ∙ map_is;
     changes = changes_counted m n (key_refs old.table) (key_refs table) (key_refs_owned m old.table is.keyed) (counts_ended m n ref (key_refs old.table) (key_refs table) live given fewer);
@@ -320,7 +323,27 @@ module _ (m n : Blocks) (old : ScoreTable) (table : Table ℤ) (ys : List Scored
   }
     where
       sound : IsScoreTable m mid
-      sound = taken_out keyed sorted removed removes
+      sound = taken_out keyed sorted follows
+
+  -- and the pairs of what is left of the list
+  pub taken_ranked : Keyed m table → IsSorted m ys → Follows old.list ys (Some (score, ref)) None → ranked n mid ≡ map (key_of m) ys
+  taken_ranked keyed sorted follows = kept_ranked m n mid (taken_out keyed sorted follows) others_same
+
+  -- the same, where the list answered the removal
+  pub taken : Keyed m table → IsSorted m ys → (removed : Bool) → ListRemoves m (score, q) old.list removed ys → content m table ≡ remove (content m old.table) q
+      → Grown (hash_of old.table.seed) (key_tables m old.table) (key_tables m table)
+      → IsChanged m n old mid (remove (scores m old) q)
+  taken keyed sorted removed removes = taken_off keyed sorted (follows removed removes)
+
+-- one change and then another are one change, to the scores of the second
+pub changed_then : (a b c : Blocks) (t u v : ScoreTable) (s w : ScoreMap) → IsChanged a b t u s → IsChanged b c u v w → IsChanged a c t v w
+changed_then a b c t u v s w p q = record {
+  sound = q.sound;
+  scores_are = q.scores_are;
+  changes = changes_then a b c (refs t) (refs u) (refs v) p.changes q.changes;
+  grown = grown_then (hash_of (seed_of t)) (tables a t) (tables b u) (tables c v) p.grown (subst (λ n. Grown (hash_of n) (tables b u) (tables c v)) p.seed q.grown);
+  seed = q.seed ∙ p.seed;
+}
 
 -- ---- the elements stay, and the tables change
 

@@ -6,3 +6,4 @@ pub mod Ranked
 pub mod Settling
 pub mod Depends
 pub mod Copies
+pub mod Ranges

@@ -30,7 +30,7 @@ module _ (m : Blocks) where
   map_in (x ∷ xs) = insert (map_in xs) (bytes_at m x.1) x.0
 
   -- elements with the same bytes are one
-  abbrev AreApart : List Scored → Type 0
+  abbrev pub AreApart : List Scored → Type 0
   AreApart xs = (x y : Scored) → Among xs x → Among xs y → bytes_at m x.1 ≡ bytes_at m y.1 → x ≡ y
 
   -- where elements with the same bytes are one, this holds behind the first element too
@@ -72,7 +72,7 @@ module _ (m : Blocks) (s : ScoreTable) (is : IsScoreTable m s) where
   listed_live x h = let p = element_in x h in live_bytes m x.1 (is.keyed.live p.0 (record { key = x.1; hash = p.1.hash; value = x.0 }) p.1.found)
 
   -- elements of the list whose members have the same bytes are one
-  all_apart : AreApart m s.list
+  pub all_apart : AreApart m s.list
   all_apart x y h g same =
       let p = element_in x h in
       let q = element_in y g in

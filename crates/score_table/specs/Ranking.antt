@@ -4,7 +4,7 @@ use Rattle.std.specs.Prelude.{◌≡◌, ◌↔◌, ℤ, List, [], ◌∷◌, Co
 use Rattle.std.specs.declared.cmp.Ordering.TheVariants.{Less}
 use Rattle.std.specs.Ordering.{nat_cmp}
 use Rattle.std.specs.Cmp.Lexicographic.{slice_cmp}
-use Rattle.std.specs.FinMap.{FinMap, get}
+use Rattle.std.specs.FinMap.{FinMap, get, remove}
 use Rattle.score_list.specs.Sorted.{Key, key_cmp}
 
 -- a finite map from members to scores
@@ -25,3 +25,8 @@ IsOrdered (k ∷ keys) = Leads k keys × IsOrdered keys
 pub record IsRanking (map : ScoreMap) (list : List Key) : Type 0 where
   pub ordered : IsOrdered list
   pub pairs : (key : Key) → Contains list key ↔ (get map key.1 ≡ Some key.0)
+
+-- the map without the members of these pairs
+abbrev pub without_each : ScoreMap → List Key → ScoreMap
+without_each map [] = map
+without_each map (key ∷ keys) = without_each (remove map key.1) keys

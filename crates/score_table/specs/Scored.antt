@@ -1,18 +1,19 @@
 -- What contracts see of a table of scores over a store.
-use Rattle.std.specs.Prelude.{◌≡◌, ℕ, ℤ, ◌+◌, ◌<◌, List, [], ◌∷◌, Contains, map, Option, Some, None, IsSome, slice_get}
-use Rattle.std.specs.FinMap.{get, insert}
+use Rattle.std.specs.Prelude.{◌≡◌, ℕ, ℤ, ◌+◌, ◌<◌, List, [], ◌∷◌, Contains, map, Option, Some, None, IsSome, slice_get, slice_range}
+use Rattle.std.specs.List.{remove_range as range_removed}
+use Rattle.std.specs.FinMap.{get, insert, remove}
 use Rattle.blocks.specs.declared.BlockRef.{BlockRef}
-use Rattle.blocks.specs.Blocks.{Blocks, bytes_at, times, Changes}
+use Rattle.blocks.specs.Blocks.{Blocks, bytes_at, times, with_block, Changes}
 use Rattle.rehash_dict.specs.Table.{Table, Element, item}
 use Rattle.rehash_dict.specs.Tables.{Tables}
 use Rattle.rehash_dict.specs.Keyed.{Keyed, hash_of, key_tables}
-use Rattle.rehash_dict.specs.Steps.{Holds}
+use Rattle.rehash_dict.specs.Steps.{Holds, Removes}
 use Rattle.rehash_dict.specs.MapOf.{content, key_refs}
 use Rattle.rehash_dict.specs.Grown.{Grown}
 use Rattle.score_list.specs.Linked.{Element as Scored}
 use Rattle.score_list.specs.Sorted.{Key, key_of, IsSorted}
 use Rattle.score_table.specs.declared.table.ScoreTable.{ScoreTable}
-use Rattle.score_table.specs.Ranking.{ScoreMap}
+use Rattle.score_table.specs.Ranking.{ScoreMap, without_each}
 
 -- The list has the dictionary's members and no others, by the same blocks and with the same scores.
 pub record Agree (t : Table ℤ) (list : List Scored) : Type 0 where
@@ -66,6 +67,29 @@ pub record IsJoined (blocks : Blocks) (old new : ScoreTable) (member : BlockRef)
   pub one_more : (r : BlockRef) → times r (refs new) ≡ times r (refs old) + times r (member ∷ [])
   pub grown : Grown (hash_of (seed_of old)) (tables blocks old) (tables blocks new)
   pub seed : seed_of new ≡ seed_of old
+
+-- ---- ranges
+
+-- a dictionary and a list as one
+abbrev pub table_of : Table ℤ → List Scored → ScoreTable
+table_of t list = record { table = t; list = list }
+
+-- The member that a block holds has left the dictionary, and its block was given back.
+pub record Forgets (before after : Blocks) (old new : Table ℤ) (member : BlockRef) : Type 0 where
+  pub bytes : List ℕ
+  pub held : before member ≡ Some bytes
+  pub taken : BlockRef
+  pub score : ℤ
+  pub removes : Removes before old new bytes taken score
+  pub keyed : Keyed before new
+  pub map_is : content before new ≡ remove (content before old) bytes
+  pub grown : Grown (hash_of old.seed) (key_tables before old) (key_tables before new)
+  pub given : after ≡ with_block before taken None
+
+-- The members from a rank to below another one are gone, and their blocks were given back; the others stand as before.
+pub record LeavesRange (before after : Blocks) (old new : ScoreTable) (from to : ℕ) : Type 0 where
+  pub changed : IsChanged before after old new (without_each (scores before old) (slice_range (ranked before old) from to))
+  pub ranked_are : ranked after new ≡ range_removed (ranked before old) from to
 
 -- ---- places
 

@@ -1,14 +1,61 @@
 // Members that are taken out.
 
-ghost use Rattle.std.specs.Prelude.{◌≡◌, [], IfOk, OnOk, OnErr, IfSome, IfNone};
-ghost use Rattle.std.specs.FinMap.{get, remove};
+ghost use Rattle.std.specs.Prelude.{◌≡◌, ◌≤◌, ℕ, ℤ, length, [], IfOk, OnOk, OnErr, IfSome, IfNone};
+ghost use Rattle.std.specs.List.{remove_range as range_removed};
+ghost use Rattle.std.specs.FinMap.{get, len, remove};
 ghost use Rattle.blocks.specs.Blocks.{Blocks, Changes, Owned, Served};
+ghost use Rattle.rehash_dict.specs.Keyed.{Keyed};
+ghost use Rattle.rehash_dict.specs.Steps.{Holds};
 ghost use Rattle.rehash_dict.specs.Tables.{IsSettled, shrunk, wants_shrink};
-ghost use Rattle.score_table.specs.Scored.{IsScoreTable, IsChanged, scores, refs, tables};
+ghost use Rattle.score_table.specs.Scored.{IsScoreTable, IsChanged, Forgets, LeavesRange, scores, refs, table_of, tables};
 
 use crate::ScoreTable;
-use blocks::{BlockStore, Memory};
+use blocks::{BlockRef, BlockStore, Memory};
 use collection_walk::end_table;
+use rehash_dict::Dict;
+use score_list::Scores;
+
+// Takes the member that a block holds out of a dictionary, and gives its block back.
+fn forget<B: BlockStore>(table: &mut Dict<i64>, store: &mut B, member: BlockRef)
+    requires keyed { Keyed (B.blocks store.old) table.old }
+    requires there { (at : ℕ) × (score : ℤ) × Holds table.old at member score }
+    ensures forgets { Forgets (B.blocks store.old) (B.blocks store.new) table.old table.new member }
+    ensures served { Served B.step store.old store.new }
+{
+    let bytes = store.bytes(member);
+    match table.remove(store, bytes) {
+        Some((taken, _score)) => store.give_back(taken),
+        None => unreachable!(),
+    }
+}
+
+// Takes the members from a rank of the list to below another one out of the dictionary, and gives their blocks back. The list keeps
+// them.
+fn forget_range<B: BlockStore>(
+    table: &mut Dict<i64>,
+    list: &Scores,
+    store: &mut B,
+    from: usize,
+    to: usize,
+)
+    requires sound { IsScoreTable (B.blocks store.old) (table_of table.old list.now) }
+    requires order { from ≤ to }
+    requires inside { to ≤ length list.now }
+    ensures leaves { LeavesRange (B.blocks store.old) (B.blocks store.new) (table_of table.old list.now) (table_of table.new (range_removed list.now from to)) from to }
+    ensures served { Served B.step store.old store.new }
+{
+    let mut next = list.cursor(from);
+    for _ in from..to {
+        match next {
+            None => unreachable!(),
+            Some(cursor) => {
+                let (_, member) = cursor.get();
+                forget(table, store, member);
+                next = cursor.next();
+            }
+        }
+    }
+}
 
 impl ScoreTable {
     /// Takes a member out, gives its block back, and answers its score. `None` comes exactly where it isn't there. It takes no memory.
@@ -28,6 +75,19 @@ impl ScoreTable {
             }
             None => None,
         }
+    }
+
+    /// Takes the members from a rank to below another one out, and gives their blocks back. Their place in the order is found once. It takes
+    /// no memory.
+    pub fn take_range<B: BlockStore>(&mut self, store: &mut B, from: usize, to: usize)
+        requires sound { IsScoreTable (B.blocks store.old) self.old }
+        requires order { from ≤ to }
+        requires inside { to ≤ len (scores (B.blocks store.old) self.old) }
+        ensures leaves { LeavesRange (B.blocks store.old) (B.blocks store.new) self.old self.new from to }
+        ensures served { Served B.step store.old store.new }
+    {
+        forget_range(&mut self.table, &self.list, store, from, to);
+        self.list.remove_range(from, to);
     }
 
     /// Begins a rehash of the dictionary to a smaller table where none is going on, there are more than 4 buckets, and ten times the

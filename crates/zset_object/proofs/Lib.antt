@@ -3,6 +3,7 @@ pub mod Keys
 pub mod Forms
 pub mod Bodies
 pub mod Placing
+pub mod Ranges
 pub mod Listed
 pub mod Walks
 pub mod Copies

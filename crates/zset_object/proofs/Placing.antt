@@ -237,16 +237,6 @@ placed_then a b c seed t u s w p q = record {
   grown = grown_then (hash_of seed) table.no_tables (table.tables b t) (table.tables c u) p.grown (subst (λ n. Grown (hash_of n) (table.tables b t) (table.tables c u)) p.sound.seed_is q.grown);
 }
 
--- one change of a table of scores and then another are one change, to the scores of the second
-pub table_then : (a b c : Blocks) (t u v : ScoreTable) (s w : ScoreMap) → table.IsChanged a b t u s → table.IsChanged b c u v w → table.IsChanged a c t v w
-table_then a b c t u v s w p q = record {
-  sound = q.sound;
-  scores_are = q.scores_are;
-  changes = changes_then a b c (table.refs t) (table.refs u) (table.refs v) p.changes q.changes;
-  grown = grown_then (hash_of (table.seed_of t)) (table.tables a t) (table.tables b u) (table.tables c v) p.grown (subst (λ n. Grown (hash_of n) (table.tables b u) (table.tables c v)) p.seed q.grown);
-  seed = q.seed ∙ p.seed;
-}
-
 -- a placed table of scores is a placed body of the same scores
 pub table_body : (m n : Blocks) (limits : Limits) (seed : ℕ) (t : ScoreTable) (map : ScoreMap) → IsPlacedTable m n seed t map → IsPlacedBody m n limits seed (Table t) map
 table_body m n limits seed t map h = record { sound = h.sound; scores_are = h.scores_are; changes = h.changes; grown = h.grown }

@@ -1,7 +1,7 @@
 // Members and scores that are packed in the bytes of one block, in order.
 
 ghost use Rattle.std.specs.Prelude.{◌≡◌, ℕ, ◌+◌, ◌≤◌, None, Some, IfOk, MatchOption, length, max, slice_get};
-ghost use Rattle.std.specs.List.{insert as inserted};
+ghost use Rattle.std.specs.List.{insert as inserted, remove_range as range_removed};
 ghost use Rattle.std.specs.FinMap.{get, insert};
 ghost use Rattle.int_text.specs.Decimal.{IsI64Text, canonical};
 ghost use Rattle.listpack.specs.Element.{element_text};
@@ -13,7 +13,7 @@ ghost use Rattle.zset_object.specs.Packed.{IsScorePack, IsIndex, keys_in, scores
 use blocks::Memory;
 use int_text::read_i64;
 use itoa::Buffer;
-use listpack::Element;
+use listpack::{Element, remove_range};
 use pack_pairs::{find, first, first_place, put_pair, second, step, text, without};
 use std::alloc::Global;
 use std::cmp::Ordering;
@@ -170,4 +170,22 @@ pub(crate) fn pack_with(
             with_member(all, score, member)
         }
     }
+}
+
+/// A copy of the listpack without the pairs from an index to below another one.
+pub(crate) fn without_range(
+    alloc: Global,
+    bytes: &[u8],
+    from: usize,
+    to: usize,
+) -> Result<Vec<u8>, Memory>
+    requires pack { IsPairPack bytes.now }
+    requires order { from ≤ to }
+    requires inside { to ≤ length (pairs bytes.now) }
+    ensures pack { IfOk result (λ new. IsPairPack new.items) }
+    ensures list { IfOk result (λ new. pairs new.items ≡ range_removed (pairs bytes.now) from to) }
+{
+    let mut pack = Vec::from_slice(alloc, bytes)?;
+    remove_range(&mut pack, 2 * from, 2 * to);
+    Ok(pack)
 }

@@ -1,74 +1,94 @@
-use Rattle.std.proofs.Common.{◌≡◌, refl, sym, ap, ◌∙◌, arith, length, take, drop, ◌-◌, ◌+◌, ◌<◌, suc}
+use Rattle.std.proofs.Common.{◌≡◌, ◌+◌, refl, sym, ap, ◌∙◌, arith, length, take, drop}
+use Rattle.std.specs.Prelude.{slice_range}
 use Rattle.std.specs.FinMap.{len}
-use Rattle.blocks.specs.Blocks.{Served}
-use Rattle.blocks.proofs.Change.{changes_same, changes_then}
-use Rattle.blocks.proofs.Serve.{served_then}
+use Rattle.blocks.specs.Blocks.{no_step}
+use Rattle.blocks.proofs.Change.{changes_same}
+use Rattle.score_table.specs.Ranking.{without_each}
 use Rattle.zset_object.specs.Scored.{scores, ranked}
 use Rattle.zset_object.proofs.Depends.{scored_laws_hold}
 use Rattle.plain_model.specs.ZsetSteps.{members_of, met, without_members}
-use Rattle.cmd_zsets.proofs.Rests.{settings_then}
-use Rattle.cmd_zsets.proofs.Dropping.{takes_on, takes_none}
+use Rattle.cmd_zsets.specs.Spans.{start_of}
+use Rattle.cmd_zsets.proofs.Dropping.{takes_none, span_gone}
+use Rattle.cmd_zsets.proofs.Reaches.{start_inside}
+use Rattle.cmd_zsets.proofs.Removed.{range_keeps, range_is}
 use Rattle.cmd_zsets.proofs.popping.take_span.Goals as goal
 
-pub loop-init : goal.loop-init
-loop-init g c =
+pub returns-then-span-eq0-clause-settings : goal.returns-then-span-eq0-clause-settings
+returns-then-span-eq0-clause-settings g c = record { limits = refl; seed = refl }
+
+pub returns-then-span-eq0-clause-is : goal.returns-then-span-eq0-clause-is
+returns-then-span-eq0-clause-is g c =
     let m = g.B.BlockStore.blocks c.args.store.now in
     let span = c.args.span in
     let list = drop span.start (met span.from (ranked m c.args.zset.now)) in
-    let same = scored_laws_hold.counted m c.args.zset.now c.requires.sound in
-    let whole : span.count - 0 ≡ span.count = omega arith in
-    record {
-      sound = c.requires.sound;
-      settings = record { limits = refl; seed = refl };
-      many = omega (arith, c.requires.inside, same);
-      is = ap (λ n. without_members (scores m c.args.zset.now) (members_of (take n list))) whole;
-      form = refl;
-      changes = changes_same _ _ c.requires.sound.owned;
-      served = Served.no_step;
-    }
+    sym (takes_none (scores m c.args.zset.now) list) ∙ ap (λ n. without_members (scores m c.args.zset.now) (members_of (take n list))) (sym c.if-span-eq0.true)
 
-pub take_met-requires-clause-inside : goal.take_met-requires-clause-inside
-take_met-requires-clause-inside g c =
-    let same = scored_laws_hold.counted (g.B.BlockStore.blocks c.loop.store) c.loop.zset c.loop.invariant.sound in
-    omega (arith, same, c.loop.invariant.many, c.loop-test.true)
+pub returns-then-span-eq0-clause-changes : goal.returns-then-span-eq0-clause-changes
+returns-then-span-eq0-clause-changes g c = changes_same _ _ c.requires.sound.owned
 
-pub returns-in_err-take_met-clause-settings : goal.returns-in_err-take_met-clause-settings
-returns-in_err-take_met-clause-settings g c = settings_then _ _ _ c.loop.invariant.settings c.take_met.ensures.settings
+pub returns-then-span-eq0-clause-served : goal.returns-then-span-eq0-clause-served
+returns-then-span-eq0-clause-served g c = no_step
 
-pub returns-in_err-take_met-clause-form : goal.returns-in_err-take_met-clause-form
-returns-in_err-take_met-clause-form g c = c.take_met.ensures.form ∙ c.loop.invariant.form
+pub overflow_add-high : goal.overflow_add-high
+overflow_add-high g c = omega (arith, c.len-len.ensures (g.B.BlockStore.blocks c.args.store.now) c.requires.sound, c.requires.inside)
 
-pub returns-in_err-take_met-clause-changes : goal.returns-in_err-take_met-clause-changes
-returns-in_err-take_met-clause-changes g c = changes_then _ _ _ _ _ _ c.loop.invariant.changes c.take_met.ensures.changes
+pub start_met-low-requires : goal.start_met-low-requires
+start_met-low-requires g c = omega (arith, c.len-len.ensures (g.B.BlockStore.blocks c.args.store.now) c.requires.sound, c.requires.inside)
 
-pub returns-in_err-take_met-clause-served : goal.returns-in_err-take_met-clause-served
-returns-in_err-take_met-clause-served g c = served_then _ _ _ c.loop.invariant.served c.take_met.ensures.served
-
-pub loop-preserved : goal.loop-preserved
-loop-preserved g c =
-    let blocks = g.B.BlockStore.blocks in
+pub overflow_add-end : goal.overflow_add-end
+overflow_add-end g c =
     let span = c.args.span in
-    let now = scores (blocks c.loop.store) c.loop.zset in
-    let then = scores (blocks c.take_met.new.store) c.take_met.new.zset in
-    let list = drop span.start (met span.from (ranked (blocks c.loop.store) c.loop.zset)) in
-    let rest = drop span.start (met span.from (ranked (blocks c.take_met.new.store) c.take_met.new.zset)) in
-    let left = span.count - (c.loop.counter + 1) in
-    let t = c.in_ok-take_met.ensures.taken in
-    let one : suc left ≡ span.count - c.loop.counter = omega (arith, c.loop-test.true) in
-    record {
-      sound = c.take_met.ensures.sound;
-      settings = settings_then _ _ _ c.loop.invariant.settings c.take_met.ensures.settings;
-      many = omega (arith, c.loop.invariant.many, t.shorter);
-      is = takes_on now then left t.taken list rest t.there t.is ∙ ap (λ n. without_members now (members_of (take n list))) one ∙ c.loop.invariant.is;
-      form = c.take_met.ensures.form ∙ c.loop.invariant.form;
-      changes = changes_then _ _ _ _ _ _ c.loop.invariant.changes c.take_met.ensures.changes;
-      served = served_then _ _ _ c.loop.invariant.served c.take_met.ensures.served;
-    }
+    let many = c.len-len.ensures (g.B.BlockStore.blocks c.args.store.now) c.requires.sound in
+    omega (
+      arith,
+      many,
+      c.requires.inside,
+      start_inside span.from c.len-len.result span.start (span.start + span.count) c.start_met-low.result (omega arith) (omega (arith, many, c.requires.inside)) c.start_met-low.ensures,
+    )
+
+pub remove_range-requires-clause-inside : goal.remove_range-requires-clause-inside
+remove_range-requires-clause-inside g c =
+    let span = c.args.span in
+    let many = c.len-len.ensures (g.B.BlockStore.blocks c.args.store.now) c.requires.sound in
+    omega (
+      arith,
+      many,
+      c.requires.inside,
+      start_inside span.from c.len-len.result span.start (span.start + span.count) c.start_met-low.result (omega arith) (omega (arith, many, c.requires.inside)) c.start_met-low.ensures,
+    )
+
+pub returns-clause-sound : goal.returns-clause-sound
+returns-clause-sound g c =
+    let blocks = g.B.BlockStore.blocks in
+    let e = c.remove_range.ensures in
+    (range_keeps (blocks c.args.store.now) (blocks c.remove_range.new.store) c.args.zset.now c.remove_range.new.self c.requires.sound _ c.remove_range.result e.removed e.err_scored e.err_blocks
+    e.err_removed).sound
+
+pub returns-clause-settings : goal.returns-clause-settings
+returns-clause-settings g c =
+    let blocks = g.B.BlockStore.blocks in
+    let e = c.remove_range.ensures in
+    (range_keeps (blocks c.args.store.now) (blocks c.remove_range.new.store) c.args.zset.now c.remove_range.new.self c.requires.sound _ c.remove_range.result e.removed e.err_scored e.err_blocks
+    e.err_removed).settings
+
+pub returns-clause-changes : goal.returns-clause-changes
+returns-clause-changes g c =
+    let blocks = g.B.BlockStore.blocks in
+    let e = c.remove_range.ensures in
+    (range_keeps (blocks c.args.store.now) (blocks c.remove_range.new.store) c.args.zset.now c.remove_range.new.self c.requires.sound _ c.remove_range.result e.removed e.err_scored e.err_blocks
+    e.err_removed).changes
 
 pub returns-clause-is : goal.returns-clause-is
 returns-clause-is g c =
+    let m = g.B.BlockStore.blocks c.args.store.now in
+    let n = g.B.BlockStore.blocks c.remove_range.new.store in
     let span = c.args.span in
-    let now = scores (g.B.BlockStore.blocks c.loop.store) c.loop.zset in
-    let list = drop span.start (met span.from (ranked (g.B.BlockStore.blocks c.loop.store) c.loop.zset)) in
-    let none : span.count - c.loop.counter ≡ 0 = omega (arith, c.loop-test.false) in
-    sym (takes_none now list) ∙ ap (λ n. without_members now (members_of (take n list))) (sym none) ∙ c.loop.invariant.is
+    let zset = c.args.zset.now in
+    let list = ranked m zset in
+    let counted : length list ≡ len (scores m zset) = scored_laws_hold.counted m zset c.requires.sound in
+    let size : c.len-len.result ≡ length list = c.len-len.ensures m c.requires.sound ∙ sym counted in
+    let end = c.start_met-low.result + span.count in
+    range_is m n zset c.remove_range.new.self c.requires.sound (without_each (scores m zset) (slice_range list c.start_met-low.result end)) c.remove_range.result _
+    (span_gone (scores m zset) span.from list span.start span.count c.start_met-low.result end (omega (arith, counted, c.requires.inside))
+    (c.start_met-low.ensures ∙ ap (λ n. start_of span.from n span.start (span.start + span.count)) size) refl)
+    c.remove_range.ensures.removed

@@ -1,5 +1,5 @@
 use Rattle.std.proofs.Common.{◌∙◌}
-use Rattle.zset_object.proofs.Placing.{table_then}
+use Rattle.score_table.proofs.Edits.{changed_then}
 use Rattle.zset_object.proofs.removing.take_out.Goals as goal
 
 pub returns-in_ok-shrink-in-Some-clause-removed : goal.returns-in_ok-shrink-in-Some-clause-removed
@@ -10,8 +10,8 @@ returns-in_ok-shrink-in-Some-clause-removed g c =
     λ _. record {
       sound = q.sound;
       scores_are = q.scores_are ∙ c.in-Some.ensures.removed.scores_are;
-      changes = (table_then m n n c.args.table.now c.take_out.new.self c.shrink.new.self _ _ c.in-Some.ensures.removed q).changes;
-      grown = (table_then m n n c.args.table.now c.take_out.new.self c.shrink.new.self _ _ c.in-Some.ensures.removed q).grown;
+      changes = (changed_then m n n c.args.table.now c.take_out.new.self c.shrink.new.self _ _ c.in-Some.ensures.removed q).changes;
+      grown = (changed_then m n n c.args.table.now c.take_out.new.self c.shrink.new.self _ _ c.in-Some.ensures.removed q).grown;
       seed = q.seed ∙ c.in-Some.ensures.removed.seed;
     }
 
