@@ -17,7 +17,7 @@ use Rattle.held.specs.Calls.{HasOnly}
 use Rattle.keyspace.specs.Calls.{Lifts, IsPlace, AreParts}
 use Rattle.keyspace.specs.Commands.{seen}
 use Rattle.keyspace.specs.Scopes.{one_key, Within}
-use Rattle.keyspace.proofs.Uses.{lower_intact, lower_sound, lower_has, lower_within, Lower-means}
+use Rattle.keyspace.proofs.Uses.{lower_intact, lower_sound, lower_has, lower_within, lower_means}
 use Rattle.cmd_values.specs.Found.{Becomes, IsThere, IsString}
 
 -- the string of a value, and of what stands at a key
@@ -62,7 +62,7 @@ module _ (at : Ctx) (old mid : Bases) (m own after : Blocks) (key : List ℕ) (l
         → (next : List ℕ → List ℕ) → text_bytes after changed ≡ next (text_bytes own text)
         → Becomes (seen at old m) key next (seen at new later)
     text_becomes clause next e bytes there =
-        let world = Lower-means old mid m after at.db at.moment key lifted lowered [] lifts sound changes refl refl new clause in
+        let world = lower_means old mid m after at.db at.moment key lifted lowered [] lifts sound changes refl refl new clause in
         let deadline : lifts.deadline ≡ deadline_of (look (seen at old m) key) = sym (ap deadline_of lifts.stands) in
         let was : text_bytes own text ≡ bytes = ap (λ b. text_bytes b text) same ∙ ap (λ v. value_string (value_of m v)) (sym is) ∙ sym (ap string_of lifts.stands) ∙ ap string_of there.stands in
         ap (λ b. live (means at.db new b) at.moment) stays ∙ world

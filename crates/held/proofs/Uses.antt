@@ -132,11 +132,11 @@ module _ {V : Type 0} {IsSound : Limits → ℕ → Blocks → V → Type 0} (re
           (subst (λ d. Within refs_of (one_key d key) mid new after after) (same_db ∙ lifts.same_db) (clause key lifts.deadline place)))
 
       -- from the clause `means` of `lower`: the value stands at the key, with the deadline that was there
-      pub Lower-means :
+      pub lower_means :
           ((k : List ℕ) (deadline : Option ℕ) → IsPlace mid after changed.db changed.item k deadline
           → means value_of changed.db new after ≡ put (means value_of changed.db mid after) k (record { value = value_of after changed.value; deadline = deadline }))
           → model.live (means value_of db new after) moment ≡ put (model.live (means value_of db old m) moment) key (record { value = value_of after changed.value; deadline = lifts.deadline })
-      Lower-means clause =
+      lower_means clause =
           let entry : Entry = record { value = value_of after changed.value; deadline = lifts.deadline } in
           ap (λ w. model.live w moment)
           (subst (λ d. means value_of d new after ≡ put (means value_of d mid after) key entry) (same_db ∙ lifts.same_db) (clause key lifts.deadline place)

@@ -12,7 +12,7 @@ use Rattle.keyspace.specs.Sound.{IsIntactWith, Sound, SoundBeside}
 use Rattle.keyspace.specs.Scopes.{one_key, Within}
 use Rattle.keyspace.specs.Calls.{Lifted, IsPlace, Lifts, AreParts}
 use Rattle.keyspace.specs.Commands.{seen}
-use Rattle.keyspace.proofs.Uses.{lower_intact, lower_sound, lower_has, lower_within, Lower-means}
+use Rattle.keyspace.proofs.Uses.{lower_intact, lower_sound, lower_has, lower_within, lower_means}
 
 module _ (at : Ctx) (old mid : Bases) (m own after : Blocks) (key : List ℕ) (lifted : Lifted) (value : Value) (same : own ≡ m)
     (lifts : Lifts old mid m at.db key at.moment lifted) (sound : SoundBeside mid m (value_refs m lifted.value ++ []))
@@ -48,5 +48,5 @@ module _ (at : Ctx) (old mid : Bases) (m own after : Blocks) (key : List ℕ) (l
         → seen at new later ≡ put (seen at old m) key (record { value = value_of later value; deadline = lifts.deadline })
     edit_means clause =
         ap (λ b. live (means at.db new b) at.moment) stays
-        ∙ Lower-means old mid m after at.db at.moment key lifted lowered [] lifts sound changes refl refl new clause
+        ∙ lower_means old mid m after at.db at.moment key lifted lowered [] lifts sound changes refl refl new clause
         ∙ ap (λ b. put (seen at old m) key (record { value = value_of b value; deadline = lifts.deadline })) (sym stays)

@@ -116,11 +116,11 @@ module _ (old mid : Bases) (m after : Blocks) (db moment : ℕ) (key : List ℕ)
     lower_within = held.lower_within value_refs value_of value_own old mid m after db moment key lifted changed out vacant lifts sound p same_db same_item new
 
     -- from the clause `means` of `lower`: the value stands at the key, with the deadline that was there
-    pub Lower-means :
+    pub lower_means :
         ((k : List ℕ) (deadline : Option ℕ) → IsPlace mid after changed.db changed.item k deadline
         → means changed.db new after ≡ put (means changed.db mid after) k (record { value = value_of after changed.value; deadline = deadline }))
         → model.live (means db new after) moment ≡ put (model.live (means db old m) moment) key (record { value = value_of after changed.value; deadline = lifts.deadline })
-    Lower-means = held.Lower-means value_refs value_of value_own old mid m after db moment key lifted changed out vacant lifts sound p same_db same_item new
+    lower_means = held.lower_means value_refs value_of value_own old mid m after db moment key lifted changed out vacant lifts sound p same_db same_item new
 
 -- ---- strings: from what a call on the text of a lifted value asks and says
 

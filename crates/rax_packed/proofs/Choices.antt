@@ -41,8 +41,8 @@ pub parts_at : (node : Node) (prefix key : List ℕ) (shared : ℕ) → prefix_i
 parts_at node prefix key shared is within upto alike apart =
     record {
       begin = take shared prefix;
-      own = get_or prefix shared 0;
-      own_rest = drop (suc shared) prefix;
+      node_byte = get_or prefix shared 0;
+      node_rest = drop (suc shared) prefix;
       other = get_or key shared 0;
       other_rest = drop (suc shared) key;
       prefix_is = is ∙ split_at prefix shared 0 within;

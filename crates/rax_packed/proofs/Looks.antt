@@ -58,26 +58,26 @@ node_side o key below (Inner prefix links) h = links_side o prefix key below lin
 
 -- where a key parts from a node's prefix, all of its keys come before it, or all after it
 pub parts_side : (levels : ℕ) (b : Blocks) (at : BlockRef) (key : List ℕ) (shared : ℕ) (parts : PartsAt (node_at b at) key shared)
-    → ((parts.own < parts.other) × All Less key (entries (suc levels) b at)) ⊎ ((parts.other < parts.own) × All Greater key (entries (suc levels) b at))
+    → ((parts.node_byte < parts.other) × All Less key (entries (suc levels) b at)) ⊎ ((parts.other < parts.node_byte) × All Greater key (entries (suc levels) b at))
 unfolding entries
 parts_side levels b at key shared parts =
     let begin = parts.begin in
-    let split : (rest : List ℕ) → prefix_in (node_at b at) ++ rest ≡ begin ++ parts.own ∷ (parts.own_rest ++ rest) = λ rest. ap (λ xs. xs ++ rest) parts.prefix_is
-    ∙ append_assoc begin (parts.own ∷ parts.own_rest) rest in
-    elim (cases_order parts.own parts.other) [
+    let split : (rest : List ℕ) → prefix_in (node_at b at) ++ rest ≡ begin ++ parts.node_byte ∷ (parts.node_rest ++ rest) = λ rest. ap (λ xs. xs ++ rest) parts.prefix_is
+    ∙ append_assoc begin (parts.node_byte ∷ parts.node_rest) rest in
+    elim (cases_order parts.node_byte parts.other) [
       | inl less ↦ inl (
         less,
         node_side Less key (entries levels b) (node_at b at)
-            (λ rest. ap (λ xs. order xs key) (split rest) ∙ ap (order (begin ++ parts.own ∷ (parts.own_rest ++ rest))) parts.key_is
-            ∙ order_less_in_keys begin (parts.own_rest ++ rest) parts.other_rest parts.own parts.other less),
+            (λ rest. ap (λ xs. order xs key) (split rest) ∙ ap (order (begin ++ parts.node_byte ∷ (parts.node_rest ++ rest))) parts.key_is
+            ∙ order_less_in_keys begin (parts.node_rest ++ rest) parts.other_rest parts.node_byte parts.other less),
       )
       | inr upto ↦ elim upto [
         | inl same ↦ absurd (parts.apart same)
         | inr more ↦ inr (
           more,
           node_side Greater key (entries levels b) (node_at b at)
-              (λ rest. ap (λ xs. order xs key) (split rest) ∙ ap (order (begin ++ parts.own ∷ (parts.own_rest ++ rest))) parts.key_is
-              ∙ order_greater_in_keys begin (parts.own_rest ++ rest) parts.other_rest parts.own parts.other more),
+              (λ rest. ap (λ xs. order xs key) (split rest) ∙ ap (order (begin ++ parts.node_byte ∷ (parts.node_rest ++ rest))) parts.key_is
+              ∙ order_greater_in_keys begin (parts.node_rest ++ rest) parts.other_rest parts.node_byte parts.other more),
         )
       ]
     ]

@@ -138,14 +138,14 @@ module _ (b : Blocks) (at : BlockRef) (bytes rest : List ℕ) (nodes : ℕ) (t :
       ∙ whole_node (length rest) b nodes at
 
   -- all entries stand on one side of a key that leaves the node's prefix
-  side : (shared : ℕ) (parts : PartsAt (node_of bytes) rest shared) → ((parts.own < parts.other) × All Less rest (entries_at (length rest) b at))
-      ⊎ ((parts.other < parts.own) × All Greater rest (entries_at (length rest) b at))
+  side : (shared : ℕ) (parts : PartsAt (node_of bytes) rest shared) → ((parts.node_byte < parts.other) × All Less rest (entries_at (length rest) b at))
+      ⊎ ((parts.other < parts.node_byte) × All Greater rest (entries_at (length rest) b at))
   side shared parts =
       parts_side (length rest) b at rest shared
       (record {
         begin = parts.begin;
-        own = parts.own;
-        own_rest = parts.own_rest;
+        node_byte = parts.node_byte;
+        node_rest = parts.node_rest;
         other = parts.other;
         other_rest = parts.other_rest;
         prefix_is = ap prefix_in (node_read b at bytes read)
@@ -156,7 +156,7 @@ module _ (b : Blocks) (at : BlockRef) (bytes rest : List ℕ) (nodes : ℕ) (t :
       })
 
   -- where the key's byte comes before the node's, all keys are wanted
-  pub from_all : (shared : ℕ) (parts : PartsAt (node_of bytes) rest shared) → parts.other < parts.own
+  pub from_all : (shared : ℕ) (parts : PartsAt (node_of bytes) rest shared) → parts.other < parts.node_byte
       → costs_from (costs_at (length rest) b nodes at) rest ≡ costs_in (costs (length rest) b) nodes (aside true 0 (node_at b at))
   from_all shared parts ahead = elim (side shared parts) [
     | inl low ↦ absurd (omega (arith, low.0))
@@ -164,7 +164,7 @@ module _ (b : Blocks) (at : BlockRef) (bytes rest : List ℕ) (nodes : ℕ) (t :
   ]
 
   -- and else none
-  pub from_none : (shared : ℕ) (parts : PartsAt (node_of bytes) rest shared) → parts.own ≤ parts.other → costs_from (costs_at (length rest) b nodes at) rest ≡ []
+  pub from_none : (shared : ℕ) (parts : PartsAt (node_of bytes) rest shared) → parts.node_byte ≤ parts.other → costs_from (costs_at (length rest) b nodes at) rest ≡ []
   from_none shared parts behind = elim (side shared parts) [
     | inl low ↦ from_dropped rest (costs_at (length rest) b nodes at) (tree_alike Less rest (suc (length rest)) b nodes at low.1)
     | inr high ↦ absurd (omega (arith, high.0))

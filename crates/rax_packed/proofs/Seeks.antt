@@ -26,16 +26,16 @@ use Rattle.rax_packed.proofs.Looks.{Split, node_read, parts_side, link_below}
 use Rattle.rax_packed.proofs.Steps.{split, below_is}
 
 -- the byte at which a node's prefix parts from the key
-pub own_byte : (rest : ℕ) (bytes key : List ℕ) (shared : ℕ) → IsNode rest bytes → (parts : PartsAt (node_of bytes) key shared) → (2 + shared < length bytes) × (get_or bytes (2 + shared) 0 ≡ parts.own)
+pub own_byte : (rest : ℕ) (bytes key : List ℕ) (shared : ℕ) → IsNode rest bytes → (parts : PartsAt (node_of bytes) key shared) → (2 + shared < length bytes) × (get_or bytes (2 + shared) 0 ≡ parts.node_byte)
 own_byte rest bytes key shared node parts =
-    let prefix : prefix_from bytes ≡ parts.begin ++ parts.own ∷ parts.own_rest = sym (prefix_told rest bytes node) ∙ parts.prefix_is in
-    let long : length (prefix_from bytes) ≡ shared + suc (length parts.own_rest) = ap length prefix ∙ length-append parts.begin (parts.own ∷ parts.own_rest)
-    ∙ ap (λ n. n + suc (length parts.own_rest)) parts.many in
+    let prefix : prefix_from bytes ≡ parts.begin ++ parts.node_byte ∷ parts.node_rest = sym (prefix_told rest bytes node) ∙ parts.prefix_is in
+    let long : length (prefix_from bytes) ≡ shared + suc (length parts.node_rest) = ap length prefix ∙ length-append parts.begin (parts.node_byte ∷ parts.node_rest)
+    ∙ ap (λ n. n + suc (length parts.node_rest)) parts.many in
     let room = parts_within rest bytes node in
     let told = prefix_len rest bytes node in (
       omega arith,
       sym (get_or-take (slice_index bytes 1) (drop 2 bytes) shared 0 (omega arith) ∙ get_or-drop 2 bytes shared 0) ∙ ap (λ p. get_or p shared 0) prefix
-          ∙ get_or_at parts.begin parts.own parts.own_rest 0 shared parts.many,
+          ∙ get_or_at parts.begin parts.node_byte parts.node_rest 0 shared parts.many,
     )
 
 -- the byte at which the key parts from a node's prefix stands in it behind those that they share
@@ -80,15 +80,15 @@ module _ (up : Bool) (b : Blocks) (at : BlockRef) (bytes rest front : List ℕ) 
   parts_at shared parts = subst (λ node. PartsAt node rest shared) (sym (node_read b at bytes read)) parts
 
   -- where the key leaves the prefix and its byte comes before the node's, the entry at the tree's end is nearest
-  pub sought_all : (shared : ℕ) (parts : PartsAt (node_of bytes) rest shared) → IsByteAhead up parts.other parts.own
+  pub sought_all : (shared : ℕ) (parts : PartsAt (node_of bytes) rest shared) → IsByteAhead up parts.other parts.node_byte
       → nearest up (entries_at (length rest) b at) rest ≡ end_of up (entries_at (length rest) b at)
   sought_all shared parts ahead = by_side up (parts_side (length rest) b at rest shared whole) ahead
     where
       whole : PartsAt (node_at b at) rest shared
       whole = record {
         begin = parts.begin;
-        own = parts.own;
-        own_rest = parts.own_rest;
+        node_byte = parts.node_byte;
+        node_rest = parts.node_rest;
         other = parts.other;
         other_rest = parts.other_rest;
         prefix_is = ap prefix_in (node_read b at bytes read)
@@ -98,22 +98,22 @@ module _ (up : Bool) (b : Blocks) (at : BlockRef) (bytes rest front : List ℕ) 
         many = parts.many;
       }
 
-      by_side : (u : Bool) → ((parts.own < parts.other) × All Less rest (entries_at (length rest) b at)) ⊎ ((parts.other < parts.own) × All Greater rest (entries_at (length rest) b at))
-          → IsByteAhead u parts.other parts.own → nearest u (entries_at (length rest) b at) rest ≡ end_of u (entries_at (length rest) b at)
+      by_side : (u : Bool) → ((parts.node_byte < parts.other) × All Less rest (entries_at (length rest) b at)) ⊎ ((parts.other < parts.node_byte) × All Greater rest (entries_at (length rest) b at))
+          → IsByteAhead u parts.other parts.node_byte → nearest u (entries_at (length rest) b at) rest ≡ end_of u (entries_at (length rest) b at)
       by_side true (inl low) ahead = absurd (omega (arith, low.0))
       by_side true (inr high) ahead = nearest_greater true rest (entries_at (length rest) b at) high.1
       by_side false (inl low) ahead = nearest_less false rest (entries_at (length rest) b at) low.1
       by_side false (inr high) ahead = absurd (omega (arith, high.0))
 
   -- where the key leaves the prefix and its byte doesn't come before the node's, no entry of the tree is nearest
-  pub sought_none : (shared : ℕ) (parts : PartsAt (node_of bytes) rest shared) → (IsByteAhead up parts.other parts.own → ⊥) → nearest up (entries_at (length rest) b at) rest ≡ None
+  pub sought_none : (shared : ℕ) (parts : PartsAt (node_of bytes) rest shared) → (IsByteAhead up parts.other parts.node_byte → ⊥) → nearest up (entries_at (length rest) b at) rest ≡ None
   sought_none shared parts not_ahead = by_side up (parts_side (length rest) b at rest shared whole) not_ahead
     where
       whole : PartsAt (node_at b at) rest shared
       whole = record {
         begin = parts.begin;
-        own = parts.own;
-        own_rest = parts.own_rest;
+        node_byte = parts.node_byte;
+        node_rest = parts.node_rest;
         other = parts.other;
         other_rest = parts.other_rest;
         prefix_is = ap prefix_in (node_read b at bytes read)
@@ -123,8 +123,8 @@ module _ (up : Bool) (b : Blocks) (at : BlockRef) (bytes rest front : List ℕ) 
         many = parts.many;
       }
 
-      by_side : (u : Bool) → ((parts.own < parts.other) × All Less rest (entries_at (length rest) b at)) ⊎ ((parts.other < parts.own) × All Greater rest (entries_at (length rest) b at))
-          → (IsByteAhead u parts.other parts.own → ⊥) → nearest u (entries_at (length rest) b at) rest ≡ None
+      by_side : (u : Bool) → ((parts.node_byte < parts.other) × All Less rest (entries_at (length rest) b at)) ⊎ ((parts.other < parts.node_byte) × All Greater rest (entries_at (length rest) b at))
+          → (IsByteAhead u parts.other parts.node_byte → ⊥) → nearest u (entries_at (length rest) b at) rest ≡ None
       by_side true (inl low) h = nearest_less true rest (entries_at (length rest) b at) low.1
       by_side true (inr high) h = absurd (h high.0)
       by_side false (inl low) h = absurd (h low.0)

@@ -160,7 +160,7 @@ module _ (b later : Blocks) (at leaf moved new : BlockRef) (key : List ℕ) (sha
     (parts : PartsAt (node_at b at) key shared)
     (changed : Swaps b later at (new ∷ moved ∷ leaf ∷ [])) (hangs : later leaf ≡ Some (spelled (Leaf parts.other_rest value)))
     (moves : later moved ≡ Some (spelled (shortened_by (suc (length parts.begin)) (node_at b at))))
-    (stands : later new ≡ Some (spelled (Inner parts.begin (fork_links parts.own moved parts.other leaf)))) (own_byte : parts.own < 256) (other_byte : parts.other < 256)
+    (stands : later new ≡ Some (spelled (Inner parts.begin (fork_links parts.node_byte moved parts.other leaf)))) (own_byte : parts.node_byte < 256) (other_byte : parts.other < 256)
     (moved_ref : IsRef moved) (leaf_ref : IsRef leaf) (valued : IsRef value) where
   -- the tree's references are the node's own and those below it
   node_refs : refs_at (length key) b at ≡ at ∷ refs_in (refs (length key) b) (node_at b at)
@@ -174,8 +174,8 @@ module _ (b later : Blocks) (at leaf moved new : BlockRef) (key : List ℕ) (sha
       changed.kept r (live_is_in_change b r (omega (arith, own r, all, is))) (other_than r at (omega (arith, own r, all, live_once b r, is)))
 
   -- the old node stands in the moved block with the end of its prefix alone, over the same trees
-  short : Shortened (length key) (length key - suc (length parts.begin)) b later at moved parts.begin parts.own
-  short = shortened (length key) b later at moved (node_at b at) parts.begin parts.own_rest parts.own t refl parts.prefix_is moves kept
+  short : Shortened (length key) (length key - suc (length parts.begin)) b later at moved parts.begin parts.node_byte
+  short = shortened (length key) b later at moved (node_at b at) parts.begin parts.node_rest parts.node_byte t refl parts.prefix_is moves kept
 
   -- the key's bytes behind the shared ones and one edge are as many as are left below the new node
   left_is : length parts.other_rest ≡ length key - suc (length parts.begin)
@@ -211,8 +211,8 @@ module _ (b later : Blocks) (at leaf moved new : BlockRef) (key : List ℕ) (sha
   hung = (let short = begin_short in leaf_many (length key) (omega arith))
 
   -- the entries of the shortened node, behind the bytes that its prefix lost, are those of the old tree
-  moved_entries : map (under (parts.begin ++ parts.own ∷ [])) (entries (length key) later moved) ≡ entries_at (length key) b at
-  moved_entries = ap (map (under (parts.begin ++ parts.own ∷ []))) lifted.entries_are ∙ sym short.entries_are
+  moved_entries : map (under (parts.begin ++ parts.node_byte ∷ [])) (entries (length key) later moved) ≡ entries_at (length key) b at
+  moved_entries = ap (map (under (parts.begin ++ parts.node_byte ∷ []))) lifted.entries_are ∙ sym short.entries_are
 
   -- the new leaf's entry, behind the shared bytes and the key's own one, is that of the key and the value
   leaf_entry : map (under (parts.begin ++ parts.other ∷ [])) (entries (length key) later leaf) ≡ (record { key = key; value = value }) ∷ []
@@ -233,8 +233,8 @@ module _ (b later : Blocks) (at leaf moved new : BlockRef) (key : List ℕ) (sha
   pub split_at : Becomes (length key) b later at new (with_entry (entries_at (length key) b at) key value)
   split_at = elim (parts_side (length key) b at key shared parts) [
     | inl low ↦
-        (let is = ap (λ ls. Some (spelled (Inner parts.begin ls))) (cond-true _ _ _ (lt-ltb parts.own parts.other low.0)) in
-        let fork = fork_at (length key) later new parts.begin parts.own moved parts.other leaf begin_short low.0 other_byte moved_ref leaf_ref lifted.tree hung.0 (stands ∙ is) in
+        (let is = ap (λ ls. Some (spelled (Inner parts.begin ls))) (cond-true _ _ _ (lt-ltb parts.node_byte parts.other low.0)) in
+        let fork = fork_at (length key) later new parts.begin parts.node_byte moved parts.other leaf begin_short low.0 other_byte moved_ref leaf_ref lifted.tree hung.0 (stands ∙ is) in
         record {
           tree = fork.tree;
           entries_are = fork.entries_are ∙ ap (λ xs. xs ++ map (under (parts.begin ++ parts.other ∷ [])) (entries (length key) later leaf)) moved_entries
@@ -243,11 +243,11 @@ module _ (b later : Blocks) (at leaf moved new : BlockRef) (key : List ℕ) (sha
               (λ r. omega (arith, times-append r (refs (length key) later moved) (refs (length key) later leaf), ap (times r) moved_refs, ap (times r) hung.2));
         })
     | inr high ↦
-        (let is = ap (λ ls. Some (spelled (Inner parts.begin ls))) (cond-false _ _ _ (le-ltb parts.own parts.other (let more = high.0 in omega arith))) in
-        let fork = fork_at (length key) later new parts.begin parts.other leaf parts.own moved begin_short high.0 own_byte leaf_ref moved_ref hung.0 lifted.tree (stands ∙ is) in
+        (let is = ap (λ ls. Some (spelled (Inner parts.begin ls))) (cond-false _ _ _ (le-ltb parts.node_byte parts.other (let more = high.0 in omega arith))) in
+        let fork = fork_at (length key) later new parts.begin parts.other leaf parts.node_byte moved begin_short high.0 own_byte leaf_ref moved_ref hung.0 lifted.tree (stands ∙ is) in
         record {
           tree = fork.tree;
-          entries_are = fork.entries_are ∙ ap (λ xs. xs ++ map (under (parts.begin ++ parts.own ∷ [])) (entries (length key) later moved)) leaf_entry
+          entries_are = fork.entries_are ∙ ap (λ xs. xs ++ map (under (parts.begin ++ parts.node_byte ∷ [])) (entries (length key) later moved)) leaf_entry
               ∙ ap (λ xs. (record { key = key; value = value }) ∷ xs) moved_entries ∙ sym (first_entry (entries_at (length key) b at) key value high.1);
           changes = done (refs (length key) later leaf ++ refs (length key) later moved) fork.refs_are
               (λ r. omega (arith, times-append r (refs (length key) later leaf) (refs (length key) later moved), ap (times r) moved_refs, ap (times r) hung.2));
@@ -263,19 +263,19 @@ pub record Ready (key seen : List ℕ) (shared own : ℕ) : Type 0 where
 
 -- after a leaf was put, the bytes of a node whose prefix a key leaves may be shortened there
 pub split_ready : (b b1 : Blocks) (at leaf : BlockRef) (key : List ℕ) (shared : ℕ) → IsTreeAt (length key) b at → length key ≤ 16 → (parts : PartsAt (node_at b at) key shared)
-    → Puts b b1 (leaf ∷ []) → (seen : List ℕ) → b1 at ≡ Some seen → Ready key seen shared parts.own
+    → Puts b b1 (leaf ∷ []) → (seen : List ℕ) → b1 at ≡ Some seen → Ready key seen shared parts.node_byte
 split_ready b b1 at leaf key shared t few parts puts seen read =
     let was : IsSome (b at) = tree_live (suc (length key)) (length key) b at t in
     let here : b at ≡ Some seen = sym (puts.kept at was) ∙ read in
     let node = tree_node (suc (length key)) (length key) b at seen t here in
-    let prefix : prefix_from seen ≡ parts.begin ++ parts.own ∷ parts.own_rest = sym (prefix_told (length key) seen node) ∙ ap prefix_in (sym (node_read b at seen here)) ∙ parts.prefix_is in
-    let long : length (prefix_from seen) ≡ shared + suc (length parts.own_rest) = ap length prefix ∙ length-append parts.begin (parts.own ∷ parts.own_rest)
-    ∙ ap (λ n. n + suc (length parts.own_rest)) parts.many in
+    let prefix : prefix_from seen ≡ parts.begin ++ parts.node_byte ∷ parts.node_rest = sym (prefix_told (length key) seen node) ∙ ap prefix_in (sym (node_read b at seen here)) ∙ parts.prefix_is in
+    let long : length (prefix_from seen) ≡ shared + suc (length parts.node_rest) = ap length prefix ∙ length-append parts.begin (parts.node_byte ∷ parts.node_rest)
+    ∙ ap (λ n. n + suc (length parts.node_rest)) parts.many in
     let room = parts_within (length key) seen node in
     let told = prefix_len (length key) seen node in
-    let byte : get_or seen (2 + shared) 0 ≡ parts.own =
+    let byte : get_or seen (2 + shared) 0 ≡ parts.node_byte =
     sym (get_or-take (slice_index seen 1) (drop 2 seen) shared 0 (omega arith) ∙ get_or-drop 2 seen shared 0) ∙ ap (λ p. get_or p shared 0) prefix
-    ∙ get_or_at parts.begin parts.own parts.own_rest 0 shared parts.many in
+    ∙ get_or_at parts.begin parts.node_byte parts.node_rest 0 shared parts.many in
     record { node = (length key, node, few); within = omega arith; from = omega arith; own_is = byte }
 
 -- what code splits
@@ -306,12 +306,12 @@ split_done b b1 b2 b3 later at leaf moved new key shared value t few own parts f
     let moves : later moved ≡ Some (spelled (shortened_by (suc (length parts.begin)) (node_at b at))) =
     ended_stays b b3 later at moved second (put_stays b2 b3 new moved third second (put_here b1 b2 moved second put2) fresh3 put3) was (fresh_before b b1 moved (leaf ∷ []) one_put fresh2) ended
     ∙ ap Some (second_is ∙ ap (λ n. spelled (shortened_by n (node_of again))) next ∙ ap (λ m. spelled (shortened_by (suc (length parts.begin)) m)) node) in
-    let stands : later new ≡ Some (spelled (Inner parts.begin (fork_links parts.own moved parts.other leaf))) =
+    let stands : later new ≡ Some (spelled (Inner parts.begin (fork_links parts.node_byte moved parts.other leaf))) =
     ended_stays b b3 later at new third (put_here b2 b3 new third put3) was (fresh_before b b2 new (moved ∷ leaf ∷ []) two_put fresh3) ended
     ∙ ap Some
     (third_is ∙ ap (λ p. spelled (Inner p (fork_links (get_or seen (2 + shared) 0) moved (get_or key shared 0) leaf))) begin
     ∙ ap (λ e. spelled (Inner parts.begin (fork_links e moved (get_or key shared 0) leaf))) ready.own_is
-    ∙ ap (λ e. spelled (Inner parts.begin (fork_links parts.own moved e leaf))) other) in
+    ∙ ap (λ e. spelled (Inner parts.begin (fork_links parts.node_byte moved e leaf))) other) in
     split_at b later at leaf moved new key shared value t own parts changed hangs moves stands (subst (λ e. e < 256) ready.own_is seen_small) (subst (λ e. e < 256) other (small shared))
     moved_ref leaf_ref valued
 

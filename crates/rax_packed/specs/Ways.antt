@@ -22,13 +22,13 @@ shortened_by from (Inner prefix links) = Inner (drop from prefix) links
 -- the key leaves the node's prefix behind so many bytes of it
 pub record PartsAt (node : Node) (key : List ℕ) (shared : ℕ) : Type 0 where
   pub begin : List ℕ
-  pub own : ℕ
-  pub own_rest : List ℕ
+  pub node_byte : ℕ
+  pub node_rest : List ℕ
   pub other : ℕ
   pub other_rest : List ℕ
-  pub prefix_is : prefix_in node ≡ begin ++ own ∷ own_rest
+  pub prefix_is : prefix_in node ≡ begin ++ node_byte ∷ node_rest
   pub key_is : key ≡ begin ++ other ∷ other_rest
-  pub apart : own ≡ other → ⊥
+  pub apart : node_byte ≡ other → ⊥
   pub many : length begin ≡ shared
 
 -- the key has all of an inner node's prefix, and goes on by a byte that no link has; the place of one for it
@@ -66,10 +66,10 @@ IsWay node key (ways.Link place from to) = LeadsTo node key place from to
 
 -- two links in the order of their edges
 abbrev pub fork_links : ℕ → BlockRef → ℕ → BlockRef → List Link
-fork_links own moved other leaf =
-    if nat_lt own other
-    then (record { edge = own; to = moved }) ∷ (record { edge = other; to = leaf }) ∷ []
-    else (record { edge = other; to = leaf }) ∷ (record { edge = own; to = moved }) ∷ []
+fork_links byte moved other leaf =
+    if nat_lt byte other
+    then (record { edge = byte; to = moved }) ∷ (record { edge = other; to = leaf }) ∷ []
+    else (record { edge = other; to = leaf }) ∷ (record { edge = byte; to = moved }) ∷ []
 
 -- the bytes of an inner node of a key of sixteen bytes
 pub record IsInnerBytes (bytes : List ℕ) : Type 0 where

@@ -114,24 +114,24 @@ pub(crate) fn narrowed(bytes: &[u8], place: usize) -> NodeBytes
 /// The bytes of a new inner node of two links, whose edges differ.
 pub(crate) fn forked(
     prefix: &[u8],
-    own: u8,
+    node_byte: u8,
     moved: BlockRef,
     other: u8,
     leaf: BlockRef,
 ) -> NodeBytes
     requires { length prefix.now ≤ 15 }
-    ensures bytes { result.items ≡ spelled (Inner prefix.now (fork_links own moved other leaf)) }
+    ensures bytes { result.items ≡ spelled (Inner prefix.now (fork_links node_byte moved other leaf)) }
     ensures fits { IsRef moved × IsRef leaf }
-    ensures byte { own < 256 }
+    ensures byte { node_byte < 256 }
 {
     let mut fork = NodeBytes::new();
     begin_inner(&mut fork, prefix, 2);
-    if own < other {
-        append(&mut fork, &[own, other]);
+    if node_byte < other {
+        append(&mut fork, &[node_byte, other]);
         append(&mut fork, &pack(moved));
         append(&mut fork, &pack(leaf));
     } else {
-        append(&mut fork, &[other, own]);
+        append(&mut fork, &[other, node_byte]);
         append(&mut fork, &pack(leaf));
         append(&mut fork, &pack(moved));
     }

@@ -136,7 +136,7 @@ fn split<B: BlockStore>(
     ensures err { OnErr result (B.blocks store.new ≡ B.blocks store.old) }
 {
     let leaf = put_block(store, leaf_bytes(&rest[shared + 1..], value).as_slice())?;
-    let own = store.bytes(at)[2 + shared];
+    let node_byte = store.bytes(at)[2 + shared];
     let short = shortened(store.bytes(at), shared + 1);
     let moved = match put_block(store, short.as_slice()) {
         Ok(moved) => moved,
@@ -145,7 +145,7 @@ fn split<B: BlockStore>(
             return Err(error);
         }
     };
-    let fork = forked(&rest[..shared], own, moved, rest[shared], leaf);
+    let fork = forked(&rest[..shared], node_byte, moved, rest[shared], leaf);
     match put_block(store, fork.as_slice()) {
         Ok(new) => {
             store.give_back(at);

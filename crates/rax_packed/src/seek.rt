@@ -39,8 +39,8 @@ pub(crate) fn seek_below<B: BlockStore>(
     match way_of(store.bytes(at), rest_of(key, depth)) {
         Way::Leaf(_) => Some(*key),
         Way::Parts(shared) => {
-            let own = store.bytes(at)[2 + shared];
-            if is_ahead(key[depth + shared], own, up) {
+            let node_byte = store.bytes(at)[2 + shared];
+            if is_ahead(key[depth + shared], node_byte, up) {
                 Some(end_below(store, at, key, depth, up))
             } else {
                 None

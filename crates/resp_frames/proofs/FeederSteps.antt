@@ -92,7 +92,7 @@ module _ (old : Feeding) (gone at passed : ℕ) (bytes lent : List ℕ) (spans :
       let e : read_item rest ≡ Open = ap read_item (sym (rest_is bytes at passed)) ∙ m.reads.more in
       record {
         gives = gives_rest m.gives;
-        rest = elim rest as (λ l. read_item l ≡ Open → (l ≡ []) ⊎ IsCut l) [ [] ↦ λ r. inl refl | b ∷ l ↦ λ r. inr (cut_from_open (b ∷ l) r (λ none. cc)) ] e;
+        unread = elim rest as (λ l. read_item l ≡ Open → (l ≡ []) ⊎ IsCut l) [ [] ↦ λ r. inl refl | b ∷ l ↦ λ r. inr (cut_from_open (b ∷ l) r (λ none. cc)) ] e;
         current = none_lent bytes base spans' ready not;
         fed = fed_none m.within;
       }
@@ -128,7 +128,7 @@ module _ (old : Feeding) (gone at passed : ℕ) (bytes lent : List ℕ) (spans :
 -- what is answered doesn't rest on what was lent before
 as_before : (lent : Option Words) (old new : Feeding) (r : Result Bool FrameFault) → NextIs (record { gone = old.gone; kept = old.kept; current = lent }) r new → NextIs old r new
 as_before lent old new (Ok true) h = record { words = h.words; gives = h.gives; current = h.current; fed = h.fed }
-as_before lent old new (Ok false) h = record { gives = h.gives; rest = h.rest; current = h.current; fed = h.fed }
+as_before lent old new (Ok false) h = record { gives = h.gives; unread = h.unread; current = h.current; fed = h.fed }
 as_before lent old new (Err (faults.Protocol rule at)) h = record { gives = h.gives; from = h.from; fault = h.fault; place = h.place; current = h.current; fed = h.fed }
 as_before lent old new (Err faults.Memory) h = h
 

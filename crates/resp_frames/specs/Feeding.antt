@@ -45,7 +45,7 @@ pub record GivesOut (old new : Feeding) : Type 0 where
 -- what is left holds no whole request, and breaks no rule
 pub record GivesNone (old new : Feeding) : Type 0 where
   pub gives : GivesRequests old.kept new.kept []
-  pub rest : (new.kept ≡ []) ⊎ IsCut new.kept
+  pub unread : (new.kept ≡ []) ⊎ IsCut new.kept
   pub current : new.current ≡ None
   pub fed : SameFed old new
 

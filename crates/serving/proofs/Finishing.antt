@@ -46,7 +46,7 @@ module _ {E : Type 0} (X C : E → Words → List Part → E → Type 0) (quits 
     pub finish_all : (result : Answered) → GivesNone mid new → Finishes o1 o2 p p' all.All result → AnswersAll X C quits old new e0 e1 o0 o2 result
     finish_all result g (HasPut is put none) =
         let P : Answered → Type 0 = λ r. AnswersAll X C quits old new e0 e1 o0 o2 r in
-        subst P (sym is) (put_all new.kept (passed g.gives) put, g.rest, g.fed ∙ fed)
+        subst P (sym is) (put_all new.kept (passed g.gives) put, g.unread, g.fed ∙ fed)
     finish_all result g (Failed is front) =
         let P : Answered → Type 0 = λ r. AnswersAll X C quits old new e0 e1 o0 o2 r in
         subst P (sym is) (serves_fails X C quits old.kept new.kept e0 e1 o0 o1 [] p (passed g.gives) o2 front)

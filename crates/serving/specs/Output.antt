@@ -12,7 +12,7 @@ pending_bytes pending = take pending.len pending.room.items
 pub record Onward (old new : SinkSeen) (pending pending' bytes : List ℕ) : Type 0 where
   pub written : List ℕ
   pub put : PutsAll old new written
-  pub rest : written ++ pending' ≡ pending ++ bytes
+  pub order : written ++ pending' ≡ pending ++ bytes
 
 -- the same, or a front of both is written where that failed
 abbrev pub Writes : {T E : Type 0} → SinkSeen → SinkSeen → List ℕ → List ℕ → List ℕ → Result T E → Type 0

@@ -65,12 +65,12 @@ returns-then-key-depth g t c =
     let tree : IsTreeAt (length part) b c.args.at = subst (λ m. IsTreeAt m b c.args.at) (sym level) c.requires.tree in
     let again = rw c.bytes.ensures at c.bytes-in-Parts.ensures in
     let same : c.bytes.result.now ≡ c.bytes-in-Parts.result.now = cc in
-    let own : get_or c.bytes-in-Parts.result.now (2 + c.in-Parts.shared) 0 ≡ c.in-Parts.ensures.own = ap (λ xs. get_or xs (2 + c.in-Parts.shared) 0) (sym same)
+    let own : get_or c.bytes-in-Parts.result.now (2 + c.in-Parts.shared) 0 ≡ c.in-Parts.ensures.node_byte = ap (λ xs. get_or xs (2 + c.in-Parts.shared) 0) (sym same)
     ∙ (own_byte _ c.bytes.result.now part c.in-Parts.shared (tree_node _ _ _ _ c.bytes.result.now c.requires.tree c.bytes.ensures) c.in-Parts.ensures).1 in
     let other : get_or c.args.key.now (c.args.depth + c.in-Parts.shared) 0 ≡ c.in-Parts.ensures.other =
     sym (ap (λ p. get_or p c.in-Parts.shared 0) c.rest_of.ensures.rest ∙ get_or-drop c.args.depth c.args.key.now c.in-Parts.shared 0)
     ∙ (key_byte (node_of c.bytes.result.now) part c.in-Parts.shared c.in-Parts.ensures).1 in
-    let ahead : c.in-Parts.ensures.other < c.in-Parts.ensures.own = (let less = c.if-key-depth.true in omega (arith, own, other)) in
+    let ahead : c.in-Parts.ensures.other < c.in-Parts.ensures.node_byte = (let less = c.if-key-depth.true in omega (arith, own, other)) in
     rest_form b c.args.at c.args.key.now part (take c.args.depth c.args.key.now) c.args.depth (16 - c.args.depth) c.args.nodes c.args.nodes 0 (going c.args.pass.now)
     (going c.pass_rest-then-key-depth.new.pass) c.rest_of.ensures.rest level
     (from_all b c.args.at c.bytes.result.now part c.args.nodes tree c.bytes.ensures c.in-Parts.shared c.in-Parts.ensures ahead) c.pass_rest-then-key-depth.ensures
@@ -83,12 +83,12 @@ returns-else-key-depth g t c =
     let tree : IsTreeAt (length part) b c.args.at = subst (λ m. IsTreeAt m b c.args.at) (sym level) c.requires.tree in
     let again = rw c.bytes.ensures at c.bytes-in-Parts.ensures in
     let same : c.bytes.result.now ≡ c.bytes-in-Parts.result.now = cc in
-    let own : get_or c.bytes-in-Parts.result.now (2 + c.in-Parts.shared) 0 ≡ c.in-Parts.ensures.own = ap (λ xs. get_or xs (2 + c.in-Parts.shared) 0) (sym same)
+    let own : get_or c.bytes-in-Parts.result.now (2 + c.in-Parts.shared) 0 ≡ c.in-Parts.ensures.node_byte = ap (λ xs. get_or xs (2 + c.in-Parts.shared) 0) (sym same)
     ∙ (own_byte _ c.bytes.result.now part c.in-Parts.shared (tree_node _ _ _ _ c.bytes.result.now c.requires.tree c.bytes.ensures) c.in-Parts.ensures).1 in
     let other : get_or c.args.key.now (c.args.depth + c.in-Parts.shared) 0 ≡ c.in-Parts.ensures.other =
     sym (ap (λ p. get_or p c.in-Parts.shared 0) c.rest_of.ensures.rest ∙ get_or-drop c.args.depth c.args.key.now c.in-Parts.shared 0)
     ∙ (key_byte (node_of c.bytes.result.now) part c.in-Parts.shared c.in-Parts.ensures).1 in
-    let behind : c.in-Parts.ensures.own ≤ c.in-Parts.ensures.other = (let upto = c.if-key-depth.false in omega (arith, own, other)) in
+    let behind : c.in-Parts.ensures.node_byte ≤ c.in-Parts.ensures.other = (let upto = c.if-key-depth.false in omega (arith, own, other)) in
     none_form b c.args.at c.args.key.now part (take c.args.depth c.args.key.now) c.args.depth (16 - c.args.depth) c.args.nodes (going c.args.pass.now) c.rest_of.ensures.rest level
     (from_none b c.args.at c.bytes.result.now part c.args.nodes tree c.bytes.ensures c.in-Parts.shared c.in-Parts.ensures behind)
 

@@ -84,13 +84,13 @@ returns-then-is_ahead g t c =
     let front = take c.args.depth c.args.key.now in
     let again = rw c.bytes.ensures at c.bytes-in-Parts.ensures in
     let same : c.bytes.result.now ≡ c.bytes-in-Parts.result.now = cc in
-    let own : get_or c.bytes-in-Parts.result.now (2 + c.in-Parts.shared) 0 ≡ c.in-Parts.ensures.own = ap (λ xs. get_or xs (2 + c.in-Parts.shared) 0) (sym same)
+    let own : get_or c.bytes-in-Parts.result.now (2 + c.in-Parts.shared) 0 ≡ c.in-Parts.ensures.node_byte = ap (λ xs. get_or xs (2 + c.in-Parts.shared) 0) (sym same)
     ∙ (own_byte _ c.bytes.result.now part c.in-Parts.shared (tree_node _ _ _ _ c.bytes.result.now c.requires.tree c.bytes.ensures) c.in-Parts.ensures).1 in
     let other : get_or c.args.key.now (c.args.depth + c.in-Parts.shared) 0 ≡ c.in-Parts.ensures.other =
     sym (ap (λ p. get_or p c.in-Parts.shared 0) c.rest_of.ensures.rest ∙ get_or-drop c.args.depth c.args.key.now c.in-Parts.shared 0)
     ∙ (key_byte (node_of c.bytes.result.now) part c.in-Parts.shared c.in-Parts.ensures).1 in
-    let ahead : IsByteAhead c.args.up c.in-Parts.ensures.other c.in-Parts.ensures.own =
-    told_ahead c.args.up _ _ c.in-Parts.ensures.other c.in-Parts.ensures.own other own (c.if-is_ahead.ensures.0 refl) in
+    let ahead : IsByteAhead c.args.up c.in-Parts.ensures.other c.in-Parts.ensures.node_byte =
+    told_ahead c.args.up _ _ c.in-Parts.ensures.other c.in-Parts.ensures.node_byte other own (c.if-is_ahead.ensures.0 refl) in
     parent_form c.args.up b c.args.at c.args.key.now part front c.args.depth (16 - c.args.depth) (Some c.end_below.result) c.rest_of.ensures.rest level
     (end_form c.args.up b c.args.at part front (16 - c.args.depth) (Some c.end_below.result) level
     (sought_all c.args.up b c.args.at c.bytes.result.now part front tree c.bytes.ensures c.in-Parts.shared c.in-Parts.ensures ahead) c.end_below.ensures)
@@ -104,12 +104,12 @@ returns-else-is_ahead g t c =
     let front = take c.args.depth c.args.key.now in
     let again = rw c.bytes.ensures at c.bytes-in-Parts.ensures in
     let same : c.bytes.result.now ≡ c.bytes-in-Parts.result.now = cc in
-    let own : get_or c.bytes-in-Parts.result.now (2 + c.in-Parts.shared) 0 ≡ c.in-Parts.ensures.own = ap (λ xs. get_or xs (2 + c.in-Parts.shared) 0) (sym same)
+    let own : get_or c.bytes-in-Parts.result.now (2 + c.in-Parts.shared) 0 ≡ c.in-Parts.ensures.node_byte = ap (λ xs. get_or xs (2 + c.in-Parts.shared) 0) (sym same)
     ∙ (own_byte _ c.bytes.result.now part c.in-Parts.shared (tree_node _ _ _ _ c.bytes.result.now c.requires.tree c.bytes.ensures) c.in-Parts.ensures).1 in
     let other : get_or c.args.key.now (c.args.depth + c.in-Parts.shared) 0 ≡ c.in-Parts.ensures.other =
     sym (ap (λ p. get_or p c.in-Parts.shared 0) c.rest_of.ensures.rest ∙ get_or-drop c.args.depth c.args.key.now c.in-Parts.shared 0)
     ∙ (key_byte (node_of c.bytes.result.now) part c.in-Parts.shared c.in-Parts.ensures).1 in
-    let not_ahead : IsByteAhead c.args.up c.in-Parts.ensures.other c.in-Parts.ensures.own → ⊥ = λ h. (let yes = c.if-is_ahead.ensures.1 (told_ahead c.args.up _ _ _ _ (sym other) (sym own) h) in cc) in
+    let not_ahead : IsByteAhead c.args.up c.in-Parts.ensures.other c.in-Parts.ensures.node_byte → ⊥ = λ h. (let yes = c.if-is_ahead.ensures.1 (told_ahead c.args.up _ _ _ _ (sym other) (sym own) h) in cc) in
     parent_form c.args.up b c.args.at c.args.key.now part front c.args.depth (16 - c.args.depth) None c.rest_of.ensures.rest level
     (sym (ap (option_map (λ e. front ++ e.key)) (sought_none c.args.up b c.args.at c.bytes.result.now part front tree c.bytes.ensures c.in-Parts.shared c.in-Parts.ensures not_ahead)))
 
