@@ -1,6 +1,7 @@
 -- The chain of a slab's free slots, and the count of the others.
-use Rattle.std.specs.Prelude.{◌≡◌, ◌≢◌, ℕ, zero, suc, ◌+◌, ◌-◌, ◌<◌, ◌≤◌, Bool, true, false, ◌&&◌, not, nat_lt, List, ◌∷◌, length, slice_set, refl}
+use Rattle.std.specs.Prelude.{◌≡◌, ◌≢◌, ℕ, zero, suc, ◌+◌, ◌-◌, ◌<◌, ◌≤◌, Bool, true, false, ◌&&◌, not, nat_lt, List, [], ◌∷◌, ◌++◌, length, slice_set, refl}
 use Rattle.std.proofs.Common.{arith, cond, eqb, ap, ◌∙◌, sym, inl, inr, get_or-set_same, get_or-set_other, length-set}
+use Rattle.std.proofs.lemmas.List.{get_or_append_left, get_or_at}
 use Rattle.std.proofs.lemmas.Grind.{common_steps}
 use Rattle.std.proofs.lemmas.Bool.{cases_eq, cases_lt}
 use Rattle.class_heap.specs.Live.{used_there}
@@ -109,6 +110,14 @@ used_changed words slot w (suc k) lt within = elim (cases_eq k slot) [
 -- each slot is free, and its word names the slot after it
 pub record IsFresh (words : List ℕ) : Type 0 where
   pub linked : (k : ℕ) → k < length words → word_at words k ≡ 32769 + k
+
+-- one word more at the end names the slot after its own
+pub fresh_more : (words new : List ℕ) (slot word : ℕ) → new ≡ words ++ word ∷ [] → length words ≡ slot → word ≡ 32769 + slot → ((k : ℕ) → k < slot → word_at words k ≡ 32769 + k)
+    → (k : ℕ) → k < slot + 1 → word_at new k ≡ 32769 + k
+fresh_more words new slot word is long one linked k within = ap (λ ws. word_at ws k) is ∙ (elim (cases_lt k slot) [
+  | inl low ↦ get_or_append_left words (word ∷ []) 65535 k (omega (arith, low, long)) ∙ linked k low
+  | inr high ↦ (let here : length words ≡ k = omega (arith, high, within, long) in get_or_at words word [] 65535 k here ∙ one ∙ (omega (arith, here, long)))
+])
 
 pub fresh_used : (words : List ℕ) → IsFresh words → (k : ℕ) → k ≤ length words → used_below words k ≡ 0
 unfolding used_below

@@ -1,6 +1,7 @@
 -- An owner of a value behind a pointer at its type parameters, under short names, which call it a box.
 --     Bx, args     the parameter's row with its laws, and what a call passes for it
---     R, B         the element and the box as rows.        box_ty, ref_ty, word     the box's MIR type, a `&mut` to one (an instance leaves what stands behind a reference as it is written), and its machine value at the handle's
+--     R, B         the element and the box as rows.        box_ty, ref_ty, word     the box's MIR type, a `&mut` to one (an instance leaves what stands behind a reference as it is
+--                                               written), and its machine value at the handle's
 --     P, handle    the allocator as a row, and what a handle owns at its machine value
 use mathlib.Core.List.{List, [], ◌∷◌}
 use Prim.Native.Nat.{ℕ}

@@ -1,5 +1,5 @@
 -- What each class's slabs hold, summed in one look at each slab.
-use Rattle.std.specs.Prelude.{◌≡◌, ◌≢◌, ℕ, zero, suc, ◌+◌, ◌*◌, ◌<◌, ◌≤◌, ◌==◌, Bool, true, false, ◌&&◌, not, nat_lt, List, [], ◌∷◌, take, replicate, length, sum_by, count_by}
+use Rattle.std.specs.Prelude.{◌≡◌, ◌≢◌, ℕ, zero, suc, ◌+◌, ◌*◌, ◌^◌, ◌<◌, ◌≤◌, ◌==◌, Bool, true, false, ◌&&◌, not, nat_lt, List, [], ◌∷◌, take, replicate, length, sum_by, count_by}
 use Rattle.std.specs.Prelude.{slice_set, slice_index_or, Option, Some, None, refl, ◌⊎◌}
 use Rattle.std.proofs.Common.{arith, cond, ap, ◌∙◌, sym, subst, inl, inr, get_or, get_or-set_same, get_or-set_other, length-set}
 use Rattle.std.proofs.lemmas.Bool.{cases_eq}
@@ -115,6 +115,11 @@ part_few (suc i) (e ∷ rest) = (let few = part_few i rest in omega (arith, few)
 pub truth_few : (t : Bool) (n : ℕ) → n ≡ cond t 1 0 → n ≤ 1
 truth_few true n is = omega (arith, is)
 truth_few false n is = omega (arith, is)
+
+-- a sum of at most 8,192 a number is far from the greatest one, with one slab's more too
+pub sum_fits : (count : ℕ → Option SlabUse → ℕ) (entries : List Entry) (i class more : ℕ) (sums : List ℕ) → class < 36 → ((part : List Entry) → sum_by (count class) (uses part) ≤ length part * 8192)
+    → more ≤ 8192 → length entries ≤ 2 ^ 40 → IsTally count (uses (take i entries)) sums → slice_index_or sums class 0 + more < 2 ^ 60
+sum_fits count entries i class more sums few most one long t = omega (arith, t.sum class few, most (take i entries), part_few i entries, one, long)
 
 -- ---- marks change no sum
 

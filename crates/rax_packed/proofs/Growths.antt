@@ -9,7 +9,7 @@ use Rattle.blocks.specs.declared.BlockRef.{BlockRef}
 use Rattle.blocks.specs.Blocks.{Blocks, ref_eq, times, Owned, with_block}
 use Rattle.blocks.proofs.Times.{times-append}
 use Rattle.blocks.proofs.Refs.{ref_eq_refl, ref_eq_sym, with_block_same, with_block_other, apart_live}
-use Rattle.blocks.proofs.Change.{one, live_once, live_is_in_change, other_than, Counts, counts_same, counts_then, counts_placed, counts_ended, changes_counted}
+use Rattle.blocks.proofs.Change.{one, live_once, live_is_in_change, other_than, Counts, counts_same, counts_then, counts_placed, counts_ended, changes_counted, with_block_undone}
 use Rattle.rax_packed.specs.Nodes.{Link, Leaf, Inner, IsInner, IsRef, spelled, node_of}
 use Rattle.rax_packed.specs.Trees.{Entry, under, node_at, entries, refs, IsTree, entries_at, refs_at, IsTreeAt, Becomes}
 use Rattle.rax_packed.specs.Ways.{Lacks, IsInnerBytes, prefix_in, links_in}
@@ -67,6 +67,27 @@ put_here m after at bytes is = ap (λ n. n at) is ∙ with_block_same m at (Some
 pub ended_stays : (b m after : Blocks) (at r : BlockRef) (seen : List ℕ) → m r ≡ Some seen → IsSome (b at) → b r ≡ None → after ≡ with_block m at None → after r ≡ Some seen
 ended_stays b m after at r seen here was fresh is =
     ap (λ n. n r) is ∙ with_block_other m at r None (ref_eq_sym r at ∙ apart_live b at r was fresh) ∙ here
+
+-- a put block is live
+pub put_live : (m after : Blocks) (at : BlockRef) (bytes : List ℕ) → after ≡ with_block m at (Some bytes) → IsSome (after at)
+put_live m after at bytes is = subst (λ o. IsSome o) (sym (put_here m after at bytes is)) refl
+
+-- what was live is live still where blocks were put
+pub live_still : (b m : Blocks) (at : BlockRef) (news : List BlockRef) → Puts b m news → IsSome (b at) → IsSome (m at)
+live_still b m at news puts was = subst (λ o. IsSome o) (sym (puts.kept at was)) was
+
+-- of two put blocks the first one is live still where the second one is given back
+pub first_live : (b m after later : Blocks) (at other : BlockRef) (first second : List ℕ) → m ≡ with_block b at (Some first) → m other ≡ None → after ≡ with_block m other (Some second)
+    → later ≡ with_block after other None → IsSome (later at)
+first_live b m after later at other first second put fresh next ended =
+    let live = put_live b m at first put in
+    let apart = apart_live m at other live fresh in
+    subst (λ o. IsSome o)
+    (sym (ap (λ n. n at) ended ∙ with_block_other after other at None apart ∙ (ap (λ n. n at) next ∙ with_block_other m other at (Some second) apart))) live
+
+-- a put block that is given back leaves the blocks before it
+pub undone_one : (b m after later : Blocks) (at : BlockRef) (bytes : List ℕ) → b at ≡ None → m ≡ with_block b at (Some bytes) → after ≡ m → later ≡ with_block after at None → later ≡ b
+undone_one b m after later at bytes fresh put same ended = ended ∙ ap (λ n. with_block n at None) (same ∙ put) ∙ with_block_undone b at (Some bytes) fresh
 
 -- a reference that isn't live after blocks were put wasn't live before
 pub fresh_before : (b m : Blocks) (r : BlockRef) (news : List BlockRef) → Puts b m news → m r ≡ None → b r ≡ None

@@ -1,5 +1,5 @@
 -- What is left of a tree where the nodes of a key's way have moved.
-use Rattle.std.proofs.Common.{◌≡◌, ◌≢◌, ◌∙◌, ℕ, ◌+◌, ◌*◌, Bool, true, false, cond, List, [], ◌∷◌, ◌++◌, length, drop, map, Some, unwrap_or, refl, sym, ap, subst, inl, inr, arith}
+use Rattle.std.proofs.Common.{◌≡◌, ◌≢◌, ◌∙◌, ℕ, ◌+◌, ◌*◌, ◌≤◌, Bool, true, false, cond, List, [], ◌∷◌, ◌++◌, length, drop, map, Some, unwrap_or, refl, sym, ap, subst, inl, inr, arith}
 use Rattle.std.proofs.lemmas.Bool.{cases_eq, cond-true}
 use Rattle.std.specs.Ordering.{is_eq}
 use Rattle.std.proofs.lemmas.List.Concat.{flat_map-append}
@@ -19,6 +19,11 @@ use Rattle.rax_packed.proofs.Keys.{order_same}
 use Rattle.rax_packed.proofs.Looks.{Split, Named}
 use Rattle.rax_packed.proofs.Paths.{AreOthers, other_links, less_apart, more_apart, least_under, node_is, entries_below, first_zero, first_other}
 use Rattle.rax_packed.proofs.Steps.{split, below_is, child, link_tree, link_entries, link_changes, link_marks}
+
+-- a node that may move is one more at most
+pub one_most : (stays : Bool) (count : ℕ) → cond stays 0 1 + count ≤ count + 1
+one_most true count = omega arith
+one_most false count = omega arith
 
 -- the block of a tree's top node moved
 module _ (rest : ℕ) (m n : Blocks) (at new : BlockRef) (t : IsTreeAt rest m at) (own : Owned (refs_at rest m at) m) (bytes : n new ≡ m at) (p : Changes m n (at ∷ []) (new ∷ [])) where

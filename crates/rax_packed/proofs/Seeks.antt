@@ -26,7 +26,8 @@ use Rattle.rax_packed.proofs.Looks.{Split, node_read, parts_side, link_below}
 use Rattle.rax_packed.proofs.Steps.{split, below_is}
 
 -- the byte at which a node's prefix parts from the key
-pub own_byte : (rest : ℕ) (bytes key : List ℕ) (shared : ℕ) → IsNode rest bytes → (parts : PartsAt (node_of bytes) key shared) → (2 + shared < length bytes) × (get_or bytes (2 + shared) 0 ≡ parts.node_byte)
+pub own_byte : (rest : ℕ) (bytes key : List ℕ) (shared : ℕ) → IsNode rest bytes → (parts : PartsAt (node_of bytes) key shared) → (2 + shared < length bytes) ×
+    (get_or bytes (2 + shared) 0 ≡ parts.node_byte)
 own_byte rest bytes key shared node parts =
     let prefix : prefix_from bytes ≡ parts.begin ++ parts.node_byte ∷ parts.node_rest = sym (prefix_told rest bytes node) ∙ parts.prefix_is in
     let long : length (prefix_from bytes) ≡ shared + suc (length parts.node_rest) = ap length prefix ∙ length-append parts.begin (parts.node_byte ∷ parts.node_rest)

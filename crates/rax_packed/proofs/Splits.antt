@@ -278,6 +278,10 @@ split_ready b b1 at leaf key shared t few parts puts seen read =
     ∙ get_or_at parts.begin parts.node_byte parts.node_rest 0 shared parts.many in
     record { node = (length key, node, few); within = omega arith; from = omega arith; own_is = byte }
 
+-- a key that leaves a prefix has more bytes than it shares with that
+pub key_goes_on : {node : Node} {key : List ℕ} {shared : ℕ} → PartsAt node key shared → shared < length key
+key_goes_on parts = omega (arith, ap length parts.key_is, length-append parts.begin (parts.other ∷ parts.other_rest), parts.many)
+
 -- what code splits
 pub split_done : (b b1 b2 b3 later : Blocks) (at leaf moved new : BlockRef) (key : List ℕ) (shared : ℕ) (value : BlockRef) → IsTreeAt (length key) b at → length key ≤ 16
     → Owned (refs_at (length key) b at) b → (parts : PartsAt (node_at b at) key shared)

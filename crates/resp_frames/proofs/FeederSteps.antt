@@ -1,15 +1,15 @@
 -- What a feeder gives out.
-use Rattle.std.proofs.Common.{◌≡◌, ℕ, ◌+◌, ◌-◌, ◌<◌, ◌≤◌, List, [], ◌∷◌, true, false, Bool, Option, None, Result, Ok, Err, length, drop, take, length-drop, arith, sym, ap, subst, ◌∙◌}
+use Rattle.std.proofs.Common.{◌≡◌, ℕ, ◌+◌, ◌-◌, ◌^◌, ◌<◌, ◌≤◌, List, [], ◌∷◌, true, false, Bool, Option, None, Result, Ok, Err, length, drop, take, length-drop, arith, sym, ap, subst, ◌∙◌}
 use Rattle.std.proofs.Common.{refl, inl, inr, ◌⊎◌}
 use Rattle.std.proofs.lemmas.List.{drop-drop, take_rest}
 use Rattle.resp_frames.specs.Reading.{read_item, Open}
 use Rattle.resp_frames.specs.Ends.{IsCut}
 use Rattle.resp_frames.specs.Faults.{RequestFault}
 use Rattle.plain_world.specs.Words.{Words}
-use Rattle.resp_frames.specs.Feeding.{Feeding, feeding, current_words, GivesRequests, GivesOut, GivesNone, GivesFault, NextIs, NextFound}
+use Rattle.resp_frames.specs.Feeding.{Feeding, feeding, current_words, GivesRequests, GivesOut, GivesNone, GivesFault, NextIs, NextFound, IsState, IsFeeder}
 use Rattle.resp_frames.specs.declared.feeder.FrameFault.{FrameFault}
 use Rattle.resp_frames.specs.declared.feeder.FrameFault.TheVariants as faults
-use Rattle.resp_frames.specs.RequestRead.{words_at, IsPassedAt, IsRequestAt}
+use Rattle.resp_frames.specs.RequestRead.{words_at, Stands, IsPassedAt, IsRequestAt}
 use Rattle.resp_frames.specs.declared.feeder.Next.{Next}
 use Rattle.resp_frames.specs.declared.feeder.Next.TheVariants as next
 use Rattle.resp_frames.specs.declared.span.Span.{Span}
@@ -124,6 +124,44 @@ module _ (old : Feeding) (gone at passed : ℕ) (bytes lent : List ℕ) (spans :
       let Q : ℕ → Type 0 = λ n. GivesOut old (feeding gone bytes n (n + end) spans true) in
       let here : at + passed ≡ at = omega arith in
       subst Q here (request_out end (subst P (sym none) found))
+
+-- how far a feeder that lends nothing has read what it lends the reader
+pub lent_stands : (bytes lent : List ℕ) (base at : ℕ) (spans : List Span) (p : Progress) (ready : Bool) → lent ≡ bytes → ready ≡ false → IsState bytes base at spans p ready
+    → Stands (take (length lent - at) (drop at lent)) p.read spans p.due
+lent_stands bytes lent base at spans p ready same not state =
+    let P : Bool → Type 0 = λ r. IsState bytes base at spans p r in
+    let Q : List ℕ → Type 0 = λ l. Stands l p.read spans p.due in
+    subst Q (sym (take_rest lent at ∙ ap (drop at) same)) (subst P not state).1
+
+-- What was read keeps a feeder sound.
+module _ (gone at passed : ℕ) (bytes lent : List ℕ) (spans : List Span) (same : lent ≡ bytes) (low : at ≤ length bytes) (fits : gone + length bytes ≤ 2 ^ 62) where
+  pub request_kept : (end : ℕ) (p : Progress) → NextFound (take (length lent - at) (drop at lent)) spans passed (next.Request end) → IsFeeder gone bytes (at + passed) (at + passed + end) spans p true
+  request_kept end p h =
+      let m = whole_found bytes lent at passed spans (next.Request end) same h in
+      let P : List ℕ → Type 0 = λ l. IsRequestAt l end spans in
+      let r = subst P (rest_is bytes at passed) m.reads in
+      let first : passed ≤ length (drop at bytes) = m.within in
+      let then' : end ≤ length (drop (at + passed) bytes) = r.within in
+      record {
+        within = omega (arith, length-drop at bytes, length-drop (at + passed) bytes);
+        before = omega arith;
+        fits = fits;
+        state = record { inside = r.inside; sound = r.sound };
+      }
+
+  pub open_kept : (ready : Bool) (p : Progress) → ready ≡ false → NextFound (take (length lent - at) (drop at lent)) spans passed (next.Open p)
+      → IsFeeder gone bytes (at + passed) (at + passed) spans p ready
+  open_kept ready p not h =
+      let m = whole_found bytes lent at passed spans (next.Open p) same h in
+      let P : Bool → Type 0 = λ r. IsState bytes (at + passed) (at + passed) spans p r in
+      let Q : List ℕ → Type 0 = λ l. Stands l p.read spans p.due in
+      let first : passed ≤ length (drop at bytes) = m.within in
+      record {
+        within = omega (arith, length-drop at bytes);
+        before = omega arith;
+        fits = fits;
+        state = subst P (sym not) (refl, subst Q (rest_is bytes at passed) m.reads.stands);
+      }
 
 -- what is answered doesn't rest on what was lent before
 as_before : (lent : Option Words) (old new : Feeding) (r : Result Bool FrameFault) → NextIs (record { gone = old.gone; kept = old.kept; current = lent }) r new → NextIs old r new

@@ -6,7 +6,7 @@ use Rattle.class_heap.specs.declared.entry.Entry.TheVariants.{Vacant}
 use Rattle.class_heap.specs.Entries.{use_in, entry_at, class_in}
 use Rattle.class_heap.specs.Laws.{class_few}
 use Rattle.class_heap.specs.Marks.{holds_at_least, filled_in, uses, IsTally}
-use Rattle.class_heap.proofs.Tallies.{tally_none, tally_more, tally_same, used_other, filled_other, used_most, filled_most, part_few, truth_few}
+use Rattle.class_heap.proofs.Tallies.{tally_none, tally_more, tally_same, used_other, filled_other, used_most, filled_most, sum_fits, truth_few}
 use Rattle.class_heap.proofs.marks.tally.Goals.{in-Some, in_default}
 use Rattle.class_heap.proofs.marks.tally.Goals as goal
 
@@ -19,8 +19,7 @@ bounds-used-class c = class_few c.entry-item.result c.in-Some.class (sym c.in-So
 pub overflow_add-used : goal.overflow_add-used
 overflow_add-used c =
     let class = c.in-Some.class in let few = class_few c.entry-item.result class (sym c.in-Some.ensures) in
-    let so_far = c.add.invariant.used.sum class few in let part = take c.add.entry-index c.args.entries.now in
-    omega (arith, so_far, used_most class part, part_few c.add.entry-index c.args.entries.now, c.used_in.ensures.most, c.requires)
+    omega (arith, sum_fits used_in c.args.entries.now c.add.entry-index class c.used_in.result c.add.used few (used_most class) c.used_in.ensures.most c.requires c.add.invariant.used)
 
 pub bounds-used-class-in-Some : goal.bounds-used-class-in-Some
 bounds-used-class-in-Some c = class_few c.entry-item.result c.in-Some.class (sym c.in-Some.ensures)
@@ -31,9 +30,13 @@ bounds-filled-class c = class_few c.entry-item.result c.in-Some.class (sym c.in-
 pub overflow_add-filled : goal.overflow_add-filled
 overflow_add-filled c =
     let class = c.in-Some.class in let few = class_few c.entry-item.result class (sym c.in-Some.ensures) in
-    let so_far = c.add.invariant.filled.sum class few in let part = take c.add.entry-index c.args.entries.now in
     let one : c.from.result ≡ cond c.holds_at_least.result 1 0 = search rules in
-    omega (arith, so_far, filled_most class part, part_few c.add.entry-index c.args.entries.now, truth_few c.holds_at_least.result c.from.result one, c.requires)
+    let more = truth_few c.holds_at_least.result c.from.result one in
+    omega (
+      arith,
+      sum_fits filled_in c.args.entries.now c.add.entry-index class c.from.result c.add.filled few (λ part. omega (arith, filled_most class part)) (omega (arith, more)) c.requires
+          c.add.invariant.filled,
+    )
 
 pub bounds-filled-class-in-Some : goal.bounds-filled-class-in-Some
 bounds-filled-class-in-Some c = class_few c.entry-item.result c.in-Some.class (sym c.in-Some.ensures)

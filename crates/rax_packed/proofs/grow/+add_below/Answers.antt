@@ -2,7 +2,8 @@ use Rattle.std.proofs.Common.{◌∙◌, ◌<◌, refl, sym, subst, arith, lengt
 use Rattle.std.proofs.lemmas.List.{take_rest}
 use Rattle.blocks.proofs.Serve.{served_then}
 use Rattle.rax_packed.specs.Trees.{refs_at}
-use Rattle.rax_packed.proofs.Looks.{tree_live, tree_node, found_leaf, found_link, link_below, shorter}
+use Rattle.rax_packed.specs.Ways.{Lacks, PartsAt}
+use Rattle.rax_packed.proofs.Looks.{tree_live, tree_node, node_read, found_leaf, found_link, link_below, shorter}
 use Rattle.rax_packed.proofs.Steps.{own_below, kept_block, add_link, link_ready}
 use Rattle.rax_packed.proofs.Tallies.{step_many, written_live}
 use Rattle.rax_packed.proofs.Exactly.{exact_write}
@@ -88,3 +89,12 @@ returns-in_ok-new-in-Link-clause-exact g t c =
     let b = g.B.BlockStore.blocks c.args.store.now in
     let mid = g.B.BlockStore.blocks c.add_below.new.store in
     exact_write b mid (g.B.BlockStore.blocks c.relink.new.store) c.args.at _ c.in_ok-new-in-Link.ensures.exact (tree_live _ _ b c.args.at c.requires.tree) (c.relink.ensures.written _ refl)
+
+pub split-requires-clause-parts : goal.split-requires-clause-parts
+split-requires-clause-parts g t c =
+    subst (λ node. PartsAt node c.args.rest.now c.in-Parts.shared) (sym (node_read (g.B.BlockStore.blocks c.args.store.now) c.args.at c.bytes.result.now c.bytes.ensures)) c.in-Parts.ensures
+
+pub attach-requires-clause-lacks : goal.attach-requires-clause-lacks
+attach-requires-clause-lacks g t c =
+    subst (λ node. Lacks node c.args.rest.now c.in-Missing.place c.in-Missing.from)
+    (sym (node_read (g.B.BlockStore.blocks c.args.store.now) c.args.at c.bytes.result.now c.bytes.ensures)) c.in-Missing.ensures

@@ -5,7 +5,7 @@ use Rattle.std.specs.List.{insert}
 use Rattle.rax_packed.specs.Nodes.{Leaf, Inner, node_of, spelled}
 use Rattle.rax_packed.specs.Ways.{links_in, prefix_in}
 use Rattle.rax_packed.proofs.Looks.{tree_live}
-use Rattle.rax_packed.proofs.Growths.{puts_none, puts_more, swaps, attach_ready, attach_done}
+use Rattle.rax_packed.proofs.Growths.{puts_none, puts_more, swaps, put_live, live_still, undone_one, attach_ready, attach_done}
 use Rattle.rax_packed.proofs.Tallies.{many}
 use Rattle.rax_packed.specs.Trees.{refs_at}
 use Rattle.rax_packed.proofs.Exactly.{exact_same, exact_put, exact_drop}
@@ -79,3 +79,29 @@ returns-in-Ok-clause-exact g c =
     (Inner (prefix_in seen) (insert (links_in seen) c.args.place (record { edge = get_or c.args.rest.now (c.args.from - 1) 0; to = c.in_ok-leaf.leaf }))) one c.in-Ok.ensures.placed
     (c.as_slice-2.ensures.value ∙ c.widened-wider.ensures.bytes) in
     exact_drop b b2 (g.B.BlockStore.blocks c.give_back.new.self) c.args.at two c.give_back.ensures.ended
+
+pub give_back-requires : goal.give_back-requires
+give_back-requires g c =
+    let b = g.B.BlockStore.blocks c.args.store.now in
+    let b1 = g.B.BlockStore.blocks c.put_block.new.store in
+    let b2 = g.B.BlockStore.blocks c.put_block-2.new.store in
+    let leaf = c.in_ok-leaf.leaf in
+    let new = c.in-Ok.new in
+    let one_put = puts_more b b b1 [] leaf c.as_slice.result.now (puts_none b) c.in_ok-leaf.ensures.fresh c.in_ok-leaf.ensures.placed in
+    let two_put = puts_more b b1 b2 (leaf ∷ []) new c.as_slice-2.result.now one_put c.in-Ok.ensures.fresh c.in-Ok.ensures.placed in
+    live_still b b2 c.args.at (new ∷ leaf ∷ []) two_put (tree_live _ _ b c.args.at c.requires.tree)
+
+pub give_back-requires-in-Err : goal.give_back-requires-in-Err
+give_back-requires-in-Err g c =
+    let b = g.B.BlockStore.blocks c.args.store.now in
+    let b1 = g.B.BlockStore.blocks c.put_block.new.store in
+    let leaf = c.in_ok-leaf.leaf in
+    subst (λ o. IsSome o) (sym (ap (λ n. n leaf) c.in-Err.ensures.err_blocks)) (put_live b b1 leaf c.as_slice.result.now c.in_ok-leaf.ensures.placed)
+
+pub returns-in-Err-clause-err : goal.returns-in-Err-clause-err
+returns-in-Err-clause-err g c =
+    let b = g.B.BlockStore.blocks c.args.store.now in
+    let b1 = g.B.BlockStore.blocks c.put_block.new.store in
+    let b2 = g.B.BlockStore.blocks c.put_block-2.new.store in
+    undone_one b b1 b2 (g.B.BlockStore.blocks c.give_back-in-Err.new.self) c.in_ok-leaf.leaf c.as_slice.result.now c.in_ok-leaf.ensures.fresh c.in_ok-leaf.ensures.placed
+    c.in-Err.ensures.err_blocks c.give_back-in-Err.ensures.ended

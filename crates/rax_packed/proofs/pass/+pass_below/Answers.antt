@@ -1,10 +1,12 @@
-use Rattle.std.proofs.Common.{◌≡◌, ◌∙◌, ◌+◌, ◌-◌, ◌<◌, ◌≤◌, sym, ap, subst, refl, arith, length, take, drop, get_or, true, []}
+use Rattle.std.proofs.Common.{◌≡◌, ◌∙◌, ◌+◌, ◌-◌, ◌<◌, ◌≤◌, sym, ap, subst, refl, arith, length, length-append, take, drop, get_or, true, []}
 use Rattle.std.proofs.lemmas.List.{length-drop, get_or-drop}
 use Rattle.rax_packed.specs.Costs.{going}
 use Rattle.rax_packed.specs.Nodes.{node_of, IsNode}
 use Rattle.rax_packed.specs.Trees.{IsTreeAt}
-use Rattle.rax_packed.proofs.Looks.{tree_live, tree_node, link_below, shorter, from_within}
+use Rattle.rax_packed.specs.Ways.{links_in}
+use Rattle.rax_packed.proofs.Looks.{tree_live, tree_node, node_read, link_below, shorter, from_within}
 use Rattle.rax_packed.proofs.Passes.{above_few, from_leaf, from_all, from_none, from_missing, from_link, rest_form, none_form, link_form}
+use Rattle.rax_packed.proofs.Splits.{key_goes_on}
 use Rattle.rax_packed.proofs.Seeks.{own_byte, key_byte, past_within}
 use Rattle.rax_packed.proofs.pass.+pass_below.Goals as goal
 
@@ -116,3 +118,45 @@ returns-in-Link g t c =
     (from_link b c.args.at c.bytes.result.now part c.args.nodes tree c.bytes.ensures c.in-Link.place c.in-Link.from c.in-Link.to c.in-Link.ensures c.above-in-Link.result
     c.above-in-Link.ensures.first c.above-in-Link.ensures.other)
     c.pass_below.ensures c.pass_rest-in-Link.ensures
+
+pub pass_rest-requires-in-Missing-clause-place : goal.pass_rest-requires-in-Missing-clause-place
+pass_rest-requires-in-Missing-clause-place g t c =
+    let lacks = c.in-Missing.ensures in
+    omega (
+      arith,
+      ap (λ m. length (links_in m)) (node_read (g.B.BlockStore.blocks c.args.store.now) c.args.at c.bytes.result.now c.bytes.ensures),
+      ap (λ m. length (links_in m)) lacks.node_is,
+      length-append lacks.before lacks.after,
+      lacks.many,
+    )
+
+pub pass_rest-requires-in-Missing-clause-few : goal.pass_rest-requires-in-Missing-clause-few
+pass_rest-requires-in-Missing-clause-few g t c =
+    above_few c.in-Missing.place c.args.nodes c.above.result (c.args.depth + 1) c.above.ensures.first c.above.ensures.other c.requires.few
+
+pub pass_rest-requires-in-Link-clause-place : goal.pass_rest-requires-in-Link-clause-place
+pass_rest-requires-in-Link-clause-place g t c =
+    let b = g.B.BlockStore.blocks c.args.store.now in
+    let part = c.rest_of.result.now in
+    let tree : IsTreeAt (length part) b c.args.at = subst (λ m. IsTreeAt m b c.args.at) (sym c.rest_of.ensures.len) c.requires.tree in
+    let past = past_within true b c.args.at c.bytes.result.now part [] tree c.bytes.ensures c.in-Link.place c.in-Link.from c.in-Link.to c.in-Link.ensures in
+    omega (arith, past.0, ap (λ m. length (links_in m)) (node_read b c.args.at c.bytes.result.now c.bytes.ensures))
+
+pub overflow_add-above : goal.overflow_add-above
+overflow_add-above g t c =
+    let few = above_few c.in-Link.place c.args.nodes c.above-in-Link.result (c.args.depth + 1) c.above-in-Link.ensures.first c.above-in-Link.ensures.other c.requires.few in
+    omega (arith, few, c.requires.within)
+
+pub overflow_add-depth-in-Link : goal.overflow_add-depth-in-Link
+overflow_add-depth-in-Link g t c =
+    let part = c.rest_of.result.now in
+    omega (arith, from_within (node_of c.bytes.result.now) c.in-Link.to part c.in-Link.place c.in-Link.from c.in-Link.ensures, c.rest_of.ensures.len, c.requires.within)
+
+pub bounds-key-depth : goal.bounds-key-depth
+bounds-key-depth g t c = omega (arith, key_goes_on c.in-Parts.ensures, c.rest_of.ensures.len)
+
+pub overflow_add-depth : goal.overflow_add-depth
+overflow_add-depth g t c = omega (arith, key_goes_on c.in-Parts.ensures, c.rest_of.ensures.len)
+
+pub overflow_add-shared : goal.overflow_add-shared
+overflow_add-shared g t c = omega (arith, key_goes_on c.in-Parts.ensures, c.rest_of.ensures.len)

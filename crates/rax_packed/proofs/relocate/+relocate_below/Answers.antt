@@ -2,12 +2,13 @@ use Rattle.std.proofs.Common.{refl, ◌∙◌, ◌+◌, ◌<◌, cond, sym, subs
 use Rattle.std.proofs.lemmas.List.{take_rest}
 use Rattle.rax_packed.proofs.Cuts.{no_value}
 use Rattle.rax_packed.proofs.Looks.{tree_live, tree_node, node_read, found_parts, found_missing, found_link, link_below, shorter}
+use Rattle.rax_packed.proofs.Growths.{put_live}
 use Rattle.rax_packed.proofs.Steps.{own_below, kept_block, link_ready}
 use Rattle.blocks.specs.Blocks.{ref_eq}
 use Rattle.blocks.specs.Slabs.{Calmer, wants}
 use Rattle.blocks.proofs.Sweeps.{calmer_next}
 use Rattle.rax_packed.proofs.Paths.{leaf_first}
-use Rattle.rax_packed.proofs.Relocations.{moved_becomes, leaf_passed, leaf_moved, relocated, relocated_passed, relocated_moved, relocated_least}
+use Rattle.rax_packed.proofs.Relocations.{one_most, moved_becomes, leaf_passed, leaf_moved, relocated, relocated_passed, relocated_moved, relocated_least}
 use Rattle.rax_packed.proofs.relocate.+relocate_below.Goals as goal
 
 pub bytes-requires : goal.bytes-requires
@@ -141,3 +142,26 @@ pub returns-in-Link-clause-calmer : goal.returns-in-Link-clause-calmer
 returns-in-Link-clause-calmer g t c =
     calmer_next (g.B.BlockStore.heap c.args.store.now) (g.B.BlockStore.heap c.relocate_below-below.new.store) (g.B.BlockStore.heap c.pass_node-in-Link.new.store) c.relocate_below-below.ensures.calmer
     (subst (λ h. Calmer h (g.B.BlockStore.heap c.pass_node-in-Link.new.store)) c.relink.ensures.slabs c.pass_node-in-Link.ensures.calmer)
+
+pub pass_node-requires-in-Link-clause-live : goal.pass_node-requires-in-Link-clause-live
+pass_node-requires-in-Link-clause-live g t c =
+    put_live (g.B.BlockStore.blocks c.relocate_below-below.new.store) (g.B.BlockStore.blocks c.relink.new.store) c.args.at _ (c.relink.ensures.written _ refl)
+
+pub pass_node-requires-in-Link-clause-few : goal.pass_node-requires-in-Link-clause-few
+pass_node-requires-in-Link-clause-few g t c =
+    let few = rw (take_rest c.args.rest.now c.in-Link.from) at c.relocate_below-below.ensures.few in
+    omega (arith, few, shorter _ _ c.args.rest.now _ _ (length c.args.rest.now) refl c.in-Link.ensures, c.requires.short)
+
+pub returns-in-Leaf-clause-few : goal.returns-in-Leaf-clause-few
+returns-in-Leaf-clause-few g t c = omega (arith, c.pass_node.ensures.moved, one_most (ref_eq c.args.at c.pass_node.result.at) 0)
+
+pub returns-in-Link-clause-few : goal.returns-in-Link-clause-few
+returns-in-Link-clause-few g t c =
+    let few = rw (take_rest c.args.rest.now c.in-Link.from) at c.relocate_below-below.ensures.few in
+    omega (
+      arith,
+      few,
+      shorter _ _ c.args.rest.now _ _ (length c.args.rest.now) refl c.in-Link.ensures,
+      c.pass_node-in-Link.ensures.moved,
+      one_most (ref_eq c.args.at c.pass_node-in-Link.result.at) c.relocate_below-below.result.moved,
+    )

@@ -109,7 +109,8 @@ returns-else-is_ahead g t c =
     let other : get_or c.args.key.now (c.args.depth + c.in-Parts.shared) 0 ≡ c.in-Parts.ensures.other =
     sym (ap (λ p. get_or p c.in-Parts.shared 0) c.rest_of.ensures.rest ∙ get_or-drop c.args.depth c.args.key.now c.in-Parts.shared 0)
     ∙ (key_byte (node_of c.bytes.result.now) part c.in-Parts.shared c.in-Parts.ensures).1 in
-    let not_ahead : IsByteAhead c.args.up c.in-Parts.ensures.other c.in-Parts.ensures.node_byte → ⊥ = λ h. (let yes = c.if-is_ahead.ensures.1 (told_ahead c.args.up _ _ _ _ (sym other) (sym own) h) in cc) in
+    let not_ahead : IsByteAhead c.args.up c.in-Parts.ensures.other c.in-Parts.ensures.node_byte → ⊥ = λ h.
+    (let yes = c.if-is_ahead.ensures.1 (told_ahead c.args.up _ _ _ _ (sym other) (sym own) h) in cc) in
     parent_form c.args.up b c.args.at c.args.key.now part front c.args.depth (16 - c.args.depth) None c.rest_of.ensures.rest level
     (sym (ap (option_map (λ e. front ++ e.key)) (sought_none c.args.up b c.args.at c.bytes.result.now part front tree c.bytes.ensures c.in-Parts.shared c.in-Parts.ensures not_ahead)))
 

@@ -1,7 +1,8 @@
-use Rattle.std.proofs.Common.{◌≡◌, ◌∙◌, ◌++◌, ◌+◌, ◌-◌, length, [], sym, ap, arith, append_assoc, append-nil}
+use Rattle.std.proofs.Common.{◌≡◌, ◌∙◌, ℕ, List, ◌++◌, ◌+◌, ◌-◌, length, [], refl, sym, ap, arith, append_assoc, append-nil}
 use Rattle.rehash_dict.specs.Sides.{side_rows}
 use Rattle.rehash_dict.specs.Scan.{bits_of, smaller_of, larger_of, walk}
-use Rattle.rehash_dict.proofs.Turns.{extends_on}
+use Rattle.rehash_dict.proofs.Turns.{extends_on, extends_same}
+use Rattle.rehash_dict.proofs.Scans.{ordered}
 use Rattle.rehash_dict.proofs.Scanning.{turn_last, turn_more, walk_none}
 use Rattle.rehash_dict.proofs.scan.push_larger.Goals as goal
 
@@ -60,3 +61,37 @@ returns-clause-next g c =
     = ap (λ n. (walk (larger_of h.older h.newer) (bits_of (length (smaller_of h.older h.newer))) (bits_of (length (larger_of h.older h.newer))) n c.loop.next).1) none
     ∙ ap (λ r. r.1) (walk_none (larger_of h.older h.newer) _ _ 0 c.loop.next) in
     sym rest ∙ c.loop.invariant.end
+
+pub overflow_sub-between : goal.overflow_sub-between
+overflow_sub-between g c =
+    let h = c.args.chains.now in
+    omega (arith, c.buckets.ensures, ap length c.smaller.ensures, (ordered h.items h.older h.newer c.requires.stand c.requires.older c.requires.newer).some)
+
+pub overflow_sub-between-2 : goal.overflow_sub-between-2
+overflow_sub-between-2 g c =
+    let h = c.args.chains.now in
+    let order = ordered h.items h.older h.newer c.requires.stand c.requires.older c.requires.newer in
+    omega (arith, c.buckets-buckets.ensures, ap length c.larger-side.ensures, order.some, order.order)
+
+pub loop-init : goal.loop-init
+loop-init g c =
+    let h = c.args.chains.now in
+    let many : c.buckets-buckets.result - 0 ≡ length (larger_of h.older h.newer) = omega (arith, c.buckets-buckets.ensures, ap length c.larger-side.ensures) in
+    let on : ℕ → List ℕ × ℕ = λ n. walk (larger_of h.older h.newer) (bits_of (length (smaller_of h.older h.newer))) (bits_of (length (larger_of h.older h.newer))) n c.args.cursor in
+    record {
+      all = ap (λ n. c.args.found.now.items ++ (on n).0) many;
+      end = ap (λ n. (on n).1) many;
+      kept = extends_same c.args.found.now.items c.args.found.now.items refl;
+    }
+
+pub push_bucket-requires-clause-table : goal.push_bucket-requires-clause-table
+push_bucket-requires-clause-table g c =
+    let h = c.args.chains.now in
+    let order = ordered h.items h.older h.newer c.requires.stand c.requires.older c.requires.newer in
+    omega (arith, ap length c.larger-side.ensures, order.some, order.order)
+
+pub returns-in_err-next-clause-kept : goal.returns-in_err-next-clause-kept
+returns-in_err-next-clause-kept g c = extends_on _ _ _ c.loop.invariant.kept c.in_err-next.ensures.kept
+
+pub returns-clause-kept : goal.returns-clause-kept
+returns-clause-kept g c = c.loop.invariant.kept

@@ -1,5 +1,5 @@
 use Rattle.std.proofs.Common.{arith, ◌≡◌, ◌∙◌, ◌<◌, sym, ap, subst, refl, length-set, slice_set}
-use Rattle.std.specs.Prelude.{Some, None, IfSome}
+use Rattle.std.specs.Prelude.{Some, None, IfSome, IsSome}
 use Rattle.std.proofs.lemmas.List.{get_or_read}
 use Rattle.blocks.specs.Slabs.{per_slab}
 use Rattle.class_heap.specs.declared.entry.Entry.TheVariants.{Vacant}
@@ -16,6 +16,27 @@ unreachable-requires-in-None-first c =
     let there = slab_there es a c.args.at.slot c.requires.live in
     let of_class : class_in (use_in (entry_at es a)) ≡ Some class = ap (λ x. class_in (use_in x)) (sym (get_or_read es _ _ there c.index.ensures Vacant)) ∙ (sym c.class.ensures ∙ c.in-Some.is) in
     room_waits s.sound c.args.at class c.requires.wants of_class (class_few (entry_at es a) class of_class) c.requires.live c.in-None-first.ensures.none
+
+pub carry-slot-requires-clause-live : goal.carry-slot-requires-clause-live
+carry-slot-requires-clause-live c =
+    let es = c.args.self.now.entries.items in let a = c.args.at.slab in
+    let source = c.replace-source.ensures.value ∙ get_or_read es _ _ (slab_there es a c.args.at.slot c.requires.live) c.index_mut.ensures.value Vacant in
+    subst (λ x. IsSome (block_in x c.args.at.slot)) (sym source) c.requires.live
+
+pub carry-slot-requires-clause-slab : goal.carry-slot-requires-clause-slab
+carry-slot-requires-clause-slab c =
+    let s = c.args.self.now in let es = s.entries.items in let a = c.args.at.slab in let n = c.in-Some-first.slab in let class = c.in-Some.class in
+    let there = slab_there es a c.args.at.slot c.requires.live in
+    let of_class : class_in (use_in (entry_at es a)) ≡ Some class = ap (λ x. class_in (use_in x)) (sym (get_or_read es _ _ there c.index.ensures Vacant)) ∙ (sym c.class.ensures ∙ c.in-Some.is) in
+    let m = moving s.sound c.args.at class c.requires.wants of_class (class_few (entry_at es a) class of_class) n c.in-Some-first.ensures.least in
+    let source = c.replace-source.ensures.value ∙ get_or_read es _ _ there c.index_mut.ensures.value Vacant in
+    subst (λ o. IsSome o) (sym (ap use_in source ∙ m.from_is)) refl
+
+pub give_back-requires : goal.give_back-requires
+give_back-requires c =
+    let es = c.args.self.now.entries.items in let a = c.args.at.slab in
+    let source = c.replace-source.ensures.value ∙ get_or_read es _ _ (slab_there es a c.args.at.slot c.requires.live) c.index_mut.ensures.value Vacant in
+    subst (λ x. IsSome (block_in x c.args.at.slot)) (sym source) c.requires.live
 
 pub carry-slot-requires-clause-class : goal.carry-slot-requires-clause-class
 carry-slot-requires-clause-class c =

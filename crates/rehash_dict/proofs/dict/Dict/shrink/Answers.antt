@@ -1,4 +1,4 @@
-use Rattle.std.proofs.Common.{◌≡◌, ◌≤◌, ◌*◌, ◌+◌, ◌∙◌, [], max, length, sym, ap, subst, refl, arith, false, vec_len}
+use Rattle.std.proofs.Common.{◌≡◌, ◌≤◌, ◌*◌, ◌+◌, ◌∙◌, [], max, length, sym, ap, subst, refl, arith, true, false, vec_len}
 use Rattle.rehash_dict.specs.Tables.{count, wants_shrink, shrunk, begun, least_power}
 use Rattle.rehash_dict.specs.Table.{tables}
 use Rattle.rehash_dict.specs.Placed.{IsSize}
@@ -15,8 +15,8 @@ use Rattle.rehash_dict.proofs.dict.Dict.shrink.Goals as goal
 use Rattle.rehash_dict.proofs.dict.Dict.shrink.Goals.{then-buckets-gt0-via-then-buckets-gt0, then-buckets-gt0-via-else-buckets-gt0+then-buckets-le-FIRST_SIZE}
 use Rattle.rehash_dict.proofs.dict.Dict.shrink.Goals.{then-buckets-gt0-via-else-buckets-gt0+else-buckets-le-FIRST_SIZE+then-saturating_mul-buckets}
 
-pub returns-then-buckets-gt0-clause-tables : goal.returns-then-buckets-gt0-clause-tables
-returns-then-buckets-gt0-clause-tables g c blocks =
+pub returns-then-buckets-gt0-clause-value : goal.returns-then-buckets-gt0-clause-value
+returns-then-buckets-gt0-clause-value g c =
     let older : c.buckets-buckets.result ≡ length c.args.self.now.older = c.buckets-buckets.ensures ∙ ap (λ t. length t.older) c.self.view_is in
     let newer : c.buckets.result ≡ length c.args.self.now.newer = c.buckets.ensures ∙ ap (λ t. length t.newer) c.self.view_is in
     let none : wants_shrink (tables c.args.self.now) ≡ false = elim c.then-buckets-gt0.branch [
@@ -29,7 +29,14 @@ returns-then-buckets-gt0-clause-tables g c blocks =
           let over : c.buckets-buckets.result ≤ c.len-len.result * 10 = omega (arith, w.saturating_mul.ensures, w.if-saturating_mul-buckets.true) in
           wants_filled (tables c.args.self.now) (omega arith))
     ] in
-    key_tables_shrunk blocks c.args.self.now c.args.self.now refl (sym (shrinks_not (tables c.args.self.now) none))
+    sym none
+
+pub returns-then-buckets-gt0-clause-settled : goal.returns-then-buckets-gt0-clause-settled
+returns-then-buckets-gt0-clause-settled g c = sym (returns-then-buckets-gt0-clause-value g c)
+
+pub returns-then-buckets-gt0-clause-tables : goal.returns-then-buckets-gt0-clause-tables
+returns-then-buckets-gt0-clause-tables g c blocks =
+    key_tables_shrunk blocks c.args.self.now c.args.self.now refl (sym (shrinks_not (tables c.args.self.now) (sym (returns-then-buckets-gt0-clause-value g c))))
 
 pub begin-requires-clause-size : goal.begin-requires-clause-size
 begin-requires-clause-size g c = subst IsSize (sym c.in_ok-heads.ensures.len)
@@ -54,6 +61,16 @@ returns-clause-tables g c blocks =
     (table_of c.begin.new.chains c.self.inside.position c.self.inside.seed c.self.inside.top) c.begin.ensures.rebuilds.items
     (ap (held_tables c.begin.new.chains) start ∙ c.begin.ensures.tables ∙ ap (begun (held_tables c.self.inside.chains 0)) size
     ∙ sym (shrinks (held_tables c.self.inside.chains c.self.inside.position) wanted)))
+
+pub returns-clause-value : goal.returns-clause-value
+returns-clause-value g c =
+    let still : length c.self.inside.chains.newer ≤ 0 = omega (arith, c.buckets.ensures, c.if-buckets-gt0.false) in
+    let none : c.self.inside.chains.newer ≡ [] = no_rows c.self.inside.chains.newer still in
+    let all : c.len-len.result ≡ count c.self.inside.chains.older = c.len-len.ensures ∙ sym c.self.invariant.kept.stand.counted
+    ∙ ap (λ rows. count c.self.inside.chains.older + count rows) none ∙ (omega arith) in
+    let wanted = wants_yes (held_tables c.self.inside.chains c.self.inside.position) still (omega (arith, c.buckets-buckets.ensures, c.if-buckets-le-FIRST_SIZE.false))
+    (omega (arith, c.buckets-buckets.ensures, c.buckets-buckets.type_inv, c.saturating_mul.ensures, c.if-saturating_mul-buckets.false)) in
+    sym (subst (λ t. wants_shrink (tables t) ≡ true) c.self.view_is wanted)
 
 pub returns-clause-map : goal.returns-clause-map
 returns-clause-map g c blocks = map_of_items blocks (λ v. v) c.args.self.now _ (c.begin.ensures.rebuilds.items ∙ ap (λ t. t.items) c.self.view_is)
