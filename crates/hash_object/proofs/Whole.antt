@@ -1,23 +1,26 @@
 -- Listpacks whose elements a packed hash takes as its fields and values.
-use Rattle.std.proofs.Common.{◌≡◌, ℕ, zero, suc, ◌+◌, ◌*◌, ◌<◌, ◌≤◌, max, List, [], ◌∷◌, ◌++◌, length, take, get_or, Option, Some, None, unwrap_or, refl, sym, ap, ◌∙◌, subst, arith, length-append}
+use Rattle.std.proofs.Common.{◌≡◌, ℕ, zero, suc, ◌+◌, ◌*◌, ◌<◌, ◌≤◌, max, List, [], ◌∷◌, ◌++◌, length, map, take, get_or, Option, Some, None, unwrap_or, refl, sym, ap, ◌∙◌, subst, arith}
+use Rattle.std.proofs.Common.{length-append}
 use Rattle.std.proofs.lemmas.Bool.{eqb-true, eq-eqb}
 use Rattle.std.proofs.lemmas.List.{take_all, take_more}
 use Rattle.std.specs.List.{insert as inserted}
 use Rattle.std.specs.Prelude.{IsTrue, ◌↔◌, nat_eq}
 use Rattle.std.specs.Ordering.{nat_cmp}
 use Rattle.std.specs.Cmp.Lexicographic.{slice_cmp}
-use Rattle.std.specs.FinMap.{len, entries, empty, len-empty, empty_of_len}
+use Rattle.std.specs.FinMap.{len, empty, len-empty, empty_of_len}
 use Rattle.blocks.specs.declared.BlockRef.{BlockRef}
-use Rattle.blocks.specs.Blocks.{Blocks, IsIn, bytes_at, with_block, Changes}
+use Rattle.blocks.specs.Blocks.{Blocks, IsIn, with_block, Changes}
 use Rattle.collection_walk.proofs.Lists.{some_none}
 use Rattle.collection_walk.proofs.Named.{self}
 use Rattle.collection_walk.proofs.Replaced.{new_kept}
+use Rattle.listpack.specs.Pack.{IsPack, texts, spellings_of}
+use Rattle.listpack.specs.Writing.{spelling}
 use Rattle.object_codec.specs.declared.limits.Limits.{Limits}
 use Rattle.object_codec.specs.declared.form.Form.{Form}
-use Rattle.object_codec.specs.declared.form.Form.TheVariants.{Listpack, Hashtable}
+use Rattle.object_codec.specs.declared.form.Form.TheVariants.{Listpack}
 use Rattle.object_codec.specs.Forms.{IsLeast}
-use Rattle.pack_pairs.specs.Pairs.{Pair, IsPairPack, IsOnce, IsFirst, flat, paired, pairs, second_of, map_of_pairs, longest}
-use Rattle.pack_pairs.proofs.Lists.{no_pair, length_flat, first_is, second_is, inserted_last}
+use Rattle.pack_pairs.specs.Pairs.{Pair, IsPairPack, IsOnce, IsFirst, paired, pairs, second_of, map_of_pairs, longest}
+use Rattle.pack_pairs.proofs.Lists.{no_pair, even_whole, length_flat, first_is, second_is, inserted_last}
 use Rattle.pack_pairs.proofs.Maps.{first_second, once_last, once_before, map_len, longest_last}
 use Rattle.rehash_dict.specs.Keyed.{hash_of}
 use Rattle.rehash_dict.specs.Grown.{Grown}
@@ -33,14 +36,6 @@ use Rattle.hash_object.proofs.Forms.{map_short, packed_least}
 use Rattle.hash_object.proofs.Placing.{pack_is_placed}
 
 -- ---- texts two by two
-
--- an even number of texts are those of their pairs
-pub even_whole : (n : ℕ) (xs : List (List ℕ)) → length xs ≡ 2 * n → xs ≡ flat (paired xs)
-even_whole zero [] e = refl
-even_whole zero (x ∷ xs) e = absurd (omega (arith, e))
-even_whole (suc n) [] e = absurd (omega (arith, e))
-even_whole (suc n) (x ∷ []) e = absurd (omega (arith, e))
-even_whole (suc n) (x ∷ y ∷ xs) e = ap (λ (zs : List (List ℕ)). x ∷ y ∷ zs) (even_whole n xs (omega (arith, e)))
 
 -- half as many pairs
 pub even_len : (n : ℕ) (xs : List (List ℕ)) → length xs ≡ 2 * n → length (paired xs) ≡ n
@@ -66,6 +61,21 @@ none_yet limits bytes pack none = record {
   once = subst IsOnce (sym none) tt;
   few = omega arith;
   short = omega (arith, ap longest none);
+}
+
+-- a listpack that is spelled as the writer spells it, of an even number of elements, is one of pairs
+pub pair_pack : (bytes : List ℕ) (n : ℕ) → IsPack bytes → spellings_of bytes ≡ map spelling (texts bytes) → length (texts bytes) ≡ 2 * n → IsPairPack bytes
+pair_pack bytes n pack written even = record { pack = pack; written = written; whole = even_whole n (texts bytes) even }
+
+-- and of a packed hash, where its texts are short and no field stands twice
+pub field_pack : (limits : Limits) (n : ℕ) (bytes : List ℕ) → n ≤ limits.hash_entries → length (texts bytes) ≡ 2 * n → IsPairPack bytes → longest (pairs bytes) ≤ limits.hash_value
+    → IsOnce (pairs bytes) → IsFieldPack limits n bytes
+field_pack limits n bytes few even pack short once = record {
+  pack = pack;
+  counted = sym (even_len n (texts bytes) even);
+  once = once;
+  few = few;
+  short = short;
 }
 
 -- with a pair more that may follow

@@ -19,7 +19,7 @@ use blocks::{BlockStore, Memory, put_block};
 use itoa::Buffer;
 use listpack::{Element, Pack};
 use object_codec::{Form, Limits};
-use pack_pairs::{find, put_pair, text};
+use pack_pairs::{are_once, find, longest_len, put_pair, text};
 use std::alloc::Global;
 use std::mem;
 
@@ -110,6 +110,30 @@ fn repacked(
     Ok(Some(new))
 }
 
+// Whether a listpack of so many pairs is, as it stands, that of a packed hash: spelled as the writer spells it, with short texts, and no
+// field twice.
+fn is_field_pack(
+    alloc: Global,
+    limits: &Limits,
+    pack: &Pack<'_>,
+    count: usize,
+) -> Result<bool, Memory>
+    requires count { length (list_of pack.now) ≡ 2 * count }
+    requires few { count ≤ limits.now.hash_entries }
+    ensures { IfOk result (λ stands. IsTrue stands ↔ IsFieldPack limits.now count (bytes_of pack.now)) }
+{
+    if !pack.is_written() {
+        return Ok(false);
+    }
+    let bytes = pack.bytes();
+    let longest = longest_len(bytes);
+    let most = limits.hash_value as usize;
+    if longest > most {
+        return Ok(false);
+    }
+    are_once(alloc, bytes)
+}
+
 impl Fields {
     // Whether the hash is packed and has no field.
     fn is_fresh(&self) -> bool
@@ -121,8 +145,51 @@ impl Fields {
         }
     }
 
-    // Places a listpack of these elements as the pairs of a packed hash. `None` comes exactly where they may not be that, and leaves
-    // all blocks, as `Memory` does.
+    // Places a listpack, that of a packed hash of so many pairs, as it stands.
+    fn place_standing<B: BlockStore>(
+        &self,
+        store: &mut B,
+        pack: &Pack<'_>,
+        count: usize,
+    ) -> Result<Body, Memory>
+        requires count { length (list_of pack.now) ≡ 2 * count }
+        requires pack { IsFieldPack self.now.limits count (bytes_of pack.now) }
+        ensures placed { IfOk result (λ body. IsPlacedWhole (B.blocks store.old) (B.blocks store.new) self.now (list_of pack.now) body) }
+        ensures served { Served B.step store.old store.new }
+        ensures err_blocks { OnErr result (B.blocks store.new ≡ B.blocks store.old) }
+    {
+        let at = put_block(store, pack.bytes())?;
+        Ok(Body::Pack(Packed { at, len: count }))
+    }
+
+    // Places a new listpack of these elements, twice as many as the pairs, each spelled anew. `None` comes exactly where they may not be
+    // the pairs of a packed hash, and leaves all blocks, as `Memory` does.
+    fn place_anew<B: BlockStore>(
+        &self,
+        store: &mut B,
+        pack: &Pack<'_>,
+        count: usize,
+    ) -> Result<Option<Body>, Memory>
+        requires range { AreInRange self.now.limits }
+        requires count { length (list_of pack.now) ≡ 2 * count }
+        requires few { count ≤ self.now.limits.hash_entries }
+        ensures placed { IfOk result (λ made. IfSome made (λ body. IsPlacedWhole (B.blocks store.old) (B.blocks store.new) self.now (list_of pack.now) body)) }
+        ensures none { IfOk result (λ made. IfNone made (ArePackable self.now.limits (list_of pack.now) → ⊥)) }
+        ensures served { Served B.step store.old store.new }
+        ensures none_blocks { IfOk result (λ made. IfNone made (B.blocks store.new ≡ B.blocks store.old)) }
+        ensures err_blocks { OnErr result (B.blocks store.new ≡ B.blocks store.old) }
+    {
+        match repacked(self.alloc, &self.limits, pack, count)? {
+            Some(bytes) => {
+                let at = put_block(store, &bytes)?;
+                Ok(Some(Body::Pack(Packed { at, len: count })))
+            }
+            None => Ok(None),
+        }
+    }
+
+    // Places a listpack of these elements as the pairs of a packed hash: as it stands where it is one, and else a new one. `None` comes
+    // exactly where they may not be that, and leaves all blocks, as `Memory` does.
     fn place_whole<B: BlockStore>(
         &self,
         store: &mut B,
@@ -143,18 +210,17 @@ impl Fields {
         if count > self.limits.hash_entries as usize {
             return Ok(None);
         }
-        match repacked(self.alloc, &self.limits, pack, count)? {
-            Some(bytes) => {
-                let at = put_block(store, &bytes)?;
-                Ok(Some(Body::Pack(Packed { at, len: count })))
-            }
-            None => Ok(None),
+        let stands = is_field_pack(self.alloc, &self.limits, pack, count)?;
+        if stands {
+            let body = self.place_standing(store, pack, count)?;
+            return Ok(Some(body));
         }
+        self.place_anew(store, pack, count)
     }
 
     /// Takes the elements of a listpack as fields and values, and answers whether it did: exactly where the hash is packed and has no
-    /// field, they come in twos, the limits of a packed hash allow them, and no field stands twice. The fields keep their order, and
-    /// each text is spelled anew.
+    /// field, they come in twos, the limits of a packed hash allow them, and no field stands twice. The fields keep their order.
+    /// A listpack that is spelled as the writer spells it becomes that of the hash as it stands, and else each text is spelled anew.
     ///
     /// Where it did not, and on `Memory`, the hash and all blocks stay.
     pub fn take_pack<B: BlockStore>(

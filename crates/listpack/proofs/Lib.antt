@@ -7,3 +7,4 @@ pub mod Regions
 pub mod Repacking
 pub mod Spellings
 pub mod Writings
+pub mod Written

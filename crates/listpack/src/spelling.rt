@@ -7,6 +7,7 @@ ghost use Rattle.listpack.specs.Entry.{IsSpelling, text_of};
 ghost use Rattle.listpack.specs.Writing.{magnitude, thirteen_low, number_spelling, text_head, spelling, entry, Fits};
 
 use crate::back::back_len;
+use crate::encoding::{Element, element_of};
 use crate::few::FewBytes;
 use byteorder::{ByteOrder, LittleEndian};
 use int_text::read_i64;
@@ -91,6 +92,38 @@ pub(crate) fn spell(element: &[u8]) -> (FewBytes, &[u8])
     match read_i64(element) {
         Some(n) => (number_head(n), &element[..0]),
         None => (text_head_of(element.len()), element),
+    }
+}
+
+// Whether bytes are the spelling of a number.
+fn is_spelling_of_number(bytes: &[u8], n: i64) -> bool
+    ensures { IsTrue result ↔ (bytes.now ≡ number_spelling n) }
+{
+    let head = number_head(n);
+    bytes == head.as_slice()
+}
+
+// Whether bytes are the spelling of an element.
+fn is_spelling_of(bytes: &[u8], element: &[u8]) -> bool
+    requires { length element.now < 2 ^ 32 }
+    ensures { IsTrue result ↔ (bytes.now ≡ spelling element.now) }
+{
+    let (head, content) = spell(element);
+    match bytes.strip_prefix(head.as_slice()) {
+        Some(rest) => rest == content,
+        None => false,
+    }
+}
+
+/// Whether encoding and content of an entry are those that the writer gives its element.
+pub(crate) fn is_as_written(spelled: &[u8]) -> bool
+    requires own { IsSpelling spelled.now }
+    requires small { length spelled.now < 2 ^ 32 }
+    ensures { IsTrue result ↔ (spelled.now ≡ spelling (text_of spelled.now)) }
+{
+    match element_of(spelled) {
+        Element::Number(n) => is_spelling_of_number(spelled, n),
+        Element::Text(part) => is_spelling_of(spelled, part),
     }
 }
 

@@ -1,14 +1,16 @@
 // A checked listpack, and the walks over its entries.
 
-ghost use Rattle.std.specs.Prelude.{◌≡◌, ◌+◌, ◌-◌, ◌<◌, ◌≤◌, ◌^◌, ◌↔◌, ℕ, List, [], length, get_or, slice_index, IsTrue, MatchOption, IfSome};
+ghost use Rattle.std.specs.Prelude.{◌≡◌, ◌+◌, ◌-◌, ◌<◌, ◌≤◌, ◌^◌, ◌↔◌, ℕ, List, [], length, map, get_or, slice_index, IsTrue, MatchOption, IfSome};
 ghost use Rattle.listpack.specs.Entry.{IsSpelling};
 ghost use Rattle.listpack.specs.Element.{element_text, is_number, IsNumberByte};
 ghost use Rattle.listpack.specs.Pack.{IsPack, IsOffset, IsAt, texts, spellings_of, offset_of};
+ghost use Rattle.listpack.specs.Writing.{spelling};
 
 use crate::back::{back_len, entry_len_before};
 use crate::encoding::{Element, element_of, split_spelling};
 use crate::entry::count_entries;
 use crate::header::{NOT_TOLD, told_count};
+use crate::spelling::is_as_written;
 
 /// Bytes that are a listpack.
 #[derive(Clone, Copy, Debug)]
@@ -49,8 +51,8 @@ impl<'a> Pack<'a> {
         self.bytes.len() == 7
     }
 
-    // Encoding and content of the entry at an offset.
-    fn spelling_at(&self, at: usize) -> &'a [u8]
+    /// Encoding and content of the entry at an offset.
+    pub fn spelling_at(&self, at: usize) -> &'a [u8]
         requires { IsOffset (bytes_of self.now) at }
         ensures own { IsSpelling result.now }
         ensures value { (i : ℕ) → IsAt (bytes_of self.now) i at → result.now ≡ get_or (spellings_of (bytes_of self.now)) i [] }
@@ -109,6 +111,21 @@ impl<'a> Pack<'a> {
     {
         let spelling = self.spelling_at(at);
         self.len_spelled(at, spelling)
+    }
+
+    /// Whether each entry is spelled as the writer spells its element.
+    pub fn is_written(&self) -> bool
+        ensures { IsTrue result ↔ (spellings_of (bytes_of self.now) ≡ map spelling (list_of self.now)) }
+    {
+        let mut at = 6;
+        for _ in 0..self.len() {
+            let spelled = self.spelling_at(at);
+            if !is_as_written(spelled) {
+                return false;
+            }
+            at += self.len_spelled(at, spelled);
+        }
+        true
     }
 
     // The offset of the entry at an index, or behind all entries that of the last byte, by a step for each entry before it.

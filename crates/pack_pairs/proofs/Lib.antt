@@ -1,3 +1,4 @@
 pub mod Lists
 pub mod Packs
 pub mod Maps
+pub mod Distinct

@@ -24,6 +24,20 @@ pub length_flat : (list : List Pair) → length (flat list) ≡ 2 * length list
 length_flat [] = refl
 length_flat (p ∷ rest) = omega (arith, length_flat rest)
 
+-- an even number of texts are those of their pairs
+pub even_whole : (n : ℕ) (xs : List (List ℕ)) → length xs ≡ 2 * n → xs ≡ flat (paired xs)
+even_whole zero [] e = refl
+even_whole zero (x ∷ xs) e = absurd (omega (arith, e))
+even_whole (suc n) [] e = absurd (omega (arith, e))
+even_whole (suc n) (x ∷ []) e = absurd (omega (arith, e))
+even_whole (suc n) (x ∷ y ∷ xs) e = ap (λ (zs : List (List ℕ)). x ∷ y ∷ zs) (even_whole n xs (omega (arith, e)))
+
+-- texts taken two by two behind a map, or before it
+pub paired_map : (f : List ℕ → List ℕ) (xs : List (List ℕ)) → paired (map f xs) ≡ map (λ (p : Pair). (f p.0, f p.1)) (paired xs)
+paired_map f [] = refl
+paired_map f (x ∷ []) = refl
+paired_map f (x ∷ y ∷ xs) = ap (λ (ps : List Pair). (f x, f y) ∷ ps) (paired_map f xs)
+
 -- ---- what stands at an index
 
 get_first : (list : List Pair) (i : ℕ) → get_or (flat list) (double i) [] ≡ (get_or list i no_pair).0

@@ -47,7 +47,7 @@ get_pairs list q = get-from_entries nat_list_cmp_total list q
 -- ---- one first text
 
 -- the first pair does not have it, nor the others
-none_parts : (q : List ℕ) (p : Pair) (rest : List Pair) → second_of q (p ∷ rest) ≡ None → (tied q p.0 ≡ false) × (second_of q rest ≡ None)
+pub none_parts : (q : List ℕ) (p : Pair) (rest : List Pair) → second_of q (p ∷ rest) ≡ None → (tied q p.0 ≡ false) × (second_of q rest ≡ None)
 none_parts q p rest h = elim (cases_Bool (tied q p.0)) [
   | inl t ↦ absurd (some_none (second_of q (p ∷ rest)) p.1 (cond-true _ _ _ t) h)
   | inr f ↦ (f, sym (cond-false _ _ _ f) ∙ h)

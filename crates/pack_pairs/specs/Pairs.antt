@@ -25,6 +25,10 @@ paired (x ∷ y ∷ rest) = (x, y) ∷ paired rest
 abbrev pub pairs : List ℕ → List Pair
 pairs bytes = paired (texts bytes)
 
+-- the spellings of the first elements of a listpack's pairs
+abbrev pub first_spellings : List ℕ → List (List ℕ)
+first_spellings bytes = map (λ (p : Pair). p.0) (paired (spellings_of bytes))
+
 -- The bytes are the listpack that the writer makes of the elements of pairs.
 pub record IsPairPack (bytes : List ℕ) : Type 0 where
   pub pack : IsPack bytes

@@ -2,7 +2,7 @@
 
 ghost use Rattle.std.specs.Prelude.{◌≡◌, ℕ, ◌+◌, ◌<◌, ◌≤◌, [], None, Some, IfSome, IfNone, MatchOption, length, slice_index_or};
 ghost use Rattle.listpack.specs.Element.{element_text};
-ghost use Rattle.pack_pairs.specs.Pairs.{IsPairPack, IsPairAt, IsSecondAt, IsFirst, pairs, second_of};
+ghost use Rattle.pack_pairs.specs.Pairs.{IsPairPack, IsPairAt, IsSecondAt, IsFirst, pairs, second_of, longest};
 
 use itoa::Buffer;
 use listpack::{Element, Sought};
@@ -32,6 +32,14 @@ pub fn text<'a>(element: Element<'a>, room: &'a mut Buffer) -> &'a [u8]
         Element::Text(part) => part,
         Element::Number(n) => room.format(n).as_bytes(),
     }
+}
+
+// The length of an element's text.
+fn text_len(element: Element<'_>) -> usize
+    ensures { result ≡ length (element_text element.entry) }
+{
+    let mut room = Buffer::new();
+    text(element, &mut room).len()
 }
 
 // The offset of the second element of the pair at an offset.
@@ -166,4 +174,28 @@ pub fn find_second<'a>(bytes: &'a [u8], first: &[u8]) -> Option<Element<'a>>
         Some(place) => Some(second(bytes, place.at)),
         None => None,
     }
+}
+
+/// The length of the longest text of the pairs, by one pass over them.
+pub fn longest_len(bytes: &[u8]) -> usize
+    requires { IsPairPack bytes.now }
+    ensures { result ≡ longest (pairs bytes.now) }
+{
+    let count = listpack::known(bytes).len() / 2;
+    let mut next = first_place(bytes);
+    let mut most = 0;
+    for _ in 0..count {
+        match next {
+            Some(at) => {
+                let pair = step(bytes, at);
+                let first = text_len(pair.first);
+                let second = text_len(pair.second);
+                let len = first.max(second);
+                most = len.max(most);
+                next = pair.next;
+            }
+            None => unreachable!(),
+        }
+    }
+    most
 }

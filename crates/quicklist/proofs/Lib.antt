@@ -9,6 +9,7 @@ pub mod Moving
 pub mod Overwriting
 pub mod Places
 pub mod Rebuilding
+pub mod Rests
 pub mod Retelling
 pub mod Rising
 pub mod Behind

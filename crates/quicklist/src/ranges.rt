@@ -4,11 +4,11 @@ ghost use Rattle.std.specs.Prelude.{◌≡◌, ◌∷◌, ◌<◌, ◌≤◌, �
 ghost use Rattle.std.specs.List.{remove_range as range_removed, flat_map};
 ghost use Rattle.blocks.specs.Blocks.{Served};
 ghost use Rattle.listpack.specs.Pack.{texts};
-ghost use Rattle.quicklist.specs.Nodes.{IsHeld, IsPacked, IsPiece, held, piece_list, node_at, node_list, left_list, rest_list};
+ghost use Rattle.quicklist.specs.Nodes.{IsHeld, IsPacked, IsPiece, IsReadable, held, piece_list, node_at, node_list, left_list, rest_list};
 ghost use Rattle.quicklist.specs.Chain.{elements, IsQuick, IsChanged, IsFormed, respelled};
 
 use crate::locate::find;
-use crate::node::Container;
+use crate::node::{Container, Node};
 use crate::packs::{packed_piece, without};
 use crate::piece::Piece;
 use crate::quick::Quick;
@@ -39,6 +39,25 @@ fn rest_of(
         Container::Plain => unreachable!(),
         Container::Packed => Ok(Some(without(alloc, bytes, from, to)?)),
     }
+}
+
+// The bytes of a node without its elements from the index `from` to below `to`, or none where no element is left.
+fn node_rest<B: BlockStore>(
+    alloc: Global,
+    store: &B,
+    node: Node,
+    from: usize,
+    to: usize,
+) -> Result<Option<Vec<u8>>, Memory>
+    requires readable { IsReadable (B.blocks store.now) node }
+    requires order { from < to }
+    requires inside { to ≤ node.count }
+    ensures rest { IfOk result (λ pack. IfSome pack (λ v.
+        IsPacked v.items × (node.count - (to - from) ≡ length (texts v.items)) × (0 < node.count - (to - from)) × (node.count - (to - from) < 2 ^ 32))) }
+    ensures list { IfOk result (λ pack. left_list pack ≡ range_removed (node_list (B.blocks store.now) node) from to) }
+{
+    let count = node.count as usize;
+    rest_of(alloc, node.container, node.bytes(store), count, from, to)
 }
 
 impl Quick {
@@ -106,6 +125,42 @@ impl Quick {
         }
     }
 
+    // What is left of two nodes in the place of the nodes from k on, of which there are `gone`: i elements of the one, and j of the other.
+    fn place_rests<B: BlockStore>(
+        &mut self,
+        store: &mut B,
+        k: usize,
+        gone: usize,
+        before: Option<&Vec<u8>>,
+        i: usize,
+        behind: Option<&Vec<u8>>,
+        j: usize,
+        len: usize,
+    ) -> Result<(), Memory>
+        requires quick { IsQuick (B.blocks store.old) self.old }
+        requires many { 1 < gone }
+        requires inside { k + gone ≤ length self.old.nodes }
+        requires before { IfSome before (λ v. IsPacked v.now.items × (i ≡ length (texts v.now.items)) × (0 < i) × (i < 2 ^ 32)) }
+        requires behind { IfSome behind (λ v. IsPacked v.now.items × (j ≡ length (texts v.now.items)) × (0 < j) × (j < 2 ^ 32)) }
+        requires len { len ≡ length (respelled (B.blocks store.old) self.old k (rest_list before ++ rest_list behind) (k + gone)) }
+        ensures changed { OnOk result
+            (IsChanged (B.blocks store.old) (B.blocks store.new) self.old self.new
+            (respelled (B.blocks store.old) self.old k (rest_list before.entry ++ rest_list behind.entry) (k + gone))) }
+        ensures form { self.new.form ≡ self.old.form }
+        ensures served { Served B.step store.old store.new }
+        ensures err_list { OnErr result (self.new ≡ self.old) }
+        ensures err_blocks { OnErr result (B.blocks store.new ≡ B.blocks store.old) }
+    {
+        match (before, behind) {
+            (None, _) => self.place_rest(store, k, gone, behind, j, len),
+            (Some(_), None) => self.place_rest(store, k, gone, before, i, len),
+            (Some(a), Some(b)) => {
+                let behind_piece = packed_piece(b, j as u32);
+                self.place_two(store, k, gone, packed_piece(a, i as u32), behind_piece, len)
+            }
+        }
+    }
+
     // Takes out the elements of the node `first` from its element i on, those of the node `last` before its element j, and the nodes
     // between them.
     fn remove_across<B: BlockStore>(
@@ -137,33 +192,54 @@ impl Quick {
     {
         let alloc = self.alloc;
         let (head, tail) = (self.nodes[first], self.nodes[last]);
-        let (head_count, tail_count) = (head.count as usize, tail.count as usize);
-        let gone = last + 1 - first;
-        let before = rest_of(
-            alloc,
-            head.container,
-            head.bytes(store),
-            head_count,
+        let before = node_rest(alloc, store, head, i, head.count as usize)?;
+        let behind = node_rest(alloc, store, tail, 0, j)?;
+        let left = tail.count as usize - j;
+        self.place_rests(
+            store,
+            first,
+            last + 1 - first,
+            before.as_ref(),
             i,
-            head_count,
-        )?;
-        let behind = rest_of(alloc, tail.container, tail.bytes(store), tail_count, 0, j)?;
-        match (&before, &behind) {
-            (Some(a), Some(b)) => {
-                let behind_piece = packed_piece(b, (tail_count - j) as u32);
-                self.place_two(
-                    store,
-                    first,
-                    gone,
-                    packed_piece(a, i as u32),
-                    behind_piece,
-                    len,
-                )
-            }
-            (Some(a), None) => self.place_rest(store, first, gone, Some(a), i, len),
-            (None, Some(b)) => self.place_rest(store, first, gone, Some(b), tail_count - j, len),
-            (None, None) => self.place_rest(store, first, gone, None, 0, len),
+            behind.as_ref(),
+            left,
+            len,
+        )
+    }
+
+    // Takes out the elements of the node k from its element i on to before its element j.
+    fn remove_within<B: BlockStore>(
+        &mut self,
+        store: &mut B,
+        k: usize,
+        i: usize,
+        j: usize,
+        len: usize,
+    ) -> Result<(), Memory>
+        requires quick { IsQuick (B.blocks store.old) self.old }
+        requires inside { k < length self.old.nodes }
+        requires order { i < j }
+        requires to { j ≤ length (node_list (B.blocks store.old) (node_at self.old.nodes k)) }
+        requires len { len ≡ length
+            (respelled (B.blocks store.old) self.old k
+            (take i (node_list (B.blocks store.old) (node_at self.old.nodes k)) ++ drop j (node_list (B.blocks store.old) (node_at self.old.nodes k))) (k + 1)) }
+        ensures changed { OnOk result
+            (IsChanged (B.blocks store.old) (B.blocks store.new) self.old self.new
+            (respelled (B.blocks store.old) self.old k
+            (take i (node_list (B.blocks store.old) (node_at self.old.nodes k)) ++ drop j (node_list (B.blocks store.old) (node_at self.old.nodes k))) (k + 1))) }
+        ensures form { self.new.form ≡ self.old.form }
+        ensures served { Served B.step store.old store.new }
+        ensures err_list { OnErr result (self.new ≡ self.old) }
+        ensures err_blocks { OnErr result (B.blocks store.new ≡ B.blocks store.old) }
+    {
+        let node = self.nodes[k];
+        if is_back(store, node, i, j) {
+            self.cut_back(store, k, i, len);
+            return Ok(());
         }
+        let rest = node_rest(self.alloc, store, node, i, j)?;
+        let left = node.count as usize - (j - i);
+        self.place_rest(store, k, 1, rest.as_ref(), left, len)
     }
 
     /// Takes out the elements from the index `from` to below `to`. Nodes of which all elements go are given back whole.
@@ -194,20 +270,6 @@ impl Quick {
         if first < last {
             return self.remove_across(store, first, i, last, j + 1, left);
         }
-        let node = self.nodes[first];
-        if is_back(store, node, i, j + 1) {
-            self.cut_back(store, first, i, left);
-            return Ok(());
-        }
-        let count = node.count as usize;
-        let rest = rest_of(
-            self.alloc,
-            node.container,
-            node.bytes(store),
-            count,
-            i,
-            j + 1,
-        )?;
-        self.place_rest(store, first, 1, rest.as_ref(), count - (j + 1 - i), left)
+        self.remove_within(store, first, i, j + 1, left)
     }
 }

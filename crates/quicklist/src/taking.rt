@@ -1,10 +1,10 @@
 // Lists that take a listpack whole, as one node.
 
-ghost use Rattle.std.specs.Prelude.{◌≡◌, ◌∷◌, ◌++◌, ◌<◌, [], true, false, length, map, Ok, IfOk, IfSome, OnErr};
+ghost use Rattle.std.specs.Prelude.{◌≡◌, ◌∷◌, ◌++◌, ◌<◌, [], true, false, length, map, Ok, IfOk, IfSome, IfNone, OnErr};
 ghost use Rattle.blocks.specs.Blocks.{Served};
 ghost use Rattle.listpack.specs.Element.{element_text};
 ghost use Rattle.listpack.specs.Pack.{texts};
-ghost use Rattle.listpack.specs.View.{list_of};
+ghost use Rattle.listpack.specs.View.{bytes_of, list_of};
 ghost use Rattle.quicklist.specs.Nodes.{IsPacked, container_of};
 ghost use Rattle.quicklist.specs.Chain.{elements, IsFormed, IsQuick, IsRisen, IsWritten};
 ghost use Rattle.quicklist.specs.declared.node.Container.TheVariants.{Packed};
@@ -67,6 +67,20 @@ fn anew(alloc: Global, pack: &Pack<'_>, count: usize) -> Result<Option<Vec<u8>>,
     Ok(Some(new))
 }
 
+// The bytes of a listpack that is a packed node as it stands: short, and spelled as the writer spells its elements.
+fn standing<'a>(pack: &Pack<'a>) -> Option<&'a [u8]>
+    ensures packed { IfSome result (λ bytes. IsPacked bytes.now) }
+    ensures list { IfSome result (λ bytes. texts bytes.now ≡ list_of pack.now) }
+    ensures none { IfNone result (IsPacked (bytes_of pack.now) → ⊥) }
+{
+    let bytes = pack.bytes();
+    let size = bytes.len();
+    if size > PACKED_BYTES {
+        return None;
+    }
+    if pack.is_written() { Some(bytes) } else { None }
+}
+
 impl Quick {
     // The form of the list with a node of these bytes behind the others. There is none where the elements belong into the one node of
     // a list of form listpack, since they have room there.
@@ -97,7 +111,7 @@ impl Quick {
         &mut self,
         store: &mut B,
         bytes: &[u8],
-        count: u32,
+        count: usize,
         len: usize,
     ) -> Result<bool, Memory>
         requires quick { IsQuick (B.blocks store.old) self.old }
@@ -116,7 +130,7 @@ impl Quick {
             Some(form) => {
                 let piece = Piece {
                     container: Container::Packed,
-                    count,
+                    count: count as u32,
                     bytes,
                 };
                 let k = self.nodes.len();
@@ -127,10 +141,10 @@ impl Quick {
         }
     }
 
-    /// Puts the elements of a listpack behind those of the list, as one node, and answers whether it did. Each text is spelled anew.
-    /// It does not where there is no element, or more than one node or the list can hold, nor where all elements of the list have
-    /// room in one node: then they belong in that node, and are to be put in one by one. So the form that the list has is
-    /// the one that it has where they are put in one by one.
+    /// Puts the elements of a listpack behind those of the list, as one node, and answers whether it did. A listpack that is spelled as
+    /// the writer spells it becomes the node as it stands, and else each text is spelled anew. It does not where there is no element, or
+    /// more than one node or the list can hold, nor where all elements of the list have room in one node: then they belong in that node,
+    /// and are to be put in one by one. So the form that the list has is the one that it has where they are put in one by one.
     ///
     /// Where it did not, and on `Memory`, the list and all blocks stay.
     pub fn take_pack<B: BlockStore>(
@@ -153,8 +167,11 @@ impl Quick {
         let Some(len) = self.len.checked_add(count) else {
             return Ok(false);
         };
+        if let Some(bytes) = standing(pack) {
+            return self.take_node(store, bytes, count, len);
+        }
         match anew(self.alloc, pack, count)? {
-            Some(bytes) => self.take_node(store, &bytes, count as u32, len),
+            Some(bytes) => self.take_node(store, &bytes, count, len),
             None => Ok(false),
         }
     }

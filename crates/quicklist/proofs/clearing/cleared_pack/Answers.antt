@@ -6,6 +6,7 @@ use Rattle.quicklist.specs.Equal.{cleared}
 use Rattle.quicklist.proofs.Going.{next_first, next_at, next_next}
 use Rattle.quicklist.proofs.Clearings.{IsSoFar, none_so_far, so_far_room, so_far_gone, so_far_kept, so_far_all}
 use Rattle.quicklist.proofs.Written.{packed_len}
+use Rattle.quicklist.proofs.Rests.{next_some}
 use Rattle.quicklist.proofs.clearing.cleared_pack.Goals as goal
 use Rattle.quicklist.proofs.clearing.cleared_pack.Goals.{then-not-takes+in_ok-append_element, else-not-takes}
 
@@ -59,3 +60,19 @@ returns-clause-list c =
     let bytes = c.known-pack.result.bytes.now in
     let long : length (texts bytes) ≤ c.loop-j.j = omega (arith, c.loop-j-test.false, c.requires.counted, ap (λ b. length (texts b)) c.known-pack.ensures) in
     so_far_all c.args.reach c.args.start (texts bytes) c.loop-j.j c.loop-j.left.items long c.loop-j.invariant.so_far ∙ ap (λ b. cleared c.args.reach c.args.start (texts b)) c.known-pack.ensures
+
+pub there-at-requires : goal.there-at-requires
+there-at-requires c =
+    let bytes = c.known-pack.result.bytes.now in
+    let inside : c.loop-j.j < length (texts bytes) = omega (arith, c.loop-j-test.true, c.requires.counted, ap (λ b. length (texts b)) c.known-pack.ensures) in
+    next_some bytes c.loop-j.j c.loop-j.place c.loop-j.invariant.next inside
+
+pub get-element-requires : goal.get-element-requires
+get-element-requires c =
+    let bytes = c.known-pack.result.bytes.now in
+    (c.loop-j.j, next_at bytes c.loop-j.j c.loop-j.place c.there-at.result c.loop-j.invariant.next c.there-at.ensures)
+
+pub next-place-requires : goal.next-place-requires
+next-place-requires c =
+    let bytes = c.known-pack.result.bytes.now in
+    (c.loop-j.j, next_at bytes c.loop-j.j c.loop-j.place c.there-at.result c.loop-j.invariant.next c.there-at.ensures)

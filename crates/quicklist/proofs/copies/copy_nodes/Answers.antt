@@ -1,11 +1,13 @@
-use Rattle.std.proofs.Common.{◌≡◌, ◌+◌, [], List, length, map, take, sym, subst, arith, rules}
+use Rattle.std.proofs.Common.{◌≡◌, ◌≤◌, ◌+◌, [], List, length, map, take, sym, subst, arith, rules}
 use Rattle.std.proofs.lemmas.List.{take_all}
-use Rattle.blocks.specs.Blocks.{Blocks, Changes, no_step}
+use Rattle.blocks.specs.Blocks.{Blocks, Changes, times, live, no_step}
+use Rattle.blocks.proofs.Change.{changes_owned}
 use Rattle.blocks.proofs.Serve.{served_then}
 use Rattle.quicklist.specs.declared.node.Node.{Node}
 use Rattle.quicklist.specs.Nodes.{Placed, refs_of}
 use Rattle.quicklist.proofs.Chains.{none_placed}
 use Rattle.quicklist.proofs.Moving.{piece_for, one_copied, copied_is, still_live, uncopied}
+use Rattle.quicklist.proofs.Rests.{copied_count}
 use Rattle.quicklist.proofs.copies.copy_nodes.Goals as goal
 
 pub returns-in_err-copy-clause-served : goal.returns-in_err-copy-clause-served
@@ -65,3 +67,19 @@ returns-in-Err-clause-err_blocks g c =
     let len : c.len-k-end.result ≡ length c.args.nodes.now.items = search rules in
     let ended = subst (λ (b : Blocks). Changes b n (refs_of (take c.loop-k.k copy)) []) c.in-Err.ensures.err_blocks c.end_nodes.ensures.changes in
     uncopied m (g.B.BlockStore.blocks c.loop-k.store) n c.args.nodes.now.items copy c.loop-k.k (omega (arith, len)) c.loop-k.invariant.placed ended
+
+pub end_nodes-requires-clause-inside : goal.end_nodes-requires-clause-inside
+end_nodes-requires-clause-inside g c =
+    let n : c.len-k-end.result ≡ length c.args.nodes.now.items = search rules in
+    omega (
+      arith,
+      copied_count (g.B.BlockStore.blocks c.args.store.now) (g.B.BlockStore.blocks c.loop-k.store) c.args.nodes.now.items c.loop-k.copy.items c.loop-k.k (omega (arith, n)) c.loop-k.invariant.placed,
+    )
+
+pub end_nodes-requires-clause-owned : goal.end_nodes-requires-clause-owned
+end_nodes-requires-clause-owned g c =
+    let own = changes_owned (g.B.BlockStore.blocks c.args.store.now) (g.B.BlockStore.blocks c.loop-k.store) [] (refs_of c.loop-k.copy.items) c.loop-k.invariant.placed.changes in
+    λ r. subst (λ b. times r (refs_of c.loop-k.copy.items) ≤ live b r) (sym c.in-Err.ensures.err_blocks) (own r)
+
+pub returns-clause-served : goal.returns-clause-served
+returns-clause-served g c = c.loop-k.invariant.served

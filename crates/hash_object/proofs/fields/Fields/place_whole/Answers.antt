@@ -1,7 +1,4 @@
-use Rattle.std.proofs.Common.{◌≡◌, ◌*◌, ◌/◌, Some, length, ap, ◌∙◌, arith}
-use Rattle.blocks.specs.Blocks.{no_step, with_block}
-use Rattle.listpack.specs.Pack.{texts}
-use Rattle.hash_object.proofs.Whole.{whole_placed}
+use Rattle.blocks.specs.Blocks.{no_step}
 use Rattle.hash_object.proofs.fields.Fields.place_whole.Goals as goal
 
 pub returns-then-elements-eq1-clause-served : goal.returns-then-elements-eq1-clause-served
@@ -10,19 +7,8 @@ returns-then-elements-eq1-clause-served g c = no_step
 pub returns-then-count-self-clause-served : goal.returns-then-count-self-clause-served
 returns-then-count-self-clause-served g c = no_step
 
-pub returns-in_err-bytes-clause-served : goal.returns-in_err-bytes-clause-served
-returns-in_err-bytes-clause-served g c = no_step
+pub returns-in_err-stands-clause-served : goal.returns-in_err-stands-clause-served
+returns-in_err-stands-clause-served g c = no_step
 
-pub returns-in_ok-at-in-Some-clause-placed : goal.returns-in_ok-at-in-Some-clause-placed
-returns-in_ok-at-in-Some-clause-placed g c =
-    let m = g.B.BlockStore.blocks c.args.store.now in
-    let n = g.B.BlockStore.blocks c.put_block.new.store in
-    let xs = texts c.args.pack.now.bytes.now in
-    let even : length xs ≡ 2 * (c.len-elements.result / 2) = omega (arith, c.len-elements.ensures, c.if-elements-eq1.false) in
-    let e = c.in_ok-at-in-Some.ensures in
-    whole_placed m n c.args.self.now c.in_ok-at-in-Some.at (c.len-elements.result / 2) xs c.in-Some.bytes.items
-    (e.placed ∙ ap (λ bytes. with_block m c.in_ok-at-in-Some.at (Some bytes)) c.deref.ensures.value) e.changes even
-    (rw c.in-Some.is at c.in_ok-bytes.ensures.pack) (rw c.in-Some.is at c.in_ok-bytes.ensures.list)
-
-pub returns-in-None-clause-served : goal.returns-in-None-clause-served
-returns-in-None-clause-served g c = no_step
+pub place_standing-requires-clause-pack : goal.place_standing-requires-clause-pack
+place_standing-requires-clause-pack g c = c.in_ok-stands.ensures.0 c.if-stands.true

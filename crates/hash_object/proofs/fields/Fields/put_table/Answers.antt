@@ -1,4 +1,4 @@
-use Rattle.std.proofs.Common.{◌≡◌, [], sym, ap, ◌∙◌, subst}
+use Rattle.std.proofs.Common.{◌≡◌, [], sym, ap, subst}
 use Rattle.std.specs.FinMap.{insert}
 use Rattle.blocks.specs.Blocks.{Changes}
 use Rattle.blocks.proofs.Serve.{served_then}

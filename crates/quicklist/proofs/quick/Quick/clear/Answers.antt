@@ -1,9 +1,10 @@
-use Rattle.std.proofs.Common.{◌≡◌, [], List, length, take, refl, ap, subst, arith, rules}
+use Rattle.std.proofs.Common.{◌≡◌, [], List, length, take, refl, ap, sym, subst, arith, rules}
 use Rattle.std.proofs.lemmas.List.{take_all}
 use Rattle.blocks.specs.Blocks.{Changes, no_step}
+use Rattle.blocks.proofs.Change.{changes_owned}
 use Rattle.blocks.proofs.Serve.{served_then}
 use Rattle.quicklist.specs.declared.node.Node.{Node}
-use Rattle.quicklist.specs.Nodes.{refs_of}
+use Rattle.quicklist.specs.Nodes.{IsChain, refs_of}
 use Rattle.quicklist.specs.Chain.{Chain, elements}
 use Rattle.quicklist.specs.Equal.{IsRebuilt, cleared}
 use Rattle.quicklist.proofs.Rebuilding.{rebuilt_is, unbuilt}
@@ -48,3 +49,22 @@ returns-in-Err-clause-err_blocks g c =
     let long : c.len-count-in-Err.result ≡ length placed = search rules in
     let all : take c.len-count-in-Err.result placed ≡ placed = take_all c.len-count-in-Err.result placed (omega (arith, long)) in
     unbuilt m mid n placed c.in-Err.ensures.err_changes (subst (λ (xs : List Node). Changes mid n (refs_of xs) []) all c.end_nodes-in-Err.ensures.changes)
+
+pub add_all-requires-clause-chain : goal.add_all-requires-clause-chain
+add_all-requires-clause-chain g c = subst (λ (v : Chain). IsChain (g.B.BlockStore.blocks c.args.store.now) v.nodes) (sym c.self.view_is) c.requires.quick.chain
+
+pub add_all-requires-clause-none : goal.add_all-requires-clause-none
+add_all-requires-clause-none g c = c.in_ok-rebuilt.ensures.nodes
+
+pub add_all-requires-clause-none_placed : goal.add_all-requires-clause-none_placed
+add_all-requires-clause-none_placed g c = c.in_ok-rebuilt.ensures.placed
+
+pub add_all-requires-clause-none_replaced : goal.add_all-requires-clause-none_replaced
+add_all-requires-clause-none_replaced g c = c.in_ok-rebuilt.ensures.replaced
+
+pub end_nodes-requires-in-Err-clause-owned : goal.end_nodes-requires-in-Err-clause-owned
+end_nodes-requires-in-Err-clause-owned g c =
+    changes_owned (g.B.BlockStore.blocks c.args.store.now) (g.B.BlockStore.blocks c.add_all.new.store) [] (refs_of c.add_all.new.self.placed.items) c.in-Err.ensures.err_changes
+
+pub returns-in-Ok-clause-form : goal.returns-in-Ok-clause-form
+returns-in-Ok-clause-form g c = ap (λ v. v.form) c.self.view_is

@@ -1,4 +1,4 @@
-use Rattle.std.proofs.Common.{◌≡◌, ◌+◌, ◌<◌, ◌≤◌, [], length, get_or, ap, ◌∙◌, sym, subst, arith}
+use Rattle.std.proofs.Common.{◌≡◌, ◌+◌, ◌<◌, ◌≤◌, [], length, get_or, ap, ◌∙◌, sym, subst, refl, arith}
 use Rattle.std.specs.Prelude.{MatchOption}
 use Rattle.listpack.specs.Element.{element_text}
 use Rattle.quicklist.specs.Chain.{elements}
@@ -6,6 +6,7 @@ use Rattle.quicklist.specs.Cursor.{IsCursor}
 use Rattle.quicklist.specs.Equal.{equals}
 use Rattle.std.proofs.lemmas.List.{take_all}
 use Rattle.quicklist.proofs.Going.{equals_front, head_yes, head_no, going_wanted, going_all, match_as}
+use Rattle.quicklist.proofs.Rests.{cursor_there}
 use Rattle.quicklist.proofs.quick.Quick.count_from_head.Goals as goal
 use Rattle.quicklist.proofs.quick.Quick.count_from_head.Goals.{then-is_text+else-many-wanted, else-is_text}
 
@@ -59,3 +60,35 @@ returns-clause-many g c =
     let long : length xs ≤ c.loop-index.index = omega (arith, c.loop-index-test.false, c.requires.quick.counted, ap (λ v. v.len) c.self.view_is) in
     let counted = c.loop-index.invariant.counted ∙ ap (equals c.args.text.now) (take_all c.loop-index.index xs long) in
     counted ∙ sym (going_all c.args.wanted (equals c.args.text.now xs) (λ h. omega (arith, counted, c.loop-index.invariant.fewer h)))
+
+pub there-cursor-requires : goal.there-cursor-requires
+there-cursor-requires g c =
+    let m = g.B.BlockStore.blocks c.args.store.now in
+    let q = c.args.self.now in
+    let inside : c.loop-index.index < length (elements m q) = omega (arith, c.loop-index-test.true, c.requires.quick.counted, ap (λ v. v.len) c.self.view_is) in
+    cursor_there m q c.loop-index.index (length (elements m q)) c.loop-index.place c.loop-index.invariant.next inside
+
+pub element-requires-clause-quick : goal.element-requires-clause-quick
+element-requires-clause-quick g c = c.requires.quick
+
+pub element-requires-clause-cursor : goal.element-requires-clause-cursor
+element-requires-clause-cursor g c =
+    let m = g.B.BlockStore.blocks c.args.store.now in
+    let q = c.args.self.now in
+    let k = c.loop-index.index in
+    let place = subst (λ o. MatchOption o (length (elements m q) ≤ k) (λ cursor. IsCursor m q cursor × (cursor.index ≡ k))) c.there-cursor.ensures c.loop-index.invariant.next in
+    place.0
+
+pub next-place-requires-clause-quick : goal.next-place-requires-clause-quick
+next-place-requires-clause-quick g c = c.requires.quick
+
+pub next-place-requires-clause-cursor : goal.next-place-requires-clause-cursor
+next-place-requires-clause-cursor g c =
+    let m = g.B.BlockStore.blocks c.args.store.now in
+    let q = c.args.self.now in
+    let k = c.loop-index.index in
+    let place = subst (λ o. MatchOption o (length (elements m q) ≤ k) (λ cursor. IsCursor m q cursor × (cursor.index ≡ k))) c.there-cursor.ensures c.loop-index.invariant.next in
+    place.0
+
+pub loop-index-init : goal.loop-index-init
+loop-index-init g c = record { next = c.seek-place.ensures; counted = refl; fewer = λ h. h }

@@ -6,6 +6,7 @@ use Rattle.quicklist.specs.Cursor.{IsCursor}
 use Rattle.quicklist.specs.Equal.{equals}
 use Rattle.quicklist.proofs.Cursors.{index_inside}
 use Rattle.quicklist.proofs.Going.{equals_back, tail_yes, tail_no, none_behind, match_as, going_wanted, going_all}
+use Rattle.quicklist.proofs.Rests.{cursor_some}
 use Rattle.quicklist.proofs.quick.Quick.count_from_tail.Goals as goal
 use Rattle.quicklist.proofs.quick.Quick.count_from_tail.Goals.{then-is_text+else-many-wanted, else-is_text}
 
@@ -79,3 +80,27 @@ returns-clause-many g c =
     let zero_th : c.loop-index.index ≡ 0 = omega (arith, c.loop-index-test.false) in
     let counted = c.loop-index.invariant.counted ∙ ap (λ i. equals c.args.text.now (drop i xs)) zero_th in
     counted ∙ sym (going_all c.args.wanted (equals c.args.text.now xs) (λ h. omega (arith, counted, c.loop-index.invariant.fewer h)))
+
+pub there-cursor-requires : goal.there-cursor-requires
+there-cursor-requires g c =
+    cursor_some (g.B.BlockStore.blocks c.args.store.now) c.args.self.now c.loop-index.index c.loop-index.place c.loop-index.invariant.next (omega (arith, c.loop-index-test.true))
+
+pub element-requires-clause-quick : goal.element-requires-clause-quick
+element-requires-clause-quick g c = c.requires.quick
+
+pub element-requires-clause-cursor : goal.element-requires-clause-cursor
+element-requires-clause-cursor g c =
+    let m = g.B.BlockStore.blocks c.args.store.now in
+    let q = c.args.self.now in
+    let place = subst (λ o. MatchOption o (c.loop-index.index ≡ 0) (λ cursor. IsCursor m q cursor × (cursor.index + 1 ≡ c.loop-index.index))) c.there-cursor.ensures c.loop-index.invariant.next in
+    place.0
+
+pub prev-place-requires-clause-quick : goal.prev-place-requires-clause-quick
+prev-place-requires-clause-quick g c = c.requires.quick
+
+pub prev-place-requires-clause-cursor : goal.prev-place-requires-clause-cursor
+prev-place-requires-clause-cursor g c =
+    let m = g.B.BlockStore.blocks c.args.store.now in
+    let q = c.args.self.now in
+    let place = subst (λ o. MatchOption o (c.loop-index.index ≡ 0) (λ cursor. IsCursor m q cursor × (cursor.index + 1 ≡ c.loop-index.index))) c.there-cursor.ensures c.loop-index.invariant.next in
+    place.0

@@ -1,9 +1,9 @@
-use Rattle.std.proofs.Common.{◌≡◌, [], get_or, ap, ◌∙◌, sym, subst}
+use Rattle.std.proofs.Common.{◌≡◌, [], length, get_or, ap, ◌∙◌, sym, subst, arith}
 use Rattle.std.specs.Prelude.{sum_by}
 use Rattle.quicklist.specs.Nodes.{IsPlace, count_of}
 use Rattle.quicklist.specs.Chain.{Chain}
 use Rattle.quicklist.proofs.Chains.{node_read}
-use Rattle.quicklist.proofs.Elements.{len_is, node_is, list_at, get_is}
+use Rattle.quicklist.proofs.Elements.{len_is, node_is, held_at, list_at, place_room, get_is}
 use Rattle.quicklist.proofs.quick.Quick.get.Goals as goal
 
 pub find-k-requires-clause-whole : goal.find-k-requires-clause-whole
@@ -25,3 +25,25 @@ returns g c =
     let place = subst (λ (v : Chain). IsPlace v.nodes c.args.index k j) c.self.view_is c.find-k.ensures in
     let is = node_is q.nodes k node place.inside (c.index-node.ensures ∙ ap (λ v. get_or v.nodes k node) c.self.view_is) in
     c.element_at.ensures ∙ ap (λ xs. get_or xs j []) (sym (list_at m q.nodes k node c.bytes.result.now is c.bytes.ensures)) ∙ sym (get_is m q c.args.index k j c.requires place)
+
+pub element_at-requires-clause-held : goal.element_at-requires-clause-held
+element_at-requires-clause-held g c =
+    let m = g.B.BlockStore.blocks c.args.store.now in
+    let q = c.args.self.now in
+    let k = c.find-k.result.0 in
+    let j = c.find-k.result.1 in
+    let node = c.index-node.result.now in
+    let place = subst (λ (v : Chain). IsPlace v.nodes c.args.index k j) c.self.view_is c.find-k.ensures in
+    let is = node_is q.nodes k node place.inside (c.index-node.ensures ∙ ap (λ v. get_or v.nodes k node) c.self.view_is) in
+    held_at m q.nodes k node c.bytes.result.now c.requires.chain.each place.inside is c.bytes.ensures
+
+pub element_at-requires-clause-inside : goal.element_at-requires-clause-inside
+element_at-requires-clause-inside g c =
+    let m = g.B.BlockStore.blocks c.args.store.now in
+    let q = c.args.self.now in
+    let k = c.find-k.result.0 in
+    let j = c.find-k.result.1 in
+    let node = c.index-node.result.now in
+    let place = subst (λ (v : Chain). IsPlace v.nodes c.args.index k j) c.self.view_is c.find-k.ensures in
+    let is = node_is q.nodes k node place.inside (c.index-node.ensures ∙ ap (λ v. get_or v.nodes k node) c.self.view_is) in
+    omega (arith, (place_room m q c.args.index k j c.requires place).0, ap length (list_at m q.nodes k node c.bytes.result.now is c.bytes.ensures))

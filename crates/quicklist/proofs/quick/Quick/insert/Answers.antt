@@ -6,11 +6,12 @@ use Rattle.std.proofs.lemmas.List.Edits.{length-insert}
 use Rattle.blocks.specs.Blocks.{no_step}
 use Rattle.listpack.specs.Pack.{texts}
 use Rattle.quicklist.specs.declared.node.Node.{Node}
-use Rattle.quicklist.specs.Nodes.{IsPacked, HasSpace, held, pack_len, node_at, node_list}
+use Rattle.quicklist.specs.Nodes.{IsPacked, HasSpace, held, pack_len, node_at, node_list, count_of, container_of}
 use Rattle.quicklist.specs.Chain.{elements, IsWritten}
 use Rattle.quicklist.proofs.Chains.{node_read}
-use Rattle.quicklist.proofs.Elements.{len_is, node_is, list_at, joined_list, count_at, count_small, overfull_insert, at_front, at_back, behind_is, insert_node_is}
+use Rattle.quicklist.proofs.Elements.{len_is, node_is, held_at, list_at, joined_list, count_at, count_small, overfull_insert, at_front, at_back, behind_is, insert_node_is}
 use Rattle.quicklist.proofs.Rising.{at_some, at_none}
+use Rattle.quicklist.proofs.Rests.{many_packed}
 use Rattle.quicklist.proofs.quick.Quick.insert.Goals as goal
 
 pub returns-in_default-clause-served : goal.returns-in_default-clause-served
@@ -228,3 +229,82 @@ returns-in-None-3-clause-written g c =
     let gap = c.gap-k.ensures in
     let is = node_is q.nodes k node gap.inside (c.index-node.ensures ∙ ap (λ v. get_or v.nodes k node) c.self.view_is) in
     subst (λ xs. OnOk c.split.result (IsWritten m (g.B.BlockStore.blocks c.split.new.store) q c.split.new.self xs)) (insert_node_is m q c.args.index k j x c.requires.quick gap) c.split.ensures.written
+
+pub gap-k-requires-clause-index : goal.gap-k-requires-clause-index
+gap-k-requires-clause-index g c = omega (arith, c.requires.quick.counted, c.requires.index)
+
+pub push_behind-requires-clause-quick : goal.push_behind-requires-clause-quick
+push_behind-requires-clause-quick g c = c.requires.quick
+
+pub push_behind-requires-clause-inside : goal.push_behind-requires-clause-inside
+push_behind-requires-clause-inside g c = c.gap-k.ensures.inside
+
+pub joined-requires-clause-held : goal.joined-requires-clause-held
+joined-requires-clause-held g c =
+    let m = g.B.BlockStore.blocks c.args.store.now in
+    let q = c.args.self.now in
+    let k = c.gap-k.result.0 in
+    let j = c.gap-k.result.1 in
+    let node = c.index-node.result.now in
+    let gap = c.gap-k.ensures in
+    let is = node_is q.nodes k node gap.inside (c.index-node.ensures ∙ ap (λ v. get_or v.nodes k node) c.self.view_is) in
+    held_at m q.nodes k node c.bytes.result.now c.requires.quick.chain.each gap.inside is c.bytes.ensures
+
+pub joined-requires-clause-inside : goal.joined-requires-clause-inside
+joined-requires-clause-inside g c =
+    let m = g.B.BlockStore.blocks c.args.store.now in
+    let q = c.args.self.now in
+    let k = c.gap-k.result.0 in
+    let j = c.gap-k.result.1 in
+    let node = c.index-node.result.now in
+    let gap = c.gap-k.ensures in
+    let is = node_is q.nodes k node gap.inside (c.index-node.ensures ∙ ap (λ v. get_or v.nodes k node) c.self.view_is) in
+    let count = count_at m q.nodes k node c.bytes.result.now c.requires.quick.chain.each gap.inside is c.bytes.ensures in
+    omega (arith, gap.among, count, ap count_of is)
+
+pub rewrite-requires-clause-quick : goal.rewrite-requires-clause-quick
+rewrite-requires-clause-quick g c = c.requires.quick
+
+pub rewrite-requires-clause-inside : goal.rewrite-requires-clause-inside
+rewrite-requires-clause-inside g c = c.gap-k.ensures.inside
+
+pub rewrite-requires-clause-packed : goal.rewrite-requires-clause-packed
+rewrite-requires-clause-packed g c =
+    let node = c.index-node.result.now in
+    let pack = at_some (λ (v : Vec ℕ). IsPacked v.items × (texts v.items ≡ insert (held node.container c.bytes.result.now) c.gap-k.result.1 c.args.element.now)) c.in_ok-pack.field-0 c.in-Some-2.pack
+    c.in-Some-2.is c.in_ok-pack.ensures.some in
+    subst IsPacked (sym c.deref.ensures.value) pack.0
+
+pub place_alone-requires-clause-quick : goal.place_alone-requires-clause-quick
+place_alone-requires-clause-quick g c = c.requires.quick
+
+pub place_alone-requires-clause-inside : goal.place_alone-requires-clause-inside
+place_alone-requires-clause-inside g c = omega (arith, c.gap-k.ensures.inside)
+
+pub place_alone-requires-in-None-2-clause-quick : goal.place_alone-requires-in-None-2-clause-quick
+place_alone-requires-in-None-2-clause-quick g c = c.requires.quick
+
+pub place_alone-requires-in-None-2-clause-inside : goal.place_alone-requires-in-None-2-clause-inside
+place_alone-requires-in-None-2-clause-inside g c = omega (arith, c.gap-k.ensures.inside)
+
+pub split-requires-clause-quick : goal.split-requires-clause-quick
+split-requires-clause-quick g c = c.requires.quick
+
+pub split-requires-clause-inside : goal.split-requires-clause-inside
+split-requires-clause-inside g c = c.gap-k.ensures.inside
+
+pub split-requires-clause-packed : goal.split-requires-clause-packed
+split-requires-clause-packed g c =
+    let m = g.B.BlockStore.blocks c.args.store.now in
+    let q = c.args.self.now in
+    let k = c.gap-k.result.0 in
+    let j = c.gap-k.result.1 in
+    let node = c.index-node.result.now in
+    let gap = c.gap-k.ensures in
+    let is = node_is q.nodes k node gap.inside (c.index-node.ensures ∙ ap (λ v. get_or v.nodes k node) c.self.view_is) in
+    let count = count_at m q.nodes k node c.bytes.result.now c.requires.quick.chain.each gap.inside is c.bytes.ensures in
+    let many : node.count ≡ 1 → ⊥ = λ one. absurd (omega (arith, one, gap.among, ap count_of is, c.if-j-eq0.false, c.if-j-node.false)) in
+    sym (ap container_of is) ∙ many_packed node.container c.bytes.result.now node.count count many
+
+pub split-requires-clause-bound : goal.split-requires-clause-bound
+split-requires-clause-bound g c = c.gap-k.ensures.among

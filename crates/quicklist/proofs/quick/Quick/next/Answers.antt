@@ -3,7 +3,7 @@ use Rattle.quicklist.specs.Nodes.{node_at, node_list}
 use Rattle.quicklist.specs.Chain.{elements}
 use Rattle.quicklist.proofs.Chains.{node_read}
 use Rattle.quicklist.proofs.Elements.{node_is, list_at, held_at}
-use Rattle.quicklist.proofs.Cursors.{offset_at, offset_back, index_inside, node_behind, node_some, place_next}
+use Rattle.quicklist.proofs.Cursors.{offset_at, offset_back, offset_inside, place_behind, index_inside, node_behind, node_some, place_next}
 use Rattle.quicklist.proofs.quick.Quick.next.Goals as goal
 
 pub overflow_sub-left : goal.overflow_sub-left
@@ -115,6 +115,49 @@ returns-in-None g c =
         among = 0;
         place = place_next m q c.args.cursor.index k cursor.among s cursor.place last inside;
         offset = offset_back m q.nodes (k + 1) 0 c.offset_in.result node2 c.bytes-in-None.result.now is2 c.bytes-in-None.ensures c.offset_in.ensures;
+      },
+      refl,
+    )
+
+pub offset_behind-requires-clause-held : goal.offset_behind-requires-clause-held
+offset_behind-requires-clause-held g c =
+    let m = g.B.BlockStore.blocks c.args.store.now in
+    let q = c.args.self.now in
+    let s = c.requires.quick in
+    let cursor = c.requires.cursor in
+    let k = c.args.cursor.node in
+    let node = c.index-node.result.now in
+    let is = node_is q.nodes k node cursor.place.inside (c.index-node.ensures ∙ ap (λ v. get_or v.nodes k node) c.self.view_is) in
+    held_at m q.nodes k node c.bytes.result.now s.chain.each cursor.place.inside is c.bytes.ensures
+
+pub offset_behind-requires-clause-at : goal.offset_behind-requires-clause-at
+offset_behind-requires-clause-at g c =
+    let m = g.B.BlockStore.blocks c.args.store.now in
+    let q = c.args.self.now in
+    let s = c.requires.quick in
+    let cursor = c.requires.cursor in
+    let k = c.args.cursor.node in
+    let node = c.index-node.result.now in
+    let is = node_is q.nodes k node cursor.place.inside (c.index-node.ensures ∙ ap (λ v. get_or v.nodes k node) c.self.view_is) in
+    (cursor.among, offset_at m q.nodes k cursor.among c.args.cursor.at node c.bytes.result.now is c.bytes.ensures cursor.offset)
+
+pub returns-in-Some : goal.returns-in-Some
+returns-in-Some g c =
+    let m = g.B.BlockStore.blocks c.args.store.now in
+    let q = c.args.self.now in
+    let s = c.requires.quick in
+    let cursor = c.requires.cursor in
+    let k = c.args.cursor.node in
+    let node = c.index-node.result.now in
+    let is = node_is q.nodes k node cursor.place.inside (c.index-node.ensures ∙ ap (λ v. get_or v.nodes k node) c.self.view_is) in
+    let off = offset_at m q.nodes k cursor.among c.args.cursor.at node c.bytes.result.now is c.bytes.ensures cursor.offset in
+    let there = c.in-Some.ensures cursor.among off in
+    let more : cursor.among + 1 < length (node_list m (node_at q.nodes k)) =
+    omega (arith, offset_inside node.container c.bytes.result.now (cursor.among + 1) c.in-Some.at there, ap length (list_at m q.nodes k node c.bytes.result.now is c.bytes.ensures)) in (
+      record {
+        among = cursor.among + 1;
+        place = place_behind m q c.args.cursor.index k cursor.among s cursor.place more;
+        offset = offset_back m q.nodes k (cursor.among + 1) c.in-Some.at node c.bytes.result.now is c.bytes.ensures there;
       },
       refl,
     )

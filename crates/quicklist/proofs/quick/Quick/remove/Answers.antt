@@ -3,14 +3,16 @@ use Rattle.std.specs.Prelude.{sum_by}
 use Rattle.std.specs.List.{remove}
 use Rattle.std.proofs.lemmas.List.{length-map}
 use Rattle.std.proofs.lemmas.List.Edits.{length-remove}
+use Rattle.std.proofs.lemmas.List.Elements.{All-nil}
 use Rattle.blocks.specs.Blocks.{no_step}
 use Rattle.object_codec.specs.declared.form.Form.{Form}
 use Rattle.listpack.specs.Pack.{texts}
-use Rattle.quicklist.specs.Nodes.{IsPlace, count_of, container_of}
+use Rattle.quicklist.specs.Nodes.{IsPacked, IsPiece, IsPlace, count_of, container_of}
 use Rattle.quicklist.specs.Chain.{Chain, IsFormed, elements, IsChanged}
 use Rattle.quicklist.proofs.Chains.{node_read}
-use Rattle.quicklist.proofs.Elements.{len_is, node_is, remove_alone, removed_list}
+use Rattle.quicklist.proofs.Elements.{len_is, node_is, node_of, list_at, count_at, many_list, place_room, remove_alone, removed_list}
 use Rattle.quicklist.proofs.Rising.{on_ok, on_ok_three, changed_by, changed_from, formed_drop}
+use Rattle.quicklist.proofs.Rests.{form_of, bytes_packed}
 use Rattle.quicklist.proofs.quick.Quick.remove.Goals as goal
 
 pub find-k-requires-clause-whole : goal.find-k-requires-clause-whole
@@ -87,3 +89,71 @@ returns-clause-changed g c =
     on_ok c.rewrite.result
     (λ w. subst (λ xs. IsChanged m (g.B.BlockStore.blocks c.rewrite.new.store) q c.rewrite.new.self xs) facts.0
     (changed_from m (g.B.BlockStore.blocks c.rewrite.new.store) q c.rewrite.new.self _ w)) c.rewrite.ensures.written
+
+pub find-k-requires-clause-inside : goal.find-k-requires-clause-inside
+find-k-requires-clause-inside g c = omega (arith, ap (λ v. v.len) c.self.view_is, c.requires.quick.counted, c.requires.index)
+
+pub exchange-requires-clause-inside : goal.exchange-requires-clause-inside
+exchange-requires-clause-inside g c =
+    let place = subst (λ (v : Chain). IsPlace v.nodes c.args.index c.find-k.result.0 c.find-k.result.1) c.self.view_is c.find-k.ensures in
+    omega (arith, place.inside)
+
+pub exchange-requires-clause-chain : goal.exchange-requires-clause-chain
+exchange-requires-clause-chain g c = c.requires.quick.chain
+
+pub exchange-requires-clause-pieces : goal.exchange-requires-clause-pieces
+exchange-requires-clause-pieces g c = All-nil IsPiece
+
+pub returns-then-node-eq1-clause-form : goal.returns-then-node-eq1-clause-form
+returns-then-node-eq1-clause-form g c =
+    form_of c.exchange.result c.args.self.now c.exchange.new.self c.self.inside.form (ap (λ v. v.form) c.self.view_is) c.exchange.ensures.form c.exchange.ensures.err_list
+
+pub without-requires-clause-packed : goal.without-requires-clause-packed
+without-requires-clause-packed g c =
+    let m = g.B.BlockStore.blocks c.args.store.now in
+    let q = c.args.self.now in
+    let s = c.requires.quick in
+    let k = c.find-k.result.0 in
+    let j = c.find-k.result.1 in
+    let node = c.index-node.result.now in
+    let place = subst (λ (v : Chain). IsPlace v.nodes c.args.index k j) c.self.view_is c.find-k.ensures in
+    let is = node_is q.nodes k node place.inside (c.index-node.ensures ∙ ap (λ v. get_or v.nodes k node) c.self.view_is) in
+    bytes_packed m q.nodes k node c.bytes.result.now s.chain.each place.inside is c.bytes.ensures c.if-node-eq1.false
+
+pub without-requires-clause-inside : goal.without-requires-clause-inside
+without-requires-clause-inside g c =
+    let m = g.B.BlockStore.blocks c.args.store.now in
+    let q = c.args.self.now in
+    let s = c.requires.quick in
+    let k = c.find-k.result.0 in
+    let j = c.find-k.result.1 in
+    let node = c.index-node.result.now in
+    let place = subst (λ (v : Chain). IsPlace v.nodes c.args.index k j) c.self.view_is c.find-k.ensures in
+    let is = node_is q.nodes k node place.inside (c.index-node.ensures ∙ ap (λ v. get_or v.nodes k node) c.self.view_is) in
+    let count = count_at m q.nodes k node c.bytes.result.now s.chain.each place.inside is c.bytes.ensures in
+    let room = place_room m q c.args.index k j s place in
+    omega (arith, room.0, ap length (list_at m q.nodes k node c.bytes.result.now is c.bytes.ensures ∙ many_list node.container c.bytes.result.now node.count count c.if-node-eq1.false))
+
+pub rewrite-requires-clause-quick : goal.rewrite-requires-clause-quick
+rewrite-requires-clause-quick g c = c.requires.quick
+
+pub rewrite-requires-clause-inside : goal.rewrite-requires-clause-inside
+rewrite-requires-clause-inside g c = (subst (λ (v : Chain). IsPlace v.nodes c.args.index c.find-k.result.0 c.find-k.result.1) c.self.view_is c.find-k.ensures).inside
+
+pub rewrite-requires-clause-packed : goal.rewrite-requires-clause-packed
+rewrite-requires-clause-packed g c = subst IsPacked (sym c.deref.ensures.value) c.in_ok-pack.ensures.packed
+
+pub rewrite-requires-clause-some : goal.rewrite-requires-clause-some
+rewrite-requires-clause-some g c =
+    let m = g.B.BlockStore.blocks c.args.store.now in
+    let q = c.args.self.now in
+    let s = c.requires.quick in
+    let k = c.find-k.result.0 in
+    let j = c.find-k.result.1 in
+    let node = c.index-node.result.now in
+    let place = subst (λ (v : Chain). IsPlace v.nodes c.args.index k j) c.self.view_is c.find-k.ensures in
+    let is = node_is q.nodes k node place.inside (c.index-node.ensures ∙ ap (λ v. get_or v.nodes k node) c.self.view_is) in
+    omega (arith, (node_of m q.nodes k s.chain.each place.inside).some, ap count_of is, c.if-node-eq1.false)
+
+pub returns-clause-form : goal.returns-clause-form
+returns-clause-form g c = c.rewrite.ensures.form

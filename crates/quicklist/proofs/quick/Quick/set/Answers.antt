@@ -4,11 +4,12 @@ use Rattle.std.specs.Global.{Vec}
 use Rattle.std.proofs.lemmas.List.{length-set}
 use Rattle.blocks.specs.Blocks.{no_step}
 use Rattle.listpack.specs.Pack.{texts}
-use Rattle.quicklist.specs.Nodes.{IsPacked, IsPlace, held, pack_len, node_at, node_list, count_of}
+use Rattle.quicklist.specs.Nodes.{IsPacked, IsPlace, held, pack_len, node_at, node_list, count_of, container_of}
 use Rattle.quicklist.specs.Chain.{Chain, elements, respelled, IsWritten}
 use Rattle.quicklist.proofs.Chains.{node_read}
-use Rattle.quicklist.proofs.Elements.{len_is, node_is, list_at, replaced_list, overfull_set, set_alone, around_set, set_node_is, place_room}
+use Rattle.quicklist.proofs.Elements.{len_is, node_is, node_of, held_at, count_at, list_at, replaced_list, overfull_set, set_alone, around_set, set_node_is, place_room}
 use Rattle.quicklist.proofs.Rising.{at_some, at_none}
+use Rattle.quicklist.proofs.Rests.{many_packed}
 use Rattle.quicklist.proofs.quick.Quick.set.Goals as goal
 
 pub find-k-requires-clause-whole : goal.find-k-requires-clause-whole
@@ -120,3 +121,112 @@ returns-in-None-2-clause-written g c =
     subst (λ xs. OnOk c.split.result (IsWritten m (g.B.BlockStore.blocks c.split.new.store) q c.split.new.self xs))
     (ap (λ xs. respelled m q k xs (k + 1)) (around_set (node_list m (node_at q.nodes k)) j x (place_room m q c.args.index k j s place).0) ∙ set_node_is m q c.args.index k j x s place)
     c.split.ensures.written
+
+pub find-k-requires-clause-inside : goal.find-k-requires-clause-inside
+find-k-requires-clause-inside g c = omega (arith, ap (λ v. v.len) c.self.view_is, c.requires.quick.counted, c.requires.index)
+
+pub replaced-requires-clause-held : goal.replaced-requires-clause-held
+replaced-requires-clause-held g c =
+    let m = g.B.BlockStore.blocks c.args.store.now in
+    let q = c.args.self.now in
+    let s = c.requires.quick in
+    let k = c.find-k.result.0 in
+    let j = c.find-k.result.1 in
+    let node = c.index-node.result.now in
+    let place = subst (λ (v : Chain). IsPlace v.nodes c.args.index k j) c.self.view_is c.find-k.ensures in
+    let is = node_is q.nodes k node place.inside (c.index-node.ensures ∙ ap (λ v. get_or v.nodes k node) c.self.view_is) in
+    held_at m q.nodes k node c.bytes.result.now s.chain.each place.inside is c.bytes.ensures
+
+pub replaced-requires-clause-inside : goal.replaced-requires-clause-inside
+replaced-requires-clause-inside g c =
+    let m = g.B.BlockStore.blocks c.args.store.now in
+    let q = c.args.self.now in
+    let s = c.requires.quick in
+    let k = c.find-k.result.0 in
+    let j = c.find-k.result.1 in
+    let node = c.index-node.result.now in
+    let place = subst (λ (v : Chain). IsPlace v.nodes c.args.index k j) c.self.view_is c.find-k.ensures in
+    let is = node_is q.nodes k node place.inside (c.index-node.ensures ∙ ap (λ v. get_or v.nodes k node) c.self.view_is) in
+    let room = place_room m q c.args.index k j s place in
+    omega (arith, room.0, ap length (list_at m q.nodes k node c.bytes.result.now is c.bytes.ensures))
+
+pub rewrite-requires-clause-quick : goal.rewrite-requires-clause-quick
+rewrite-requires-clause-quick g c = c.requires.quick
+
+pub rewrite-requires-clause-inside : goal.rewrite-requires-clause-inside
+rewrite-requires-clause-inside g c = (subst (λ (v : Chain). IsPlace v.nodes c.args.index c.find-k.result.0 c.find-k.result.1) c.self.view_is c.find-k.ensures).inside
+
+pub rewrite-requires-clause-packed : goal.rewrite-requires-clause-packed
+rewrite-requires-clause-packed g c =
+    let node = c.index-node.result.now in
+    let j = c.find-k.result.1 in
+    let pack = at_some (λ (v : Vec ℕ). IsPacked v.items × (texts v.items ≡ set (held node.container c.bytes.result.now) j c.args.element.now)) c.in_ok-pack.field-0 c.in-Some.pack c.in-Some.is
+    c.in_ok-pack.ensures.some in
+    subst IsPacked (sym c.deref.ensures.value) pack.0
+
+pub rewrite-requires-clause-count : goal.rewrite-requires-clause-count
+rewrite-requires-clause-count g c =
+    let m = g.B.BlockStore.blocks c.args.store.now in
+    let q = c.args.self.now in
+    let s = c.requires.quick in
+    let k = c.find-k.result.0 in
+    let j = c.find-k.result.1 in
+    let node = c.index-node.result.now in
+    let place = subst (λ (v : Chain). IsPlace v.nodes c.args.index k j) c.self.view_is c.find-k.ensures in
+    let is = node_is q.nodes k node place.inside (c.index-node.ensures ∙ ap (λ v. get_or v.nodes k node) c.self.view_is) in
+    let pack = at_some (λ (v : Vec ℕ). IsPacked v.items × (texts v.items ≡ set (held node.container c.bytes.result.now) j c.args.element.now)) c.in_ok-pack.field-0 c.in-Some.pack c.in-Some.is
+    c.in_ok-pack.ensures.some in
+    let count = count_at m q.nodes k node c.bytes.result.now s.chain.each place.inside is c.bytes.ensures in
+    omega (arith, count, ap (λ xs. length (texts xs)) c.deref.ensures.value, ap length pack.1, length-set (held node.container c.bytes.result.now) j c.args.element.now)
+
+pub rewrite-requires-clause-some : goal.rewrite-requires-clause-some
+rewrite-requires-clause-some g c =
+    let m = g.B.BlockStore.blocks c.args.store.now in
+    let q = c.args.self.now in
+    let s = c.requires.quick in
+    let k = c.find-k.result.0 in
+    let j = c.find-k.result.1 in
+    let node = c.index-node.result.now in
+    let place = subst (λ (v : Chain). IsPlace v.nodes c.args.index k j) c.self.view_is c.find-k.ensures in
+    let is = node_is q.nodes k node place.inside (c.index-node.ensures ∙ ap (λ v. get_or v.nodes k node) c.self.view_is) in
+    omega (arith, (node_of m q.nodes k s.chain.each place.inside).some, ap count_of is)
+
+pub place_alone-requires-clause-quick : goal.place_alone-requires-clause-quick
+place_alone-requires-clause-quick g c = c.requires.quick
+
+pub place_alone-requires-clause-inside : goal.place_alone-requires-clause-inside
+place_alone-requires-clause-inside g c =
+    let place = subst (λ (v : Chain). IsPlace v.nodes c.args.index c.find-k.result.0 c.find-k.result.1) c.self.view_is c.find-k.ensures in
+    omega (arith, place.inside)
+
+pub split-requires-clause-quick : goal.split-requires-clause-quick
+split-requires-clause-quick g c = c.requires.quick
+
+pub split-requires-clause-inside : goal.split-requires-clause-inside
+split-requires-clause-inside g c = (subst (λ (v : Chain). IsPlace v.nodes c.args.index c.find-k.result.0 c.find-k.result.1) c.self.view_is c.find-k.ensures).inside
+
+pub split-requires-clause-packed : goal.split-requires-clause-packed
+split-requires-clause-packed g c =
+    let m = g.B.BlockStore.blocks c.args.store.now in
+    let q = c.args.self.now in
+    let s = c.requires.quick in
+    let k = c.find-k.result.0 in
+    let j = c.find-k.result.1 in
+    let node = c.index-node.result.now in
+    let place = subst (λ (v : Chain). IsPlace v.nodes c.args.index k j) c.self.view_is c.find-k.ensures in
+    let is = node_is q.nodes k node place.inside (c.index-node.ensures ∙ ap (λ v. get_or v.nodes k node) c.self.view_is) in
+    let count = count_at m q.nodes k node c.bytes.result.now s.chain.each place.inside is c.bytes.ensures in
+    sym (ap container_of is) ∙ many_packed node.container c.bytes.result.now node.count count c.if-node-eq1.false
+
+pub split-requires-clause-bound : goal.split-requires-clause-bound
+split-requires-clause-bound g c =
+    let m = g.B.BlockStore.blocks c.args.store.now in
+    let q = c.args.self.now in
+    let s = c.requires.quick in
+    let k = c.find-k.result.0 in
+    let j = c.find-k.result.1 in
+    let node = c.index-node.result.now in
+    let place = subst (λ (v : Chain). IsPlace v.nodes c.args.index k j) c.self.view_is c.find-k.ensures in
+    let is = node_is q.nodes k node place.inside (c.index-node.ensures ∙ ap (λ v. get_or v.nodes k node) c.self.view_is) in
+    let room = place_room m q c.args.index k j s place in
+    omega (arith, room.0, (node_of m q.nodes k s.chain.each place.inside).counted)

@@ -1,4 +1,4 @@
-use Rattle.std.proofs.Common.{◌≡◌, ◌++◌, ◌+◌, ◌∷◌, [], ℕ, List, length, map, ap, ◌∙◌, sym, subst, rules, deque_len}
+use Rattle.std.proofs.Common.{◌≡◌, ◌++◌, ◌+◌, ◌∷◌, [], ℕ, List, length, map, ap, ◌∙◌, sym, subst, arith, rules, deque_len}
 use Rattle.std.proofs.lemmas.List.{append-nil, length-map}
 use Rattle.blocks.specs.Blocks.{no_step}
 use Rattle.listpack.specs.Pack.{texts}
@@ -8,7 +8,11 @@ use Rattle.quicklist.specs.Nodes.{container_of}
 use Rattle.quicklist.specs.Chain.{IsFormed, IsRisen, elements, respelled}
 use Rattle.quicklist.proofs.Rising.{written_by, changed_by}
 use Rattle.quicklist.proofs.Behind.{behind_all, containers_behind}
+use Rattle.quicklist.proofs.Elements.{count_small}
 use Rattle.quicklist.proofs.quick.Quick.take_node.Goals as goal
+
+pub overflow_cast-piece : goal.overflow_cast-piece
+overflow_cast-piece g c = record { fits = omega (arith, c.requires.count, count_small c.args.bytes.now c.requires.packed) }
 
 pub returns-in_ok-exchange-in-Some-clause-taken : goal.returns-in_ok-exchange-in-Some-clause-taken
 returns-in_ok-exchange-in-Some-clause-taken g c =
