@@ -8,3 +8,4 @@ pub mod Marked
 pub mod Claims
 pub mod Grouped
 pub mod Claimed
+pub mod Unmarked

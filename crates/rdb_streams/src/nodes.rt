@@ -2,6 +2,8 @@
 
 ghost use Rattle.std.specs.Prelude.{◌≡◌, ◌≤◌, [], length, IfOk, IfErr};
 ghost use Rattle.blocks.specs.Blocks.{Changes, Served};
+ghost use Rattle.listpack.specs.Pack.{IsPack, texts};
+ghost use Rattle.stream_node.specs.Entries.{IsNode, entries_of};
 ghost use Rattle.stream_node.specs.View.{stored};
 ghost use Rattle.stream_node.specs.Views.{entries};
 ghost use Rattle.stream_object.specs.Streams.{IsStream, nodes, refs, stream_of};
@@ -17,7 +19,7 @@ use itoa::Buffer;
 use rdb_grammar::{
     FileFault, ItemFault, LoadKind, check_node, next_length, next_node, next_string, node_key, text,
 };
-use stream_node::{Entry, Id, Node};
+use stream_node::{Entry, Id, Node, last_id, live_len};
 use stream_object::Stream;
 
 // What is seen of a stream's nodes.
@@ -51,6 +53,28 @@ fn behind_node(seen: Seen, node: &Node<'_>) -> Seen
         more = with_entry(more, &entry);
     }
     more
+}
+
+// What is seen behind a payload, the node of a key. Where no entry is marked deleted, the last one tells all.
+fn behind_payload(seen: Seen, key: Id, payload: &[u8], node: &Node<'_>) -> Seen
+    requires pack { IsPack payload.now }
+    requires is_node { IsNode key (texts payload.now) }
+    requires entries { entries node.now ≡ entries_of key (texts payload.now) }
+    ensures { result ≡ seen_behind seen (entries node.now) }
+{
+    let pack = listpack::known(payload);
+    let live = live_len(&pack);
+    let all = node.entries().len();
+    if live < all {
+        return behind_node(seen, node);
+    }
+    match last_id(key, &pack) {
+        Some(last) => Seen {
+            before: Some(last),
+            greatest: Some(last),
+        },
+        None => seen,
+    }
 }
 
 // The id of the key at an offset, and the offset behind it. Refused exactly by the key's first fault.
@@ -91,7 +115,7 @@ fn put_node<B: BlockStore>(
     ensures served { Served B.step store.old store.new }
 {
     let more = match check_node(payload, key, seen.before) {
-        Ok(node) => behind_node(seen, &node),
+        Ok(node) => behind_payload(seen, key, payload, &node),
         Err(kind) => {
             return Err(ItemFault::Refused {
                 kind,

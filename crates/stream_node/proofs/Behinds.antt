@@ -26,7 +26,7 @@ use Rattle.stream_node.specs.Written.{Extends, HasRoom, entry_texts}
 use Rattle.stream_node.specs.Appended.{IsBehind, IsOpen, IsOver, IsPlan, appended, held, pack_len, written_over}
 use Rattle.stream_node.proofs.Lists.{Texts}
 use Rattle.stream_node.proofs.Same.{fits_count}
-use Rattle.stream_node.proofs.Written.{few_written, length_pack, written}
+use Rattle.stream_node.proofs.Written.{few_written, length_pack}
 use Rattle.stream_node.proofs.Appendings.{AreIds, appended_behind, appended_is, some_element, written_end}
 
 nothing : (xs : List ℕ) → length xs ≡ 0 → xs ≡ []
@@ -220,7 +220,8 @@ few_behind key id old entry pairs live same p byte small plan room e =
     let told = ap (λ (xs : Texts). length (entries xs)) e.spelled in
     let was = length_pack old p in
     let first = ap length (entries_are old entry live p e.pack some byte small) in
-    let set = ap (λ (xs : Texts). length (entries xs)) (set_first (spellings_of old) (spelling (number (live + 1))) any ∙ ap (λ (s : List ℕ). s ∷ drop 1 (spellings_of old)) (next_is old entry live p e.pack some byte small)) in
+    let set = ap (λ (xs : Texts). length (entries xs)) (set_first (spellings_of old) (spelling (number (live + 1))) any ∙ ap (λ (s : List ℕ). s ∷ drop 1 (spellings_of old))
+    (next_is old entry live p e.pack some byte small)) in
     record {
       elements = omega (arith, ap length e.list, few_written elements (omega (arith, room, all, end)), all, end);
       bytes = omega (arith, room, all, end, own, told, was, first, set);

@@ -35,6 +35,9 @@ counts list a b fields live deleted count l d n e f g = record {
   elements = e ∙ ap (λ (x : Texts). number live ∷ x) f ∙ ap (λ (x : Texts). number live ∷ number deleted ∷ x) g;
 }
 
+pub lacks_live : (list : Texts) → NoCount list → LacksHead list
+lacks_live list none live deleted master rest h = none live (number deleted ∷ number (length master) ∷ (master ++ number 0 ∷ rest)) h.live_fits h.elements
+
 pub lacks_deleted : (list a : Texts) (x : List ℕ) → list ≡ x ∷ a → NoCount a → LacksHead list
 lacks_deleted list a x e none live deleted master rest h =
     none deleted (number (length master) ∷ (master ++ number 0 ∷ rest)) h.deleted_fits (ap behind (sym e ∙ h.elements))

@@ -3,6 +3,7 @@ pub mod Behinds
 pub mod Bodies
 pub mod Checks
 pub mod Edited
+pub mod Endings
 pub mod EntryFaults
 pub mod Exchanged
 pub mod FieldsAt

@@ -1,6 +1,6 @@
 -- Elements one behind the other.
 use Rattle.std.proofs.Common.{◌≡◌, ℕ, ◌+◌, ◌-◌, ◌<◌, ◌≤◌, ◌^◌, List, [], ◌∷◌, length, drop, get_or, Option, Some, None, Result, Ok, Err, subst, sym, ap, ◌∙◌, arith, pos, negsuc}
-use Rattle.std.specs.Prelude.{ℤ, IfNone, IfErr, IsErrAnd, FitsSigned, true}
+use Rattle.std.specs.Prelude.{ℤ, IfSome, IfNone, IfErr, IsErrAnd, FitsSigned, true}
 use lib.Signed.{lt_z}
 use Rattle.std.specs.Int.{w64}
 use Rattle.std.proofs.lemmas.Bool.Decides.{Decides-ltb}
@@ -15,6 +15,11 @@ use Rattle.stream_node.proofs.Same.{fits_count, same_number}
 pub when_none : {A : Type 0} {P : Type 0} (o : Option A) → P → IfNone o P
 when_none None p = p
 when_none (Some a) p = tt
+
+-- nothing is said of none
+pub no_some : {A : Type 0} (P : A → Type 0) (o : Option A) → o ≡ None → IfSome o P
+no_some P None e = tt
+no_some P (Some a) e = absurd cc
 
 -- what holds of the error that `?` hands on
 pub when_err : {A E : Type 0} (r : Result A E) (e : E) (Q : E → Type 0) → IsErrAnd r (λ x. x ≡ e) → Q e → IfErr r Q

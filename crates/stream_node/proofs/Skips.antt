@@ -17,19 +17,22 @@ count_read : (list more : Texts) (n : ℕ) → list ≡ number n ∷ more → n 
 count_read list more n e small = ap (λ (x : Texts). count (element x 0)) e ∙ count_back n small
 
 -- where the fields are the node's, its flags, differences, values and last element
-pub behind_same : (master list more : Texts) (n k : ℕ) → list ≡ number n ∷ more → n < 2 ^ 63 → 2 ≤ n → length master ≡ k → drop (k + 4) list ≡ behind_entry master list
+pub behind_same : (master list more : Texts) (n k : ℕ) → list ≡ number n ∷ more → n < 2 ^ 63 → 2 ≤ n → length master ≡ k → drop (k + 3) more ≡ behind_entry master list
 behind_same master list more n k e small h many =
-    sym
+    ap (drop (k + 3)) (sym (ap (drop 1) e))
+    ∙ drop-drop (k + 3) 1 list
+    ∙ sym
     (ap (λ (f : ℕ). drop (4 + pairs_long (has_same f) master (drop 3 list)) list) (count_read list more n e small)
     ∙ ap (λ (b : Bool). drop (4 + pairs_long b master (drop 3 list)) list) (with_same n h)
     ∙ ap (λ (j : ℕ). drop j list) (omega (arith, many)))
 
 -- else the pairs, and an element behind them
-pub behind_own : (master list more pairs : Texts) (n k : ℕ) → list ≡ number n ∷ more → n < 2 ^ 63 → n < 2 → drop 3 list ≡ number k ∷ pairs → k < 2 ^ 63
+pub behind_own : (master list more pairs : Texts) (n k : ℕ) → list ≡ number n ∷ more → n < 2 ^ 63 → n < 2 → drop 2 more ≡ number k ∷ pairs → k < 2 ^ 63
     → drop 1 (drop (2 * k) pairs) ≡ behind_entry master list
 behind_own master list more pairs n k e small h f few =
-    let told : count (element (drop 3 list) 0) ≡ k = count_read (drop 3 list) pairs k f few in
-    let four : drop 4 list ≡ pairs = sym (drop-drop 1 3 list) ∙ ap (drop 1) f in
+    let three : drop 3 list ≡ number k ∷ pairs = sym (drop-drop 2 1 list) ∙ ap (λ (x : Texts). drop 2 (drop 1 x)) e ∙ f in
+    let told : count (element (drop 3 list) 0) ≡ k = count_read (drop 3 list) pairs k three few in
+    let four : drop 4 list ≡ pairs = sym (drop-drop 1 3 list) ∙ ap (drop 1) three in
     let shape : behind_entry master list ≡ drop (4 + (2 * k + 1)) list =
     ap (λ (x : ℕ). drop (4 + pairs_long (has_same x) master (drop 3 list)) list) (count_read list more n e small)
     ∙ ap (λ (b : Bool). drop (4 + pairs_long b master (drop 3 list)) list) (without_same n h)

@@ -33,7 +33,8 @@ same_header old new zs p is each long many =
     let left : drop 4 new ≡ drop 4 a ++ (e ++ end) = ap (drop 4) is ∙ drop-append-le 4 a (e ++ end) (omega (arith, six)) in
     let was : drop 4 old ≡ drop 4 a ++ drop 6 old = ap (drop 4) (sym (take-append-drop 6 old)) ∙ drop-append-le 4 a (drop 6 old) (omega (arith, six)) in
     let told_is : told new ≡ told old =
-    ap (little_number 2) left ∙ little_from-append 2 (drop 4 a) (e ++ end) (omega (arith, four)) ∙ sym (ap (little_number 2) was ∙ little_from-append 2 (drop 4 a) (drop 6 old) (omega (arith, four))) in
+    ap (little_number 2) left ∙ little_from-append 2 (drop 4 a) (e ++ end) (omega (arith, four)) ∙ sym
+    (ap (little_number 2) was ∙ little_from-append 2 (drop 4 a) (drop 6 old) (omega (arith, four))) in
     let behind : drop 6 new ≡ e ++ end = ap (drop 6) is ∙ drop_at a (e ++ end) 6 six in
     let part : region new ≡ e =
     ap (take (length new - 1 - 6)) behind ∙ take_at e end (length new - 1 - 6) (omega (arith, size, long, length_pack old p)) in

@@ -1,19 +1,19 @@
 -- A mark leaves the number of bytes, where the numbers that it changes are small and spelled as the writer spells them.
-use Rattle.std.proofs.Common.{◌≡◌, ◌∙◌, ℕ, zero, suc, ◌+◌, ◌-◌, ◌<◌, ◌≤◌, ◌^◌, List, [], ◌∷◌, ◌++◌, length, map, refl, sym, ap, subst, arith, length-append, pos}
-use Rattle.std.specs.Prelude.{Bool, true, false, Some, slice_set, ◌≤ℤ◌}
+use Rattle.std.proofs.Common.{◌≡◌, ◌∙◌, ℕ, zero, suc, ◌+◌, ◌-◌, ◌<◌, ◌≤◌, ◌^◌, List, [], ◌∷◌, ◌++◌, length, map, refl, sym, ap, arith, length-append, pos}
+use Rattle.std.specs.Prelude.{Bool, true, false, Some, slice_set}
 use Rattle.stream_node.proofs.Sizes.{few_texts}
 use Rattle.std.specs.List.{AllByRecursion}
-use Rattle.listpack.specs.Entry.{IsSpelling, text_of, back_length, entry_of}
+use Rattle.listpack.specs.Entry.{text_of, back_length, entry_of}
 use Rattle.listpack.specs.Pack.{IsPack, entries, spellings_of, texts}
-use Rattle.listpack.specs.Writing.{spelling, entry, number_spelling}
+use Rattle.listpack.specs.Writing.{spelling, entry}
 use Rattle.std.proofs.lemmas.Int.{ints}
 use Rattle.listpack.proofs.Backs.{back_one}
 use Rattle.listpack.proofs.ReadBack.{spelled}
 use Rattle.listpack.proofs.Writings.{number_small, spelling_as, element_short}
 use Rattle.int_text.proofs.NumberOf.{number_back}
 use Rattle.stream_node.specs.declared.id.Id.{Id}
-use Rattle.stream_node.specs.Entry.{Stored, number, flags}
-use Rattle.stream_node.specs.Entries.{element, count, entries_of, IsNode}
+use Rattle.stream_node.specs.Entry.{number, flags}
+use Rattle.stream_node.specs.Entries.{element, count, entries_of}
 use Rattle.stream_node.specs.Appended.{appended, added, more_live, pack_len}
 use Rattle.stream_node.specs.Marked.{CanMark, flags_at, less_live, more_deleted, marked_flags, exchanged, marked_spellings}
 use Rattle.stream_node.specs.Entry.{Pair}
@@ -21,7 +21,7 @@ use Rattle.stream_node.specs.Room.{IsWritten}
 use Rattle.stream_node.proofs.Lists.{Texts, first, behind}
 use Rattle.stream_node.proofs.Same.{fits_count, few_flags}
 use Rattle.stream_node.proofs.ReadBack.{count_back}
-use Rattle.stream_node.proofs.Markings.{IsFound, found, place_is, element_at}
+use Rattle.stream_node.proofs.Markings.{found, place_is, element_at}
 use Rattle.stream_node.proofs.Written.{length_pack}
 
 -- a small number takes two bytes

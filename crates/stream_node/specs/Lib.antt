@@ -1,4 +1,5 @@
 pub mod Appended
+pub mod Ending
 pub mod Entries
 pub mod Entry
 pub mod Faults

@@ -29,6 +29,7 @@ impl<'a> Body<'a> {
     ghost use Rattle.stream_node.specs.Reading.{master_of, pairs_of, LacksBody};
 
     // The values that a list begins with, of an entry whose fields are the node's, and the elements behind it.
+    #[inline(always)]
     fn read_values(head: &Head<'a>, list: &Rest<'a>) -> Option<(Body<'a>, Rest<'a>)>
         ensures some { IfSome result (λ x. IsBody true (master_of head.now) (rest_of list.now) (pairs_of x.0) (rest_of x.1)) }
         ensures same { IfSome result (λ x. x.0.same ≡ true) }
@@ -47,6 +48,7 @@ impl<'a> Body<'a> {
     }
 
     // The number of pairs and the pairs that a list begins with, and the elements behind the entry.
+    #[inline(always)]
     fn read_pairs(head: &Head<'a>, list: &Rest<'a>) -> Option<(Body<'a>, Rest<'a>)>
         ensures some { IfSome result (λ x. IsBody false (master_of head.now) (rest_of list.now) (pairs_of x.0) (rest_of x.1)) }
         ensures same { IfSome result (λ x. x.0.same ≡ false) }
@@ -68,6 +70,7 @@ impl<'a> Body<'a> {
     }
 
     /// The body that a list begins with, and the elements behind the entry.
+    #[inline(always)]
     pub(crate) fn read(head: &Head<'a>, same: bool, list: &Rest<'a>) -> Option<(Body<'a>, Rest<'a>)>
         ensures some { IfSome result (λ x. IsBody same (master_of head.now) (rest_of list.now) (pairs_of x.0) (rest_of x.1)) }
         ensures none { IfNone result (LacksBody same (master_of head.now) (rest_of list.now)) }

@@ -30,6 +30,7 @@ impl<'a> Iterator for Entries<'a> {
 
     ghost remaining = { item_count left_of };
 
+    #[inline(always)]
     fn next(&mut self) -> Option<Entry<'a>> {
         if self.left == 0 {
             return None;

@@ -29,6 +29,7 @@ pub struct Entry<'a> {
 }
 
 // Whether an id is above the one before it, where there is one.
+#[inline(always)]
 fn is_after(before: Option<Id>, id: Id) -> bool
     ensures { IsTrue result ↔ IsAfter before id }
 {
@@ -42,6 +43,7 @@ impl<'a> Entry<'a> {
     ghost use Rattle.stream_node.specs.View.{stored, pairs_left};
 
     /// The entry that is due behind an id, and the elements behind it.
+    #[inline(always)]
     pub(crate) fn read(
         key: Id,
         head: &Head<'a>,

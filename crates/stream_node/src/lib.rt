@@ -4,6 +4,7 @@
 mod appending;
 mod behind;
 mod body;
+mod ending;
 mod entries;
 mod entry;
 mod entry_pairs;
@@ -21,6 +22,7 @@ mod start;
 
 pub use appending::{append, with_entry};
 pub use behind::{Behind, entry_behind};
+pub use ending::last_id;
 pub use entries::Entries;
 pub use entry::Entry;
 pub use entry_pairs::EntryPairs;

@@ -35,11 +35,11 @@ pub(crate) struct Marks {
 fn skip_whole<'a>(head: &Head<'a>, list: &Rest<'a>) -> Option<Rest<'a>>
     ensures { IfSome result (λ x. rest_of x ≡ behind_entry (master_of head.now) (rest_of list.now)) }
 {
-    let (flags, _) = list.split_count()?;
+    let (flags, behind) = list.split_count()?;
     if flags >= 2 {
-        return list.skip(head.count + 4);
+        return behind.skip(head.count + 3);
     }
-    let middle = list.skip(3)?;
+    let middle = behind.skip(2)?;
     let (count, pairs) = middle.split_count()?;
     let end = pairs.skip(2 * count)?;
     end.skip(1)

@@ -1,4 +1,4 @@
-// Reading elements one behind the other.
+// Reading elements one behind the other. What reads them is inlined, so that a walk makes only those parts of an entry that it uses.
 
 ghost use Rattle.std.specs.Prelude.{◌≡◌, ◌∷◌, ◌-◌, ◌<◌, ◌≤◌, ◌^◌, ◌↔◌, [], ℕ, ℤ, pos, List, IfSome, IfNone, IsTrue, FitsSigned, length, drop, slice_index_or};
 ghost use Rattle.std.specs.Int.{w64};
@@ -26,6 +26,7 @@ pub(crate) struct Rest<'a> {
 }
 
 // The number that an element is: a number, or its canonical text.
+#[inline(always)]
 fn number_of(element: &Element) -> Option<i64>
     ensures some { IfSome result (λ n. element_text element.now ≡ canonical n) }
     ensures fits { IfSome result (λ n. FitsSigned w64 n) }
@@ -51,6 +52,18 @@ impl<'a> Rest<'a> {
         }
     }
 
+    /// The last so many elements.
+    pub(crate) fn last(pack: &Pack<'a>, count: usize) -> Rest<'a>
+        requires { count ≤ length (list_of pack.now) }
+        ensures { rest_of result ≡ drop (length (list_of pack.now) - count) (list_of pack.now) }
+    {
+        Rest {
+            pack: *pack,
+            at: pack.seek(pack.len() - count),
+            left: count,
+        }
+    }
+
     /// How many elements are left.
     pub(crate) fn len(&self) -> usize
         ensures { result ≡ length (rest_of self.now) }
@@ -59,6 +72,7 @@ impl<'a> Rest<'a> {
     }
 
     /// The first element, and those behind it.
+    #[inline(always)]
     pub(crate) fn split_first(&self) -> Option<(Element<'a>, Rest<'a>)>
         ensures some { IfSome result (λ x. rest_of self.now ≡ element_text x.0 ∷ rest_of x.1) }
         ensures none { IfNone result (rest_of self.now ≡ []) }
@@ -78,6 +92,7 @@ impl<'a> Rest<'a> {
     }
 
     // The elements behind the first one.
+    #[inline(always)]
     fn behind_first(&self) -> Option<Rest<'a>>
         ensures some { IfSome result (λ x. (text : List ℕ) × (rest_of self.now ≡ text ∷ rest_of x)) }
         ensures none { IfNone result (rest_of self.now ≡ []) }
@@ -93,6 +108,7 @@ impl<'a> Rest<'a> {
     }
 
     /// The number that is due first, and the elements behind it.
+    #[inline(always)]
     pub(crate) fn split_number(&self) -> Option<(i64, Rest<'a>)>
         ensures some { IfSome result (λ x. rest_of self.now ≡ canonical x.0 ∷ rest_of x.1) }
         ensures fits { IfSome result (λ x. FitsSigned w64 x.0) }
@@ -104,6 +120,7 @@ impl<'a> Rest<'a> {
     }
 
     /// The number from 0 on that is due first, and the elements behind it.
+    #[inline(always)]
     pub(crate) fn split_count(&self) -> Option<(usize, Rest<'a>)>
         ensures some { IfSome result (λ x. rest_of self.now ≡ number x.0 ∷ rest_of x.1) }
         ensures small { IfSome result (λ x. x.0 < 2 ^ 63) }
@@ -117,6 +134,7 @@ impl<'a> Rest<'a> {
     }
 
     /// The elements behind this number, which is due first.
+    #[inline(always)]
     pub(crate) fn skip_number(&self, due: usize) -> Option<Rest<'a>>
         requires { due < 2 ^ 63 }
         ensures some { IfSome result (λ x. rest_of self.now ≡ number due ∷ rest_of x) }
@@ -127,6 +145,7 @@ impl<'a> Rest<'a> {
     }
 
     /// The elements behind so many.
+    #[inline(always)]
     pub(crate) fn skip(&self, count: usize) -> Option<Rest<'a>>
         ensures some { IfSome result (λ x. rest_of x ≡ drop count (rest_of self.now)) }
         ensures enough { IfSome result (λ _. count ≤ length (rest_of self.now)) }

@@ -18,6 +18,7 @@ pub(crate) struct Start {
 }
 
 // The two flags that a number is made of: deleted, and with the node's fields.
+#[inline(always)]
 fn flags_of(number: usize) -> Option<(bool, bool)>
     ensures some { IfSome result (λ x. flags x.0 x.1 ≡ number) }
     ensures none { IfNone result (3 < number) }
@@ -33,6 +34,7 @@ fn flags_of(number: usize) -> Option<(bool, bool)>
 
 impl Start {
     /// The start of the entry that a list begins with, and the elements behind it.
+    #[inline(always)]
     pub(crate) fn read<'a>(key: Id, list: &Rest<'a>) -> Option<(Start, Rest<'a>)>
         ensures some { IfSome result (λ x. IsStart key (rest_of list.now) x.0.deleted x.0.same x.0.id (rest_of x.1)) }
         ensures none { IfNone result (LacksStart key (rest_of list.now)) }

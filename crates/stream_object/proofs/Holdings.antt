@@ -1,5 +1,6 @@
 -- Blocks that begin with the bytes of a node.
-use Rattle.std.proofs.Common.{◌≡◌, ◌∙◌, ℕ, zero, suc, ◌+◌, ◌-◌, ◌<◌, ◌≤◌, List, [], ◌∷◌, ◌++◌, length, take, drop, Option, Some, IsSome, is_some, unwrap_or, refl, sym, ap, subst, arith, append_assoc, zero-add}
+use Rattle.std.proofs.Common.{◌≡◌, ◌∙◌, ℕ, zero, suc, ◌+◌, ◌-◌, ◌<◌, ◌≤◌, List, [], ◌∷◌, ◌++◌, length, take, drop, Option, Some, IsSome, is_some, unwrap_or, refl, sym, ap, arith}
+use Rattle.std.proofs.Common.{append_assoc, zero-add}
 use Rattle.std.specs.Prelude.{slice_set}
 use Rattle.std.proofs.lemmas.Grind.{common_steps}
 use Rattle.std.proofs.lemmas.List.{drop-append-le, length-append, length-take, length-take-le, take-append-drop, take-take, take_at}
@@ -10,7 +11,7 @@ use Rattle.blocks.proofs.Change.{with_block_twice}
 use Rattle.blocks.proofs.Written.{bytes_at_placed}
 use Rattle.listpack.specs.Pack.{IsPack, total}
 use Rattle.stream_node.specs.Appended.{written_over}
-use Rattle.stream_object.specs.Block.{Holds, IsReadable, IsPut, pack_in}
+use Rattle.stream_object.specs.Block.{Holds, IsPut, pack_in}
 
 -- a listpack that a block begins with has a header, and lies within the block
 pub pack_room : (block : List ℕ) → IsPack (pack_in block) → (4 ≤ length block) × (total block ≤ length block)

@@ -1,18 +1,17 @@
 -- Nodes of a file that stand as they are.
-use Rattle.std.proofs.Common.{◌≡◌, ◌∙◌, ℕ, suc, ◌+◌, ◌*◌, ◌^◌, ◌<◌, ◌≤◌, false, List, [], ◌∷◌, ◌++◌, length, map, refl, sym, ap, subst, arith, length-append}
-use Rattle.std.specs.Prelude.{not, Option, Some, None, IfSome, Result, Ok, Err, OnErr}
+use Rattle.std.proofs.Common.{◌≡◌, ◌∙◌, ℕ, suc, ◌+◌, ◌*◌, ◌^◌, ◌<◌, ◌≤◌, false, true, List, [], ◌∷◌, ◌++◌, length, map, refl, sym, ap, subst, arith, length-append}
+use Rattle.std.specs.Prelude.{if◌then◌else◌, not, Option, Some, None, IfSome, Result, Ok, Err, OnErr}
 use Rattle.std.specs.List.{AllByRecursion, filter}
 use Rattle.std.proofs.lemmas.Bool.{cond-true}
-use Rattle.std.proofs.lemmas.List.{append-nil, map-append}
+use Rattle.std.proofs.lemmas.List.{append-nil}
 use Rattle.blocks.specs.declared.BlockRef.{BlockRef}
 use Rattle.blocks.specs.Blocks.{Blocks}
 use Rattle.listpack.specs.Pack.{texts}
-use Rattle.stream_node.specs.declared.entry.Entry.{Entry}
 use Rattle.stream_node.specs.declared.id.Id.{Id}
-use Rattle.stream_node.specs.Entries.{entries_of}
+use Rattle.stream_node.specs.Entries.{IsNode, entries_of}
 use Rattle.stream_node.specs.Entry.{Stored}
 use Rattle.stream_node.specs.Ids.{IsId, id_number}
-use Rattle.stream_node.specs.View.{stored}
+use Rattle.stream_node.specs.Node.{marked, last_id}
 use Rattle.rax_packed.proofs.Entries.{all-append, all_weaker}
 use Rattle.stream_object.specs.declared.stream.Stream.{Stream as Log}
 use Rattle.stream_object.specs.Found.{Comes, Exchanges}
@@ -22,16 +21,30 @@ use Rattle.stream_object.specs.Streams.{AreBelow, AreUpto, IsChanged, IsStream, 
 use Rattle.stream_object.specs.Whole.{MayStandWhole, MayStand}
 use Rattle.stream_object.specs.Tail.{IsTail, IsKept}
 use Rattle.stream_object.proofs.Grows.{entries_append, rising_push}
-use Rattle.stream_object.proofs.Loads.{last-append}
 use Rattle.stream_object.proofs.Losing.{Sorted, node_sorted}
 use Rattle.stream_object.proofs.Parts.{its_own, parts_are}
 
--- one entry more of those that may stand, which is the last one then
-pub stand_more : (key : Id) (xs : List Entry) (x : Entry) → AllByRecursion (MayStand key) (map stored xs) → MayStand key (stored x) → AllByRecursion (MayStand key) (map stored (xs ++ x ∷ []))
-stand_more key xs x all one = subst (AllByRecursion (MayStand key)) (sym (map-append stored xs (x ∷ []))) (all-append (MayStand key) (map stored xs) (stored x ∷ []) all (one, tt))
+-- entries none of which is marked: the first one isn't, nor is another one
+pub none_marked : (e : Stored) (es : List Stored) → marked (e ∷ es) ≡ 0 → (e.deleted ≡ false) × (marked es ≡ 0)
+unfolding marked
+none_marked e es none = elim e.deleted as (λ b. (if b then 1 else 0) + marked es ≡ 0 → (b ≡ false) × (marked es ≡ 0)) [
+  | false ↦ λ (h : 0 + marked es ≡ 0). (refl, omega (arith, h))
+  | true ↦ λ (h : 1 + marked es ≡ 0). absurd (omega (arith, h))
+] none
 
-pub last_more : (first : ℕ × ℕ) (xs : List Entry) (x : Entry) (id : Id) → id ≡ (stored x).id → pair_of id ≡ last_of first (map stored (xs ++ x ∷ []))
-last_more first xs x id is = ap pair_of is ∙ sym (ap (last_of first) (map-append stored xs (x ∷ [])) ∙ last-append first (map stored xs) (stored x))
+later_stand : (key : Id) (low : ℕ) (es : List Stored) → id_number key ≤ low → AllByRecursion (λ f. low < id_number f.id) es → marked es ≡ 0 → AllByRecursion (MayStand key) es
+later_stand key low [] le above none = tt
+later_stand key low (f ∷ es) le above none =
+    let parts = none_marked f es none in
+    ((parts.0, omega (arith, le, above.0)), later_stand key low es le above.1 parts.1)
+
+-- where none is marked and the first one may stand, all may, as their ids rise
+pub all_stand_from : (key : Id) (list : List (List ℕ)) (e : Stored) (es : List Stored) → IsNode key list → entries_of key list ≡ e ∷ es → marked (entries_of key list) ≡ 0 → MayStand key e
+    → AllByRecursion (MayStand key) (entries_of key list)
+all_stand_from key list e es node is none one =
+    let sorted = subst Sorted is (node_sorted key list node) in
+    let parts = none_marked e es (subst (λ (xs : List Stored). marked xs ≡ 0) is none) in
+    subst (AllByRecursion (MayStand key)) (sym is) (one, later_stand key (id_number e.id) es one.1 sorted.0 parts.1)
 
 -- as many are live as there are
 live_count : (es : List Stored) → AllByRecursion (λ e. e.deleted ≡ false) es → length (live_of es) ≡ length es
@@ -86,9 +99,26 @@ whole_node key bytes last f some few stand end =
       last_is = end;
     }
 
-pub some_both : {X : Type 0} {P Q R : X → Type 0} (o : Option X) → ((x : X) → P x → Q x → R x) → IfSome o P → IfSome o Q → IfSome o R
-some_both (Some x) f p q = f x p q
-some_both None f p q = tt
+last_pair : (before : Option Id) (first : ℕ × ℕ) (e : Stored) (es : List Stored) → IfSome (last_id before (e ∷ es)) (λ last. pair_of last ≡ last_of first (e ∷ es))
+unfolding last_id
+last_pair before first e [] = refl
+last_pair before first e (f ∷ es) = last_pair (Some e.id) (pair_of e.id) f es
+
+last_some : (first : ℕ × ℕ) (es : List Stored) → 0 < length es → IfSome (last_id None es) (λ last. pair_of last ≡ last_of first es)
+last_some first [] some = absurd (omega (arith, some))
+last_some first (e ∷ es) some = last_pair None first e es
+
+some_as : {X : Type 0} {P R : X → Type 0} (o : Option X) → ((x : X) → P x → R x) → IfSome o P → IfSome o R
+some_as (Some x) f p = f x p
+some_as None f p = tt
+
+-- the last id of a node whose entries may stand
+pub whole_last : (key : Id) (bytes : List ℕ) (o : Option Id) → IsFileNode key bytes → 0 < length (entries_of key (texts bytes)) → length (entries_of key (texts bytes)) ≤ 100
+    → AllByRecursion (MayStand key) (entries_of key (texts bytes)) → o ≡ last_id None (entries_of key (texts bytes)) → IfSome o (λ last. MayStandWhole key bytes last)
+whole_last key bytes o f some few stand is =
+    let es = entries_of key (texts bytes) in
+    subst (λ (x : Option Id). IfSome x (λ last. MayStandWhole key bytes last)) (sym is)
+    (some_as (last_id None es) (λ last end. whole_node key bytes last f some few stand end) (last_some (pair_of key) es some))
 
 -- a node placed behind all others as it is
 module _ (m after : Blocks) (old new : Log) (key : Id) (bytes : List ℕ) (last : Id) (is : IsStream m old) (below : AreBelow key (nodes m old)) (w : MayStandWhole key bytes last) (at : BlockRef)

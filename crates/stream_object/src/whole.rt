@@ -6,13 +6,12 @@ ghost use Rattle.listpack.specs.Pack.{texts};
 ghost use Rattle.stream_node.specs.Entries.{entries_of};
 ghost use Rattle.stream_node.specs.View.{stored};
 ghost use Rattle.stream_node.specs.Views.{left_of};
-ghost use Rattle.stream_object.specs.Loading.{IsFileNode, last_of};
-ghost use Rattle.stream_object.specs.Streams.{pair_of};
+ghost use Rattle.stream_object.specs.Loading.{IsFileNode};
 ghost use Rattle.stream_object.specs.Whole.{MayStandWhole, MayStand};
 
 use crate::node::MOST_ENTRIES;
 use listpack::known;
-use stream_node::{Entries, Entry, Id, opened};
+use stream_node::{Entries, Entry, Id, last_id, live_len, opened};
 
 /// All entries of a file's node, those that are marked deleted among them.
 pub(crate) fn listed<'a>(key: Id, pack: &'a [u8]) -> Entries<'a>
@@ -32,21 +31,21 @@ fn may_stand(key: Id, entry: &Entry) -> bool
     !entry.id().is_below(key)
 }
 
-// The id of the last entry of a file's node, or its key where it has none. `None` comes where an entry is marked deleted or below
-// the key.
-fn last_standing(key: Id, pack: &[u8]) -> Option<Id>
+// Whether each entry of a file's node may stand. As ids rise, the first one tells of all that none is below the key.
+fn all_stand(key: Id, pack: &[u8]) -> bool
     requires { IsFileNode key pack.now }
-    ensures stand { IfSome result (λ _. AllByRecursion (MayStand key) (entries_of key (texts pack.now))) }
-    ensures last { IfSome result (λ last. pair_of last ≡ last_of (pair_of key) (entries_of key (texts pack.now))) }
+    ensures { IsTrue result → AllByRecursion (MayStand key) (entries_of key (texts pack.now)) }
 {
-    let mut last = key;
-    for entry in listed(key, pack) {
-        if !may_stand(key, &entry) {
-            return None;
-        }
-        last = entry.id();
+    let mut entries = listed(key, pack);
+    let live = live_len(&known(pack));
+    let all = entries.len();
+    if live < all {
+        return false;
     }
-    Some(last)
+    match entries.next() {
+        Some(first) => may_stand(key, &first),
+        None => true,
+    }
 }
 
 /// The id of the last entry of a file's node, where the node may stand in a stream as it is.
@@ -58,5 +57,8 @@ pub(crate) fn end_of(key: Id, pack: &[u8]) -> Option<Id>
     if count == 0 || count > MOST_ENTRIES {
         return None;
     }
-    last_standing(key, pack)
+    if !all_stand(key, pack) {
+        return None;
+    }
+    last_id(key, &known(pack))
 }

@@ -18,6 +18,15 @@ returns-in-Err-clause-changes g c = still_owned (g.B.BlockStore.blocks c.args.st
 pub returns-in-Err-clause-served : goal.returns-in-Err-clause-served
 returns-in-Err-clause-served g c = no_step
 
+pub behind_payload-more-requires-clause-pack : goal.behind_payload-more-requires-clause-pack
+behind_payload-more-requires-clause-pack g c = c.in-Ok.ensures.pack
+
+pub behind_payload-more-requires-clause-is_node : goal.behind_payload-more-requires-clause-is_node
+behind_payload-more-requires-clause-is_node g c = c.in-Ok.ensures.is_node
+
+pub behind_payload-more-requires-clause-entries : goal.behind_payload-more-requires-clause-entries
+behind_payload-more-requires-clause-entries g c = c.in-Ok.ensures.entries
+
 pub load_node-requires-clause-above : goal.load_node-requires-clause-above
 load_node-requires-clause-above g c =
     let m = g.B.BlockStore.blocks c.args.store.now in
@@ -40,7 +49,7 @@ returns-in-Ok-load_node-clause-puts g c =
     let above = found_above made key c.args.payload.now (nodes m old) (more_entries made (entries c.in-Ok.node))
     c.in-Ok.ensures.pack c.in-Ok.ensures.is_node found c.requires.sees.fits c.requires.sees.has.behind in
     let changed = c.in-Ok-load_node.ensures.loaded in
-    let is = c.behind_node-more.ensures ∙ ap (seen_behind seen) c.in-Ok.ensures.entries in
+    let is = c.behind_payload-more.ensures ∙ ap (seen_behind seen) c.in-Ok.ensures.entries in
     let told = told_far ((node_on key made).found c.args.payload.now) made (entries c.in-Ok.node) (entries_of key list) (so_far after new (seen_behind seen (entries_of key list)).before)
     found c.in-Ok.ensures.entries (now_far m after old new key list seen c.requires.sees c.in-Ok.ensures.is_node above changed) in
     let sees = now_sees m after old new key list seen c.requires.sees c.in-Ok.ensures.is_node above changed c.in-Ok-load_node.ensures.upto in

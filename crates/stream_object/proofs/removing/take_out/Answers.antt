@@ -1,4 +1,4 @@
-use Rattle.std.proofs.Common.{◌≡◌, ◌<◌, List, ℕ, length, sym, ap, subst, arith}
+use Rattle.std.proofs.Common.{◌≡◌, List, ℕ, length, sym, ap, subst, arith}
 use Rattle.listpack.specs.Pack.{texts}
 use Rattle.stream_node.specs.Entries.{entries_of}
 use Rattle.stream_object.specs.Parts.{IsNodeOf, live_of, parts_of}
