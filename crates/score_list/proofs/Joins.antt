@@ -7,9 +7,10 @@ use Rattle.score_list.specs.declared.towers.Link.{Link}
 use Rattle.score_list.specs.declared.towers.Tower.{Tower}
 use Rattle.score_list.specs.declared.towers.Towers.{Towers}
 use Rattle.score_list.specs.Rows.{Lacks, IsDistinct, AllTall}
-use Rattle.score_list.specs.Linked.{Element, no_link, links_of, next_at, span_at, element_of, element_at, tall, order, items, IsLevel, LinkedAs, IsLinked, Threads, Unthreads, Adds}
-use Rattle.score_list.specs.Linked.{with_at, without_at}
+use Rattle.score_list.specs.Linked.{Element, no_link, links_of, next_at, span_at, score_at, score_of, element_of, element_at, tall, order, items, IsLevel, IsScored, LinkedAs, IsLinked}
+use Rattle.score_list.specs.Linked.{Threads, Unthreads, Adds, with_at, without_at}
 use Rattle.score_list.proofs.Moved.{never, Same, moved}
+use Rattle.score_list.proofs.Holding.{SameScores, still_held}
 use Rattle.score_list.proofs.Threading.{order_is, all_kept, at_rank}
 
 pub ordered_as : (t : Towers) (ks : List ℕ) → LinkedAs t ks → order t ≡ ks
@@ -81,6 +82,21 @@ module _ (t t' : Towers) (key : ℕ) (head : t'.head ≡ t.head) (same : (k : �
       let s : span_at t' l 0 ≡ span_at t l 0 = ap (λ h. (get_or {A = Link} h l no_link).span) head in
       moved (tall t l) (next_at t l) (span_at t l) (tall t' l) (next_at t' l) (span_at t' l) 0 0 0 0 ks row n (omega arith) (kept_links l ks lacks)
 
+  kept_scores : (l : ℕ) (ks : List ℕ) → Lacks (suc key) ks → SameScores (tall t l) (score_at t l) (score_of t) (tall t' l) (score_at t' l) (score_of t') ks
+  kept_scores l [] lacks = tt
+  kept_scores l (k ∷ ks) lacks =
+      let e = same k (λ q. lacks.0 (ap suc (sym q))) in (
+        ap (λ s. nat_lt l (length (links_of s))) e,
+        ap (λ s. (get_or {A = Link} (links_of s) l no_link).score) e,
+        ap (λ s. (element_of s).0) e,
+        kept_scores l ks lacks.1,
+      )
+
+  pub scored_elsewhere : (l : ℕ) (ks : List ℕ) → Lacks (suc key) ks → IsScored t l ks → IsScored t' l ks
+  scored_elsewhere l ks lacks scored =
+      let s : score_at t' l 0 ≡ score_at t l 0 = ap (λ h. (get_or {A = Link} h l no_link).score) head in
+      still_held (tall t l) (score_at t l) (score_of t) (tall t' l) (score_at t' l) (score_of t') 0 0 ks scored s (kept_scores l ks lacks)
+
   pub tall_elsewhere : (ks : List ℕ) → Lacks (suc key) ks → AllTall (tall t 0) ks → AllTall (tall t' 0) ks
   tall_elsewhere [] lacks a = tt
   tall_elsewhere (k ∷ ks) lacks a = (ap (λ s. nat_lt 0 (length (links_of s))) (same k (λ q. lacks.0 (ap suc (sym q)))) ∙ a.0, tall_elsewhere ks lacks.1 a.1)
@@ -92,6 +108,7 @@ module _ (t t' : Towers) (key : ℕ) (head : t'.head ≡ t.head) (same : (k : �
   pub linked_elsewhere : (ks : List ℕ) → t'.len ≡ t.len → Lacks (suc key) ks → LinkedAs t ks → LinkedAs t' ks
   linked_elsewhere ks len lacks l = record {
     rows = λ level lt. level_elsewhere level ks lacks (l.rows level lt);
+    scored = λ level lt. scored_elsewhere level ks lacks (l.scored level lt);
     based = tall_elsewhere ks lacks l.based;
     distinct = l.distinct;
     counted = len ∙ l.counted;
@@ -122,6 +139,7 @@ module _ (t0 t1 t2 : Towers) (key rank : ℕ) (element : Element) (linked : IsLi
   pub joined_as : LinkedAs longer (with_at (order t0) rank key)
   joined_as = record {
     rows = λ level lt. subst (λ ks. IsLevel t2 level (with_at ks rank key)) is_order (h.rows level lt);
+    scored = λ level lt. subst (λ ks. IsScored t2 level (with_at ks rank key)) is_order (h.scored level lt);
     based = all_kept t1 t2 (with_at (order t0) rank key) h.keeps.heights
         (tall_with (tall t1 0) key (take rank (order t0)) (drop rank (order t0)) (subst (AllTall (tall t1 0)) (sym (take-append-drop rank (order t0))) a.linked.based) a.based);
     distinct = distinct_with key (take rank (order t0)) (drop rank (order t0)) (subst IsDistinct (sym (take-append-drop rank (order t0))) linked.distinct)
@@ -159,6 +177,7 @@ module _ (t0 t1 t2 : Towers) (key rank : ℕ) (linked : IsLinked t0) (h : Unthre
   pub left_as : LinkedAs t2 (without_at (order t0) rank)
   left_as = record {
     rows = λ level less. level_elsewhere t1 t2 key head same level (without_at (order t0) rank) apart_from.0 (h.rows level less);
+    scored = λ level less. scored_elsewhere t1 t2 key head same level (without_at (order t0) rank) apart_from.0 (h.scored level less);
     based = tall_elsewhere t1 t2 key head same (without_at (order t0) rank) apart_from.0
         (all_kept t0 t1 (without_at (order t0) rank) h.keeps.heights
         (tall_without (tall t0 0) key (take rank (order t0)) (drop (suc rank) (order t0)) (subst (AllTall (tall t0 0)) is linked.based)));

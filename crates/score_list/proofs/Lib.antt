@@ -1,12 +1,14 @@
 pub mod Moved
 pub mod Edited
 pub mod Places
+pub mod Holding
 pub mod Setting
 pub mod Threading
 pub mod Joins
 pub mod Searching
 pub mod Sortings
 pub mod Renaming
+pub mod Rescoring
 pub mod Walks
 pub mod Taken
 pub mod Between

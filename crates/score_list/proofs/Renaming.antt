@@ -10,10 +10,10 @@ use Rattle.score_list.specs.declared.towers.Link.{Link}
 use Rattle.score_list.specs.declared.towers.Tower.{Tower}
 use Rattle.score_list.specs.declared.towers.Towers.{Towers}
 use Rattle.score_list.specs.Rows.{Lacks, IsDistinct}
-use Rattle.score_list.specs.Linked.{Element, no_link, no_element, links_of, link_at, height_at, element_of, element_at, order, items, LinkedAs, IsLinked, IsAt, renamed_at}
+use Rattle.score_list.specs.Linked.{Element, no_link, no_element, links_of, link_at, score_of, height_at, element_of, element_at, order, items, LinkedAs, IsLinked, IsAt, renamed_at}
 use Rattle.score_list.specs.Sorted.{Key, key_of, key_cmp, AllBehind, IsSorted, Carries, AllFrom, IsRising}
 use Rattle.score_list.proofs.Places.{apart, there}
-use Rattle.score_list.proofs.Threading.{level_kept, all_kept}
+use Rattle.score_list.proofs.Threading.{level_kept, scored_kept, all_kept}
 use Rattle.score_list.proofs.Joins.{ordered_as, linked_is}
 
 -- a key further back is another one
@@ -27,7 +27,7 @@ module _ (f g : ℕ → Element) (key : ℕ) (same : (k : ℕ) → k ≢ key →
   others_same [] l = refl
   others_same (k ∷ ks) l = (let e = same k (λ q. l.0 (ap suc (sym q))) in let r = others_same ks l.1 in cc)
 
-  one_set : (ks : List ℕ) (rank : ℕ) (x : Element) → IsDistinct ks → rank < length ks → get_or ks rank 0 ≡ key → g key ≡ x → map g ks ≡ slice_set (map f ks) rank x
+  pub one_set : (ks : List ℕ) (rank : ℕ) (x : Element) → IsDistinct ks → rank < length ks → get_or ks rank 0 ≡ key → g key ≡ x → map g ks ≡ slice_set (map f ks) rank x
   one_set [] rank x d lt is e = absurd (omega arith)
   one_set (k ∷ ks) zero x d lt is e =
       let r = others_same ks (subst (λ n. Lacks (suc n) ks) is d.0) in
@@ -39,14 +39,14 @@ module _ (f g : ℕ → Element) (key : ℕ) (same : (k : ℕ) → k ≢ key →
       ap (λ y. y ∷ map g ks) h ∙ ap (λ xs. f k ∷ xs) r
 
 -- a tower of the same links in a tower's place
-module _ (t : Towers) (key : ℕ) (tower after : Tower) (found : get t.slab key ≡ Some tower) (links : after.links.items ≡ tower.links.items) (linked : IsLinked t) where
+module _ (t : Towers) (key : ℕ) (tower after : Tower) (found : get t.slab key ≡ Some tower) (links : after.links.items ≡ tower.links.items) where
   abbrev pub changed : Towers
   changed = record t { slab = with_value t.slab key after }
 
-  now : get changed.slab key ≡ Some after
+  pub now : get changed.slab key ≡ Some after
   now = get_or-set_same t.slab.slots key (Some after) None (there t.slab.slots key tower found)
 
-  elsewhere : (k : ℕ) → k ≢ key → get changed.slab k ≡ get t.slab k
+  pub elsewhere : (k : ℕ) → k ≢ key → get changed.slab k ≡ get t.slab k
   elsewhere k ne = get_or-set_other t.slab.slots key k (Some after) None ne
 
   kept : {A : Type 0} (f : Option Tower → A) → f (Some after) ≡ f (Some tower) → (k : ℕ) → f (get changed.slab k) ≡ f (get t.slab k)
@@ -56,30 +56,36 @@ module _ (t : Towers) (key : ℕ) (tower after : Tower) (found : get t.slab key 
         | inr ne ↦ ap f (elsewhere k ne)
       ]
 
-  heights : height_at changed ≡ height_at t
+  pub heights : height_at changed ≡ height_at t
   heights = fun_ext (kept (λ s. length (links_of s)) (ap length links))
 
-  same_links : (l o : ℕ) → link_at changed l o ≡ link_at t l o
+  pub same_links : (l o : ℕ) → link_at changed l o ≡ link_at t l o
   same_links l zero = refl
   same_links l (suc k) = kept (λ s. get_or {A = Link} (links_of s) l no_link) (ap (λ ls. get_or {A = Link} ls l no_link) links) k
 
-  changed_as : LinkedAs changed (order t)
-  changed_as = record {
-    rows = λ level lt. level_kept t changed level (order t) heights (same_links level) (linked.rows level lt);
-    based = all_kept t changed (order t) heights linked.based;
-    distinct = linked.distinct;
-    counted = linked.counted;
-    full_head = linked.full_head;
-    short = linked.short;
-  }
+  -- and of the same score
+  module _ (score : after.score ≡ tower.score) (linked : IsLinked t) where
+    same_scores : score_of changed ≡ score_of t
+    same_scores = fun_ext (kept (λ s. (element_of s).0) score)
 
-  pub changed_linked : IsLinked changed
-  changed_linked = linked_is changed (order t) changed_as
+    changed_as : LinkedAs changed (order t)
+    changed_as = record {
+      rows = λ level lt. level_kept t changed level (order t) heights (same_links level) (linked.rows level lt);
+      scored = λ level lt. scored_kept t changed level (order t) heights same_scores (same_links level) (linked.scored level lt);
+      based = all_kept t changed (order t) heights linked.based;
+      distinct = linked.distinct;
+      counted = linked.counted;
+      full_head = linked.full_head;
+      short = linked.short;
+    }
 
-  pub changed_items : (rank : ℕ) → IsAt t rank (Some key) → items changed ≡ slice_set (items t) rank (after.score, after.member)
-  changed_items rank at =
-      ap (map (element_at changed)) (ordered_as changed (order t) changed_as)
-      ∙ one_set (element_at t) (element_at changed) key (λ k ne. ap element_of (elsewhere k ne)) (order t) rank (after.score, after.member) linked.distinct at.0 at.1 (ap element_of now)
+    pub changed_linked : IsLinked changed
+    changed_linked = linked_is changed (order t) changed_as
+
+    pub changed_items : (rank : ℕ) → IsAt t rank (Some key) → items changed ≡ slice_set (items t) rank (after.score, after.member)
+    changed_items rank at =
+        ap (map (element_at changed)) (ordered_as changed (order t) changed_as)
+        ∙ one_set (element_at t) (element_at changed) key (λ k ne. ap element_of (elsewhere k ne)) (order t) rank (after.score, after.member) linked.distinct at.0 at.1 (ap element_of now)
 
 -- the element of the tower at a rank
 pub element_found : (t : Towers) (key rank : ℕ) (tower : Tower) → get t.slab key ≡ Some tower → IsAt t rank (Some key) → get_or (items t) rank no_element ≡ (tower.score, tower.member)

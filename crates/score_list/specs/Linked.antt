@@ -1,5 +1,5 @@
 -- What the towers hold, and what holds of them.
-use Rattle.std.specs.Prelude.{◌≡◌, ◌≢◌, ℕ, zero, suc, ◌+◌, ◌^◌, ◌<◌, ◌≤◌, get_or, ℤ, pos, Bool, true, nat_lt, List, [], ◌∷◌, ◌++◌, Option, Some, None, map, length, take, drop}
+use Rattle.std.specs.Prelude.{◌≡◌, ◌≢◌, ℕ, zero, suc, ◌+◌, ◌^◌, ◌<◌, ◌≤◌, get_or, ℤ, pos, Bool, true, false, nat_lt, List, [], ◌∷◌, ◌++◌, Option, Some, None, map, length, take, drop}
 use Rattle.std.specs.Prelude.{slice_index_or, slice_set}
 use Rattle.blocks.specs.declared.BlockRef.{BlockRef}
 use Rattle.slab.specs.Slab.{get}
@@ -7,14 +7,14 @@ use Rattle.score_list.specs.declared.towers.Link.{Link}
 use Rattle.score_list.specs.declared.towers.Tower.{Tower}
 use Rattle.score_list.specs.declared.towers.Towers.{Towers}
 use Rattle.score_list.specs.declared.towers.Place.{Place}
-use Rattle.score_list.specs.Rows.{IsRow, Reaches, Stands, Lacks, IsDistinct, AllTall, Hung, Unhung}
+use Rattle.score_list.specs.Rows.{IsRow, Holds, Reaches, Stands, Lacks, IsDistinct, AllTall, Hung, Unhung, HungScore, UnhungScore}
 
 -- an element: its score, and the block of its member
 abbrev pub Element : Type 0
 Element = ℤ × BlockRef
 
 abbrev pub no_link : Link
-no_link = record { next = 0; span = 0 }
+no_link = record { next = 0; span = 0; score = pos 0 }
 
 abbrev pub no_element : Element
 no_element = (pos 0, record { slab = 0; slot = 0 })
@@ -41,11 +41,18 @@ next_at t level owner = (link_at t level owner).next
 abbrev pub span_at : Towers → ℕ → ℕ → ℕ
 span_at t level owner = (link_at t level owner).span
 
+abbrev pub score_at : Towers → ℕ → ℕ → ℤ
+score_at t level owner = (link_at t level owner).score
+
 abbrev pub height_at : Towers → ℕ → ℕ
 height_at t k = length (links_of (get t.slab k))
 
 abbrev pub element_at : Towers → ℕ → Element
 element_at t k = element_of (get t.slab k)
+
+-- a tower's own score
+abbrev pub score_of : Towers → ℕ → ℤ
+score_of t k = (element_at t k).0
 
 -- the tower reaches the level
 abbrev pub tall : Towers → ℕ → ℕ → Bool
@@ -69,9 +76,15 @@ items t = map (element_at t) (order t)
 abbrev pub IsLevel : Towers → ℕ → List ℕ → Type 0
 IsLevel t level ks = IsRow (tall t level) (next_at t level) (span_at t level) 0 0 ks
 
--- Each level is the part of the level below that reaches it, and each span is the number of elements that it passes.
+-- a level's links over these towers hold their scores
+abbrev pub IsScored : Towers → ℕ → List ℕ → Type 0
+IsScored t level ks = Holds (tall t level) (score_at t level) (score_of t) 0 ks
+
+-- Each level is the part of the level below that reaches it, and each span is the number of elements that it passes,
+-- and each link holds the score of the tower that it leads to.
 pub record LinkedAs (t : Towers) (ks : List ℕ) : Type 0 where
   pub rows : (level : ℕ) → level < 16 → IsLevel t level ks
+  pub scored : (level : ℕ) → level < 16 → IsScored t level ks
   pub based : AllTall (tall t 0) ks
   pub distinct : IsDistinct ks
   pub counted : t.len ≡ length ks
@@ -100,6 +113,10 @@ IsPath t rank path =
     (level : ℕ) → level < 16
     → Arrives t level rank (slice_index_or path level no_place).owner (slice_index_or path level no_place).rank
 
+-- a path's owner at a level
+abbrev pub owner_on : List Place → ℕ → ℕ
+owner_on path level = (slice_index_or path level no_place).owner
+
 -- what an edit of links leaves
 pub record Keeps (old new : Towers) : Type 0 where
   pub heights : height_at new ≡ height_at old
@@ -125,6 +142,23 @@ pub record Unhangs (old new : Towers) (level x owner left : ℕ) : Type 0 where
       (span_at new level)
   pub keeps : Keeps old new
 
+-- what a tower that joins a level, or leaves it, makes of the scores in the level's links
+abbrev pub HangsScore : Towers → Towers → ℕ → ℕ → ℕ → Type 0
+HangsScore old new level x owner =
+    HungScore (tall old level) x owner (score_of old x) (score_at old level) (score_at new level)
+
+abbrev pub UnhangsScore : Towers → Towers → ℕ → ℕ → ℕ → Type 0
+UnhangsScore old new level x owner = UnhungScore (tall old level) x owner (score_at old level) (score_at new level)
+
+-- At each level that a tower reaches, the link of the owner on a path holds another score. Links lead where they led.
+pub record RescoresLinks (old new : Towers) (key : ℕ) (path : List Place) (score : ℤ) : Type 0 where
+  pub nexts : (l o : ℕ) → next_at new l o ≡ next_at old l o
+  pub spans : (l o : ℕ) → span_at new l o ≡ span_at old l o
+  pub rescored : (l : ℕ) → l < 16 → tall old l key ≡ true → score_at new l (owner_on path l) ≡ score
+  pub other_levels : (l o : ℕ) → tall old l key ≡ false → score_at new l o ≡ score_at old l o
+  pub other_owners : (l o : ℕ) → o ≢ owner_on path l → score_at new l o ≡ score_at old l o
+  pub keeps : Keeps old new
+
 -- the list with one more at a rank, and without the one there
 abbrev pub with_at : {A : Type 0} → List A → ℕ → A → List A
 with_at xs rank x = take rank xs ++ x ∷ drop rank xs
@@ -135,11 +169,13 @@ without_at xs rank = take rank xs ++ drop (suc rank) xs
 -- a tower's links join every level at a rank
 pub record Threads (old new : Towers) (key rank : ℕ) : Type 0 where
   pub rows : (level : ℕ) → level < 16 → IsLevel new level (with_at (order old) rank key)
+  pub scored : (level : ℕ) → level < 16 → IsScored new level (with_at (order old) rank key)
   pub keeps : Keeps old new
 
 -- they leave every level
 pub record Unthreads (old new : Towers) (key rank : ℕ) : Type 0 where
   pub rows : (level : ℕ) → level < 16 → IsLevel new level (without_at (order old) rank)
+  pub scored : (level : ℕ) → level < 16 → IsScored new level (without_at (order old) rank)
   pub keeps : Keeps old new
 
 -- a tower stands beside the towers in order, and in no level yet

@@ -1,6 +1,6 @@
 -- One level of the towers: from which owner the links go where, and how many elements each passes. An owner is 0 for
 -- the head, or a tower's key plus one. A link is 0 where it ends the row.
-use Rattle.std.specs.Prelude.{◌≡◌, ◌≢◌, ℕ, suc, ◌+◌, Bool, true, false, List, [], ◌∷◌, ◌++◌, ◌⊎◌}
+use Rattle.std.specs.Prelude.{◌≡◌, ◌≢◌, ℕ, suc, ◌+◌, ℤ, Bool, true, false, List, [], ◌∷◌, ◌++◌, ◌⊎◌}
 
 -- an owner is none of these towers
 abbrev pub Lacks : ℕ → List ℕ → Type 0
@@ -25,6 +25,12 @@ module _ (tall : ℕ → Bool) where
   IsRow next span owner passed (k ∷ ks) =
       ((tall k ≡ true) × (next owner ≡ suc k) × (span owner ≡ suc passed) × IsRow next span (suc k) 0 ks)
       ⊎ ((tall k ≡ false) × IsRow next span owner (suc passed) ks)
+
+  -- Behind an owner, the link to each tower of the level holds the tower's own score.
+  abbrev pub Holds : (ℕ → ℤ) → (ℕ → ℤ) → ℕ → List ℕ → Type 0
+  Holds held own owner [] = Unit {0}
+  Holds held own owner (k ∷ ks) =
+      ((tall k ≡ true) × (held owner ≡ own k) × Holds held own (suc k) ks) ⊎ ((tall k ≡ false) × Holds held own owner ks)
 
   -- over these elements, from an owner so many elements back, the last owner of the level is this one, so many elements
   -- back
@@ -52,3 +58,15 @@ pub record Unhung (tall : ℕ → Bool) (x owner left : ℕ) (next span next' sp
   pub others : (p : ℕ) → p ≢ owner → (next' p ≡ next p) × (span' p ≡ span p)
   pub leaves : tall x ≡ true → (next' owner ≡ next (suc x)) × (span' owner ≡ span (suc x) + left)
   pub low : tall x ≡ false → (next' owner ≡ next owner) × (suc (span' owner) ≡ span owner)
+
+-- the scores in the links of a row that a tower with a score joins behind an owner
+pub record HungScore (tall : ℕ → Bool) (x owner : ℕ) (score : ℤ) (held held' : ℕ → ℤ) : Type 0 where
+  pub others : (p : ℕ) → p ≢ owner → p ≢ suc x → held' p ≡ held p
+  pub joins : tall x ≡ true → (held' owner ≡ score) × (held' (suc x) ≡ held owner)
+  pub low : tall x ≡ false → held' owner ≡ held owner
+
+-- and of one that a tower leaves behind an owner
+pub record UnhungScore (tall : ℕ → Bool) (x owner : ℕ) (held held' : ℕ → ℤ) : Type 0 where
+  pub others : (p : ℕ) → p ≢ owner → held' p ≡ held p
+  pub leaves : tall x ≡ true → held' owner ≡ held (suc x)
+  pub low : tall x ≡ false → held' owner ≡ held owner

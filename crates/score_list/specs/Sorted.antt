@@ -93,6 +93,10 @@ module _ (f : Element → Bool) where
   IsParted [] = Unit {0}
   IsParted (x ∷ xs) = ((f x ≡ true) × IsParted xs) ⊎ ((f x ≡ false) × AllAre false xs)
 
+-- the score alone tells what the test says of an element
+abbrev pub Tells : (Element → Bool) → ℤ → Bool → Type 0
+Tells f score told = (member : BlockRef) → f (score, member) ≡ told
+
 -- it holds of each element
 abbrev pub EachIs : (Element → Type 0) → List Element → Type 0
 EachIs P [] = Unit {0}

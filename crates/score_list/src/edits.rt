@@ -23,7 +23,11 @@ impl Towers {
         ensures linked { IsLinked self.new }
         ensures kept { items self.new ≡ items self.old }
     {
-        let links = vec![in self.alloc; Link { next: 0, span: 0 }; height]?;
+        let links = vec![in self.alloc; Link {
+            next: 0,
+            span: 0,
+            score: 0,
+        }; height]?;
         self.slab.reserve(1)?;
         let room = self.slab.capacity();
         let key = self.slab.insert_reserved(Tower {
@@ -175,16 +179,18 @@ impl Towers {
             return true;
         }
         let link = self.link(0, key + 1);
-        !probe.is_above(self.element(link.next - 1))
+        !self.passes(link, probe)
     }
 
-    // Gives the element of the tower at a rank another score, and leaves its place.
-    fn set_score(&mut self, rank: usize, key: usize, score: i64)
+    // Gives the element of the tower at a rank, to which a path leads, another score, and leaves its place.
+    fn set_score(&mut self, rank: usize, key: usize, path: &[Place; LEVELS], score: i64)
         requires linked { IsLinked self.old }
+        requires path { IsPath self.old rank path.now }
         requires at { IsAt self.old rank (Some key) }
         ensures linked { IsLinked self.new }
         ensures items { items self.new ≡ slice_set (items self.old) rank (score, (slice_index_or (items self.old) rank no_element).1) }
     {
+        self.rescore_links(key, path, score);
         let Some(staying) = self.slab.get_mut(key) else {
             unreachable!()
         };
@@ -213,7 +219,7 @@ impl Towers {
             (score, (slice_index_or (items self.old) rank no_element).1) }
     {
         if self.passes_front(rank, path, probe) && self.stops_behind(rank, key, probe) {
-            self.set_score(rank, key, score);
+            self.set_score(rank, key, path, score);
             return;
         }
         self.move_to(rank, key, path, probe, score);

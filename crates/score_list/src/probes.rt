@@ -51,6 +51,14 @@ impl<'a, B: BlockStore> Probe for Pair<'a, B> {
             },
         }
     }
+
+    fn by_score(&self, score: i64) -> Option<bool> {
+        match score.cmp(&self.score) {
+            Ordering::Less => Some(true),
+            Ordering::Greater => Some(false),
+            Ordering::Equal => None,
+        }
+    }
 }
 
 impl Probe for Least {
@@ -62,5 +70,9 @@ impl Probe for Least {
 
     fn is_above(&self, element: (i64, BlockRef)) -> bool {
         element.0 < self.0
+    }
+
+    fn by_score(&self, score: i64) -> Option<bool> {
+        Some(score < self.0)
     }
 }

@@ -1,11 +1,11 @@
 //! Elements by rank, and the rank of the first element that a probe doesn't stand above.
 
-ghost use Rattle.std.specs.Prelude.{◌≡◌, ◌≢◌, ℕ, suc, ◌+◌, ◌<◌, ◌≤◌, ◌^◌, length, get_or, true, Bool, List, [], Option, Some, None, IfSome, IfNone, count_by};
-ghost use Rattle.score_list.specs.Linked.{Element, element_at, order, items, IsLinked, StandsAt, Arrives, IsAt, IsBefore, IsPath};
-ghost use Rattle.score_list.specs.Sorted.{IsParted, EachIs, IsSorted, Misses, Located};
+ghost use Rattle.std.specs.Prelude.{◌≡◌, ◌≢◌, ℕ, suc, ◌+◌, ◌-◌, ◌<◌, ◌≤◌, ◌^◌, length, get_or, true, Bool, List, [], Option, Some, None, IfSome, IfNone, count_by};
+ghost use Rattle.score_list.specs.Linked.{Element, element_at, score_of, order, items, IsLinked, StandsAt, Arrives, IsAt, IsBefore, IsPath};
+ghost use Rattle.score_list.specs.Sorted.{IsParted, EachIs, Tells, IsSorted, Misses, Located};
 
 use crate::probes::Pair;
-use crate::towers::{LEVELS, Place, START, Towers};
+use crate::towers::{LEVELS, Link, Place, START, Towers};
 use blocks::{BlockRef, BlockStore};
 
 /// What stands above some of the elements.
@@ -20,6 +20,10 @@ pub(crate) trait Probe {
     fn is_above(&self, element: (i64, BlockRef)) -> bool
         requires { compares self.now element }
         ensures { result ≡ above self.now element };
+
+    /// Whether it stands above each element of a score. `None` comes where the score alone doesn't tell.
+    fn by_score(&self, score: i64) -> Option<bool>
+        ensures { IfSome result (Tells (above self.now) score) };
 }
 
 impl Towers {
@@ -30,6 +34,19 @@ impl Towers {
         match self.slab.get(key) {
             Some(tower) => (tower.score, tower.member),
             None => (0, BlockRef { slab: 0, slot: 0 }),
+        }
+    }
+
+    /// Whether the probe stands above the element that a link leads to. Its tower is read only where the link's score doesn't tell.
+    pub(crate) fn passes<P: Probe>(&self, link: Link, probe: &P) -> bool
+        requires some { 0 < link.next }
+        requires score { link.score ≡ score_of self.now (link.next - 1) }
+        requires compares { P.compares probe.now (element_at self.now (link.next - 1)) }
+        ensures { result ≡ P.above probe.now (element_at self.now (link.next - 1)) }
+    {
+        match probe.by_score(link.score) {
+            Some(told) => told,
+            None => probe.is_above(self.element(link.next - 1)),
         }
     }
 
@@ -48,8 +65,7 @@ impl Towers {
             if link.next == 0 {
                 return place;
             }
-            let element = self.element(link.next - 1);
-            if !probe.is_above(element) {
+            if !self.passes(link, probe) {
                 return place;
             }
             place = Place {

@@ -3,7 +3,7 @@
 ghost use Rattle.std.specs.Prelude.{◌≡◌, ◌≢◌, ℕ, suc, ◌+◌, ◌<◌, ◌≤◌, ◌^◌, length, get_or, true, List, [], Some, None};
 ghost use Rattle.score_list.specs.Rows.{Lacks};
 ghost use Rattle.score_list.specs.Linked.{Element, link_at, links_at, span_at, height_at, tall, order, items, IsLevel, IsLinked, LinkedAs, StandsAt, Arrives, SetsLink, Hangs, Unhangs};
-ghost use Rattle.score_list.specs.Linked.{Threads, Unthreads, IsPath};
+ghost use Rattle.score_list.specs.Linked.{Threads, Unthreads, IsPath, HangsScore, UnhangsScore, RescoresLinks, owner_on};
 
 use blocks::BlockRef;
 use slab::Slab;
@@ -12,11 +12,13 @@ use std::alloc::{AllocError, Global};
 /// How many levels there are at most. At a quarter of the towers for each level more, they are enough for 2^32 elements.
 pub(crate) const LEVELS: usize = 16;
 
-/// A link to a tower, by its key plus one, or 0 at the end of its level; and the number of places to there.
+/// A link to a tower, by its key plus one, or 0 at the end of its level; the number of places to there; and the tower's score, which
+/// a search compares without reading the tower.
 #[derive(Clone, Copy)]
 pub(crate) struct Link {
     pub(crate) next: usize,
     pub(crate) span: usize,
+    pub(crate) score: i64,
 }
 
 /// An element, and its links from the lowest level up.
@@ -55,7 +57,11 @@ impl Towers {
         Towers {
             alloc,
             slab: Slab::new(alloc),
-            head: [Link { next: 0, span: 1 }; LEVELS],
+            head: [Link {
+                next: 0,
+                span: 1,
+                score: 0,
+            }; LEVELS],
             len: 0,
         }
     }
@@ -128,24 +134,29 @@ impl Towers {
         requires room { span_at self.old level owner + 1 < 2 ^ 64 }
         requires fits { key + 1 < 2 ^ 64 }
         requires apart { owner ≢ suc key }
-        ensures { Hangs self.old self.new level key owner left }
+        ensures hangs { Hangs self.old self.new level key owner left }
+        ensures score { HangsScore self.old self.new level key owner }
     {
         let link = self.link(level, owner);
         if level < self.height(key) {
+            let (score, _) = self.element(key);
             let on = Link {
                 next: link.next,
                 span: link.span - left,
+                score: link.score,
             };
             self.set_link(level, key + 1, on);
             let to = Link {
                 next: key + 1,
                 span: left + 1,
+                score,
             };
             self.set_link(level, owner, to);
         } else {
             let over = Link {
                 next: link.next,
                 span: link.span + 1,
+                score: link.score,
             };
             self.set_link(level, owner, over);
         }
@@ -157,13 +168,15 @@ impl Towers {
         requires span { 0 < span_at self.old level owner }
         requires room { tall self.old level key ≡ true → span_at self.old level (suc key) + left < 2 ^ 64 }
         requires fits { key + 1 < 2 ^ 64 }
-        ensures { Unhangs self.old self.new level key owner left }
+        ensures hangs { Unhangs self.old self.new level key owner left }
+        ensures score { UnhangsScore self.old self.new level key owner }
     {
         if level < self.height(key) {
             let on = self.link(level, key + 1);
             let past = Link {
                 next: on.next,
                 span: on.span + left,
+                score: on.score,
             };
             self.set_link(level, owner, past);
         } else {
@@ -171,6 +184,7 @@ impl Towers {
             let over = Link {
                 next: link.next,
                 span: link.span - 1,
+                score: link.score,
             };
             self.set_link(level, owner, over);
         }
@@ -209,6 +223,21 @@ impl Towers {
             level -= 1;
             let place = path[level];
             self.unhang(level, place.owner, rank - place.rank, key);
+        }
+    }
+
+    /// The links that lead to a tower, from the owners on a path to it, hold another score.
+    pub(crate) fn rescore_links(&mut self, key: usize, path: &[Place; LEVELS], score: i64)
+        requires { (level : ℕ) → level < 16 → level < length (links_at self.old (owner_on path.now level)) }
+        ensures { RescoresLinks self.old self.new key path.now score }
+    {
+        let height = self.height(key);
+        let high = height.min(LEVELS);
+        for level in 0..high {
+            let owner = path[level].owner;
+            let mut link = self.link(level, owner);
+            link.score = score;
+            self.set_link(level, owner, link);
         }
     }
 }

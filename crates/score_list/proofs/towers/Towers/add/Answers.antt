@@ -9,7 +9,7 @@ use Rattle.score_list.proofs.Joins.{lacks_vacant, linked_elsewhere, ordered_as, 
 use Rattle.score_list.proofs.towers.Towers.add.Goals as goal
 
 with_capacity : (t : Towers) (capacity : ℕ) → IsLinked t → IsLinked (record t { slab = record t.slab { capacity = capacity } })
-with_capacity t capacity l = record { rows = l.rows; based = l.based; distinct = l.distinct; counted = l.counted; full_head = l.full_head; short = l.short }
+with_capacity t capacity l = record { rows = l.rows; scored = l.scored; based = l.based; distinct = l.distinct; counted = l.counted; full_head = l.full_head; short = l.short }
 
 -- a slab with a new entry where there was none
 module _ (t : Towers) (linked : IsLinked t) (mid new : Slab Tower) (key : ℕ) (tower : Tower) (slots : mid.slots ≡ t.slab.slots) (vacant : get mid key ≡ None)

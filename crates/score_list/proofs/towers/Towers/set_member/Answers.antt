@@ -9,7 +9,7 @@ use Rattle.score_list.proofs.Renaming.{changed_linked, changed_items, element_fo
 use Rattle.score_list.proofs.towers.Towers.set_member.Goals as goal
 
 pub returns-clause-linked : goal.returns-clause-linked
-returns-clause-linked c = changed_linked c.args.self.now c.key_at-key.result c.in-Some.tower.now (record c.in-Some.tower.now { member = c.args.new }) (sym c.in-Some.ensures.value) refl
+returns-clause-linked c = changed_linked c.args.self.now c.key_at-key.result c.in-Some.tower.now (record c.in-Some.tower.now { member = c.args.new }) (sym c.in-Some.ensures.value) refl refl
     c.requires.linked
 
 pub returns-clause-items : goal.returns-clause-items
@@ -17,7 +17,7 @@ returns-clause-items c =
     let t = c.args.self.now in
     let at : IsAt t c.args.rank (Some c.key_at-key.result) = (c.requires.rank, c.key_at-key.ensures.at) in
     let tower = c.in-Some.tower.now in
-    changed_items t c.key_at-key.result tower (record tower { member = c.args.new }) (sym c.in-Some.ensures.value) refl c.requires.linked c.args.rank at
+    changed_items t c.key_at-key.result tower (record tower { member = c.args.new }) (sym c.in-Some.ensures.value) refl refl c.requires.linked c.args.rank at
     ∙ ap (λ (score : ℤ). let e : Element = (score, c.args.new) in slice_set (items t) c.args.rank e)
     (sym (ap (λ e. e.0) (element_found t c.key_at-key.result c.args.rank tower (sym c.in-Some.ensures.value) at)))
 

@@ -1,6 +1,6 @@
-use Rattle.std.proofs.Common.{◌+◌, ◌<◌, length, sym, ap, ◌∙◌, subst, arith}
-use Rattle.score_list.specs.Linked.{order}
-use Rattle.score_list.proofs.Walks.{has_link, leads_on}
+use Rattle.std.proofs.Common.{◌≡◌, ◌+◌, ◌-◌, ◌<◌, length, sym, ap, ◌∙◌, subst, arith}
+use Rattle.score_list.specs.Linked.{order, next_at, score_at}
+use Rattle.score_list.proofs.Walks.{has_link, leads_on, holds_next}
 use Rattle.score_list.proofs.Between.{behind_fails, element_behind, each_there, none_left, not_above}
 use Rattle.score_list.proofs.towers.Towers.stops_behind.Goals as goal
 
@@ -10,19 +10,28 @@ returns-then-rank-self g c = λ _. none_left c.args.self.now c.args.rank (g.P.Pr
 pub link-link-requires : goal.link-link-requires
 link-link-requires g c = has_link c.args.self.now c.requires.linked c.args.rank c.args.key c.requires.at
 
-pub overflow_sub-link : goal.overflow_sub-link
-overflow_sub-link g c =
+pub passes-requires-clause-some : goal.passes-requires-clause-some
+passes-requires-clause-some g c =
     let t = c.args.self.now in
     let more : c.args.rank + 1 < length (order t) = omega (arith, c.if-rank-self.false, c.requires.linked.counted, c.requires.at.0) in
     let to = ap (λ l. l.next) c.link-link.ensures ∙ leads_on t c.requires.linked c.args.rank c.args.key c.requires.at more in
     omega (arith, to)
 
-pub is_above-requires : goal.is_above-requires
-is_above-requires g c =
+pub passes-requires-clause-score : goal.passes-requires-clause-score
+passes-requires-clause-score g c =
+    let t = c.args.self.now in
+    let more : c.args.rank + 1 < length (order t) = omega (arith, c.if-rank-self.false, c.requires.linked.counted, c.requires.at.0) in
+    let leads = leads_on t c.requires.linked c.args.rank c.args.key c.requires.at more in
+    let link : c.link-link.result.next ≡ next_at t 0 (c.args.key + 1) = ap (λ l. l.next) c.link-link.ensures in
+    let held : c.link-link.result.score ≡ score_at t 0 (c.args.key + 1) = ap (λ l. l.score) c.link-link.ensures in
+    held ∙ holds_next t c.requires.linked c.args.rank c.args.key c.requires.at (c.link-link.result.next - 1) (omega (arith, link, leads))
+
+pub passes-requires-clause-compares : goal.passes-requires-clause-compares
+passes-requires-clause-compares g c =
     let t = c.args.self.now in
     let more : c.args.rank + 1 < length (order t) = omega (arith, c.if-rank-self.false, c.requires.linked.counted, c.requires.at.0) in
     let to = ap (λ l. l.next) c.link-link.ensures ∙ leads_on t c.requires.linked c.args.rank c.args.key c.requires.at more in
-    subst (g.P.Probe.compares c.args.probe.now) (sym (c.element.ensures ∙ element_behind t c.args.rank c.link-link.result.next more to))
+    subst (g.P.Probe.compares c.args.probe.now) (sym (element_behind t c.args.rank c.link-link.result.next more to))
     (each_there t c.args.rank (g.P.Probe.compares c.args.probe.now) more c.requires.compares)
 
 pub returns : goal.returns
@@ -31,4 +40,4 @@ returns g c = λ fails.
     let more : c.args.rank + 1 < length (order t) = omega (arith, c.if-rank-self.false, c.requires.linked.counted, c.requires.at.0) in
     let to = ap (λ l. l.next) c.link-link.ensures ∙ leads_on t c.requires.linked c.args.rank c.args.key c.requires.at more in
     behind_fails t c.args.rank (g.P.Probe.above c.args.probe.now) more c.requires.parted
-    (ap (g.P.Probe.above c.args.probe.now) (sym (c.element.ensures ∙ element_behind t c.args.rank c.link-link.result.next more to)) ∙ sym c.is_above.ensures ∙ not_above c.is_above.result fails))
+    (ap (g.P.Probe.above c.args.probe.now) (sym (element_behind t c.args.rank c.link-link.result.next more to)) ∙ sym c.passes.ensures ∙ not_above c.passes.result fails))

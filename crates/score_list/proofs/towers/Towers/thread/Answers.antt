@@ -1,7 +1,7 @@
 use Rattle.std.specs.Prelude.{slice_index_or}
 use Rattle.std.proofs.Common.{◌-◌, subst, sym, arith}
 use Rattle.score_list.specs.Linked.{no_place, order, with_at, Hangs}
-use Rattle.score_list.proofs.Threading.{begun, some_level, arrives, left_is, last_reaches, goes_past, span_fits, edited, reached_apart, hung_row}
+use Rattle.score_list.proofs.Threading.{begun, some_level, arrives, left_is, last_reaches, goes_past, span_fits, edited, reached_apart, hung_row, hung_scored}
 use Rattle.score_list.proofs.towers.Towers.thread.Goals as goal
 
 pub loop-level-init : goal.loop-level-init
@@ -47,7 +47,8 @@ loop-level-preserved c =
     edited c.args.self.now (order c.args.self.now) (with_at (order c.args.self.now) c.args.rank c.args.key) c.args.rank c.loop-level.self (c.loop-level.level - 1) c.requires.linked
     (some_level c.args.self.now (order c.args.self.now) (with_at (order c.args.self.now) c.args.rank c.args.key) c.args.rank c.loop-level.self c.loop-level.level c.loop-level-test.true
     c.loop-level.invariant) (slice_index_or c.args.path.now (c.loop-level.level - 1) no_place).owner (slice_index_or c.args.path.now (c.loop-level.level - 1) no_place).rank
-    (c.requires.path (c.loop-level.level - 1) (omega (arith, c.loop-level.invariant.bound, c.loop-level-test.true))) c.hang.new.self c.hang.ensures.keeps c.hang.ensures.other_levels
+    (c.requires.path (c.loop-level.level - 1) (omega (arith, c.loop-level.invariant.bound, c.loop-level-test.true))) c.hang.new.self c.hang.ensures.hangs.keeps
+    c.hang.ensures.hangs.other_levels
     (hung_row c.loop-level.self c.hang.new.self (order c.args.self.now) c.args.rank (c.loop-level.level - 1) c.args.key
     (slice_index_or c.args.path.now (c.loop-level.level - 1) no_place).owner
     (c.requires.path (c.loop-level.level - 1) (omega (arith, c.loop-level.invariant.bound, c.loop-level-test.true))).0
@@ -56,12 +57,28 @@ loop-level-preserved c =
     (left_is c.args.self.now (order c.args.self.now) (with_at (order c.args.self.now) c.args.rank c.args.key) c.args.rank c.loop-level.self (c.loop-level.level - 1) c.requires.linked
     (some_level c.args.self.now (order c.args.self.now) (with_at (order c.args.self.now) c.args.rank c.args.key) c.args.rank c.loop-level.self c.loop-level.level c.loop-level-test.true
     c.loop-level.invariant) (slice_index_or c.args.path.now (c.loop-level.level - 1) no_place).owner (slice_index_or c.args.path.now (c.loop-level.level - 1) no_place).rank
-    (c.requires.path (c.loop-level.level - 1) (omega (arith, c.loop-level.invariant.bound, c.loop-level-test.true))))) c.hang.ensures)
+    (c.requires.path (c.loop-level.level - 1) (omega (arith, c.loop-level.invariant.bound, c.loop-level-test.true))))) c.hang.ensures.hangs)
     (arrives c.args.self.now (order c.args.self.now) (with_at (order c.args.self.now) c.args.rank c.args.key) c.args.rank c.loop-level.self (c.loop-level.level - 1) c.requires.linked
     (some_level c.args.self.now (order c.args.self.now) (with_at (order c.args.self.now) c.args.rank c.args.key) c.args.rank c.loop-level.self c.loop-level.level c.loop-level-test.true
     c.loop-level.invariant) (slice_index_or c.args.path.now (c.loop-level.level - 1) no_place).owner (slice_index_or c.args.path.now (c.loop-level.level - 1) no_place).rank
     (c.requires.path (c.loop-level.level - 1) (omega (arith, c.loop-level.invariant.bound, c.loop-level-test.true))))
     (c.loop-level.invariant.low (c.loop-level.level - 1) (omega (arith, c.loop-level-test.true))) c.requires.fresh c.requires.linked.distinct)
+    (hung_scored c.loop-level.self c.hang.new.self (order c.args.self.now) c.args.rank (c.loop-level.level - 1) c.args.key
+    (slice_index_or c.args.path.now (c.loop-level.level - 1) no_place).owner
+    (c.requires.path (c.loop-level.level - 1) (omega (arith, c.loop-level.invariant.bound, c.loop-level-test.true))).0
+    c.hang.ensures.score c.hang.ensures.hangs.keeps
+    (arrives c.args.self.now (order c.args.self.now) (with_at (order c.args.self.now) c.args.rank c.args.key) c.args.rank c.loop-level.self (c.loop-level.level - 1) c.requires.linked
+    (some_level c.args.self.now (order c.args.self.now) (with_at (order c.args.self.now) c.args.rank c.args.key) c.args.rank c.loop-level.self c.loop-level.level c.loop-level-test.true
+    c.loop-level.invariant) (slice_index_or c.args.path.now (c.loop-level.level - 1) no_place).owner (slice_index_or c.args.path.now (c.loop-level.level - 1) no_place).rank
+    (c.requires.path (c.loop-level.level - 1) (omega (arith, c.loop-level.invariant.bound, c.loop-level-test.true))))
+    (c.loop-level.invariant.low_scored (c.loop-level.level - 1) (omega (arith, c.loop-level-test.true))) c.requires.fresh c.requires.linked.distinct)
+
+pub returns : goal.returns
+returns c = record {
+  rows = λ l lt. c.loop-level.invariant.high l (omega (arith, c.loop-level-test.false)) lt;
+  scored = λ l lt. c.loop-level.invariant.high_scored l (omega (arith, c.loop-level-test.false)) lt;
+  keeps = c.loop-level.invariant.keeps;
+}
 
 pub overflow_sub-rank : goal.overflow_sub-rank
 overflow_sub-rank c =

@@ -14,6 +14,11 @@ returns-then-packed-eq1-clause-placed g c =
 pub returns-then-packed-eq1-clause-served : goal.returns-then-packed-eq1-clause-served
 returns-then-packed-eq1-clause-served g c = no_step
 
+pub without-requires-clause-pack : goal.without-requires-clause-pack
+without-requires-clause-pack g c =
+    let self = c.args.self.now in
+    (pack_read (g.B.BlockStore.blocks c.args.store.now) self.limits self.body c.args.packed c.bytes.result.now c.requires.body c.bytes.ensures self.seed c.requires.sound.body).pack.pack
+
 pub without-requires-clause-index : goal.without-requires-clause-index
 without-requires-clause-index g c =
     let m = g.B.BlockStore.blocks c.args.store.now in
@@ -35,3 +40,11 @@ returns-clause-placed g c =
     (c.in_ok-at.ensures.placed ∙ ap (λ bytes. with_block m c.in_ok-at.at (Some bytes)) c.deref.ensures.value) c.in_ok-at.ensures.changes
     self.body c.args.member.now c.args.packed c.args.index c.requires.body c.requires.sound.body c.requires.first (omega (arith, old.counted, inside, same)) c.in_ok-bytes.ensures.pack
     (c.in_ok-bytes.ensures.list ∙ ap (λ (o : Option (List ℕ)). removed (pairs (unwrap_or o [])) c.args.index) (sym c.bytes.ensures))
+
+pub overflow_sub-len : goal.overflow_sub-len
+overflow_sub-len g c =
+    let m = g.B.BlockStore.blocks c.args.store.now in
+    let self = c.args.self.now in
+    let old = pack_read m self.limits self.body c.args.packed c.bytes.result.now c.requires.body c.bytes.ensures self.seed c.requires.sound.body in
+    let inside = first_in_pack m self.body c.args.member.now c.args.packed c.args.index c.requires.body c.requires.first in
+    omega (arith, old.counted, inside, ap (λ (o : Option (List ℕ)). length (pairs (unwrap_or o []))) c.bytes.ensures)
