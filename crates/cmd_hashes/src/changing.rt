@@ -7,6 +7,7 @@ ghost use Rattle.plain_model.specs.HashSteps as model;
 ghost use Rattle.held.specs.Calls.{Seeks};
 ghost use Rattle.keyspace.specs.Looks.{IsLook};
 ghost use Rattle.keyspace.specs.Scopes.{one_key};
+ghost use Rattle.keyspace.specs.Insides.{SettlesAt};
 ghost use Rattle.keyspace.specs.Seeking.{Sees};
 ghost use Rattle.keyspace.specs.Commands.{Ready, KeepsTo, visible};
 ghost use Rattle.cmd_hashes.specs.Found.{FoundOther};
@@ -58,6 +59,7 @@ fn edit_hash<E: HashEdit, B: BlockStore>(
     requires there { IsHashThere (visible B.blocks keyspace.old at.now) keyspace.old.bases (B.blocks keyspace.old.store) at.now.db key.now at.now.moment there }
     requires takes { (before : Option model.Fields) → IsBefore (visible B.blocks keyspace.old at.now) key.now before → E.takes on.old.edit (or_no_fields before) }
     ensures edited { OnOk result (HashChanged (Counting (E.makes on.old.edit on.new.edit) on.new.left) keep_any B.blocks keyspace.old keyspace.new at.now key.now) }
+    ensures settles { OnOk result (SettlesAt B.blocks keyspace.old keyspace.new at.now key.now) }
     ensures held { KeepsTo B.blocks B.step (one_key at.now.db key.now) keyspace.old keyspace.new }
 {
     match there {
@@ -86,6 +88,7 @@ pub fn change_hash<E: HashEdit, B: BlockStore>(
     requires there { IsHashThere (visible B.blocks keyspace.old at.now) keyspace.old.bases (B.blocks keyspace.old.store) at.now.db key.now at.now.moment there }
     requires takes { (before : Option model.Fields) → IsBefore (visible B.blocks keyspace.old at.now) key.now before → E.takes edit (or_no_fields before) }
     ensures changed { IfOk result (λ last. HashChanged (E.makes edit last) keep_hash B.blocks keyspace.old keyspace.new at.now key.now) }
+    ensures settles { IfOk result (λ last. SettlesAt B.blocks keyspace.old keyspace.new at.now key.now) }
     ensures held { KeepsTo B.blocks B.step (one_key at.now.db key.now) keyspace.old keyspace.new }
 {
     let mut on = OnHash { edit, left: 0 };

@@ -1,12 +1,15 @@
 //! The command that takes fields out of a hash.
 
-ghost use Rattle.std.specs.Prelude.{◌≡◌, IfOk, OnOk};
-ghost use Rattle.std.specs.FinMap.{remove};
+ghost use Rattle.std.specs.Prelude.{◌≡◌, ℕ, IfOk, OnOk};
+ghost use Rattle.std.specs.FinMap.{remove, len};
 ghost use Rattle.blocks.specs.Blocks.{Changes, Served};
-ghost use Rattle.hash_object.specs.Fields.{IsFields, KeepsSettings, fields, form_of, refs};
+ghost use Rattle.rehash_dict.specs.Grown.{Grown};
+ghost use Rattle.rehash_dict.specs.Keyed.{hash_of};
+ghost use Rattle.hash_object.specs.Fields.{IsFields, KeepsSettings, fields, form_of, refs, tables};
 ghost use Rattle.plain_model.specs.HashSteps.{unset_all};
 ghost use Rattle.plain_model.specs.declared.hash_command.HashCommand.TheVariants as hashes;
 ghost use Rattle.keyspace.specs.Scopes.{one_key};
+ghost use Rattle.keyspace.specs.Insides.{SettledBelow, SettlesAt};
 ghost use Rattle.keyspace.specs.Forms.{Formed, hash_form};
 ghost use Rattle.keyspace.specs.Commands.{Ready, KeepsOrRefuses, visible};
 ghost use Rattle.cmd_hashes.specs.Found.{Gives};
@@ -24,6 +27,10 @@ fn unset_one<B: BlockStore>(hash: &mut Fields, store: &mut B, field: &[u8]) -> R
     requires { IsFields (B.blocks store.old) hash.old }
     ensures sound { IsFields (B.blocks store.new) hash.new }
     ensures settings { KeepsSettings hash.old hash.new }
+    ensures grown { Grown (hash_of hash.old.seed) (tables (B.blocks store.old) hash.old) (tables (B.blocks store.new) hash.new) }
+    ensures settles { OnOk result
+        ((most : ℕ) → SettledBelow most (len (fields (B.blocks store.old) hash.old)) (tables (B.blocks store.old) hash.old)
+        → SettledBelow most (len (fields (B.blocks store.new) hash.new)) (tables (B.blocks store.new) hash.new)) }
     ensures is { OnOk result (fields (B.blocks store.new) hash.new ≡ remove (fields (B.blocks store.old) hash.old) field.now) }
     ensures form { form_of hash.new ≡ form_of hash.old }
     ensures changes { Changes (B.blocks store.old) (B.blocks store.new) (refs hash.old) (refs hash.new) }
@@ -42,6 +49,10 @@ fn unset_each<B: BlockStore>(
     requires { IsFields (B.blocks store.old) hash.old }
     ensures sound { IsFields (B.blocks store.new) hash.new }
     ensures settings { KeepsSettings hash.old hash.new }
+    ensures grown { Grown (hash_of hash.old.seed) (tables (B.blocks store.old) hash.old) (tables (B.blocks store.new) hash.new) }
+    ensures settles { OnOk result
+        ((most : ℕ) → SettledBelow most (len (fields (B.blocks store.old) hash.old)) (tables (B.blocks store.old) hash.old)
+        → SettledBelow most (len (fields (B.blocks store.new) hash.new)) (tables (B.blocks store.new) hash.new)) }
     ensures is { OnOk result (fields (B.blocks store.new) hash.new ≡ unset_all (fields (B.blocks store.old) hash.old) names.now) }
     ensures form { form_of hash.new ≡ form_of hash.old }
     ensures changes { Changes (B.blocks store.old) (B.blocks store.new) (refs hash.old) (refs hash.new) }
@@ -84,6 +95,7 @@ pub fn hdel<B: BlockStore>(
     requires ready { Ready B.blocks keyspace.old at.now }
     ensures gives { Gives B.blocks keyspace.old keyspace.new at.now (hashes.HDel key.now fields.now) result }
     ensures kept { KeepsOrRefuses B.blocks B.step (one_key at.now.db key.now) keyspace.old keyspace.new result }
+    ensures settles { IfOk result (λ reply. SettlesAt B.blocks keyspace.old keyspace.new at.now key.now) }
     ensures forms { IfOk result (λ reply. Formed B.blocks (hash_form at.now.db (visible B.blocks keyspace.old at.now) (hashes.HDel key.now fields.now)) keyspace.old keyspace.new) }
 {
     let alloc = keyspace.alloc();

@@ -1,9 +1,13 @@
 //! What is done to a hash in its place.
 
 ghost use Rattle.std.specs.Prelude.{OnOk};
+ghost use Rattle.std.specs.FinMap.{len};
 ghost use Rattle.blocks.specs.Blocks.{Changes, Served};
-ghost use Rattle.hash_object.specs.Fields.{IsFields, KeepsSettings, fields, form_of, refs};
+ghost use Rattle.rehash_dict.specs.Grown.{Grown};
+ghost use Rattle.rehash_dict.specs.Keyed.{hash_of};
+ghost use Rattle.hash_object.specs.Fields.{IsFields, KeepsSettings, fields, form_of, refs, tables};
 ghost use Rattle.plain_model.specs.HashSteps as model;
+ghost use Rattle.keyspace.specs.Insides.{SettledBelow};
 ghost use Rattle.cmd_hashes.specs.Changed.{IsHashThat, Made, MakesHash};
 
 use blocks::BlockStore;
@@ -19,12 +23,15 @@ pub trait HashEdit: Drop {
     /// What it makes of the fields of a hash and of its form.
     ghost makes: { Self → Self → Made };
 
-    /// Changes a hash. After want of memory it is sound, and what it means is not said.
+    /// Changes a hash. After want of memory it is sound, and what it means is not said. Its tables come from those that it had, and are
+    /// settled where it has fewer fields.
     fn edit_hash<B: BlockStore>(&mut self, hash: &mut Fields, store: &mut B) -> Result<(), Memory>
         requires sound { IsFields (B.blocks store.old) hash.old }
         requires takes { takes self.old (fields (B.blocks store.old) hash.old) }
         ensures sound { IsFields (B.blocks store.new) hash.new }
         ensures settings { KeepsSettings hash.old hash.new }
+        ensures grown { Grown (hash_of hash.old.seed) (tables (B.blocks store.old) hash.old) (tables (B.blocks store.new) hash.new) }
+        ensures settled { OnOk result (SettledBelow (len (fields (B.blocks store.old) hash.old)) (len (fields (B.blocks store.new) hash.new)) (tables (B.blocks store.new) hash.new)) }
         ensures makes { OnOk result (makes self.old self.new hash.old.limits (fields (B.blocks store.old) hash.old) (form_of hash.old) (fields (B.blocks store.new) hash.new) (form_of hash.new)) }
         ensures changes { Changes (B.blocks store.old) (B.blocks store.new) (refs hash.old) (refs hash.new) }
         ensures served { Served B.step store.old store.new };

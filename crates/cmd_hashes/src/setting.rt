@@ -4,7 +4,9 @@ ghost use Rattle.std.specs.Prelude.{◌≡◌, ℕ, [], ◌∷◌, IfOk, OnOk};
 ghost use Rattle.std.specs.FinMap.{insert};
 ghost use Rattle.blocks.specs.Blocks.{Changes, Served};
 ghost use Rattle.hash_object.specs.Maps.{IsRisen};
-ghost use Rattle.hash_object.specs.Fields.{IsFields, KeepsSettings, fields, form_of, refs};
+ghost use Rattle.rehash_dict.specs.Grown.{Grown};
+ghost use Rattle.rehash_dict.specs.Keyed.{hash_of};
+ghost use Rattle.hash_object.specs.Fields.{IsFields, KeepsSettings, fields, form_of, refs, tables};
 ghost use Rattle.held.specs.Calls.{Seeks};
 ghost use Rattle.plain_model.specs.HashSteps.{set_all};
 ghost use Rattle.plain_model.specs.declared.hash_command.HashCommand.TheVariants as hashes;
@@ -24,7 +26,7 @@ use keyspace::{Keyspace, Look, Sought, count_reply, seek};
 use plain_model::{Ctx, Line, Memory, Refusal, Reply, Word};
 
 // Gives a field its value.
-#[tactic(auto, using(crate::proofs::Rests::left_sound, crate::proofs::Rests::left_changes, crate::proofs::Rests::left_settings))]
+#[tactic(auto, using(crate::proofs::Rests::left_sound, crate::proofs::Rests::left_changes, crate::proofs::Rests::left_settings, crate::proofs::Rests::left_grown))]
 fn set_one<B: BlockStore>(
     hash: &mut Fields,
     store: &mut B,
@@ -34,6 +36,7 @@ fn set_one<B: BlockStore>(
     requires { IsFields (B.blocks store.old) hash.old }
     ensures sound { IsFields (B.blocks store.new) hash.new }
     ensures settings { KeepsSettings hash.old hash.new }
+    ensures grown { Grown (hash_of hash.old.seed) (tables (B.blocks store.old) hash.old) (tables (B.blocks store.new) hash.new) }
     ensures is { OnOk result (fields (B.blocks store.new) hash.new ≡ insert (fields (B.blocks store.old) hash.old) field.now value.now) }
     ensures risen { OnOk result (IsRisen hash.old.limits (form_of hash.old) (insert (fields (B.blocks store.old) hash.old) field.now value.now) (form_of hash.new)) }
     ensures changes { Changes (B.blocks store.old) (B.blocks store.new) (refs hash.old) (refs hash.new) }
@@ -52,6 +55,7 @@ fn set_each<B: BlockStore>(
     requires { IsFields (B.blocks store.old) hash.old }
     ensures sound { IsFields (B.blocks store.new) hash.new }
     ensures settings { KeepsSettings hash.old hash.new }
+    ensures grown { Grown (hash_of hash.old.seed) (tables (B.blocks store.old) hash.old) (tables (B.blocks store.new) hash.new) }
     ensures is { OnOk result (fields (B.blocks store.new) hash.new ≡ set_all (fields (B.blocks store.old) hash.old) pairs.now) }
     ensures risen { OnOk result (RisesBy hash.old.limits (form_of hash.old) (fields (B.blocks store.old) hash.old) pairs.now (form_of hash.new)) }
     ensures changes { Changes (B.blocks store.old) (B.blocks store.new) (refs hash.old) (refs hash.new) }

@@ -7,6 +7,7 @@ use Rattle.blocks.specs.declared.BlockRef.{BlockRef}
 use Rattle.blocks.specs.Blocks.{Blocks, times, Changes}
 use Rattle.blocks.proofs.Times.{times-append}
 use Rattle.blocks.proofs.Change.{owned_others, changes_same}
+use Rattle.blocks.proofs.Serve.{served_same}
 use Rattle.plain_world.specs.Worlds.{Entry, World, look, put, live, look_in, put_in, selecting, with_base}
 use Rattle.plain_world.proofs.Lives.{was_in_time}
 use Rattle.plain_world.specs.declared.reply.Part.{Part}
@@ -21,16 +22,18 @@ use Rattle.held.proofs.Tables.{key_itself}
 use Rattle.held.proofs.Calls.{item_owned}
 use Rattle.held.proofs.Maps.{same_entry}
 use Rattle.keyspace.specs.declared.value.Value.{Value}
-use Rattle.keyspace.specs.Values.{value_of, value_refs, value_own, IsSound}
+use Rattle.keyspace.specs.Values.{value_of, value_refs, value_own, value_tables, value_tables_own, IsSound}
 use Rattle.keyspace.specs.Databases.{Bases, means}
-use Rattle.keyspace.specs.Sound.{IsIntactWith, SoundBeside}
+use Rattle.keyspace.specs.Sound.{IsArranged, IsIntactWith, SoundBeside}
 use Rattle.held.specs.Calls.{HasOnly}
 use Rattle.keyspace.specs.Calls.{Lifted, IsPlace, Lifts, AreParts}
 use Rattle.held.proofs.Within.{within_store, within_wider}
 use Rattle.keyspace.specs.Scopes.{one_key, two_keys, Within}
+use Rattle.keyspace.specs.Insides.{Insides}
 use Rattle.keyspace.specs.Commands.{seen}
 use Rattle.keyspace.proofs.Serving.{further}
-use Rattle.keyspace.proofs.Uses.{sound_is_intact, changed_sound_in_uses}
+use Rattle.keyspace.proofs.Uses.{sound_is_intact, changed_sound_in_uses, has_sound}
+use Rattle.keyspace.proofs.Insides.{insides_edited, insides_wider, insides_then}
 use Rattle.cmd_keys.proofs.KeyLemmas.{some_entry}
 use Rattle.cmd_keys.proofs.Emptying.{same_base}
 use Rattle.cmd_keys.proofs.Moving.{live_put_in}
@@ -98,6 +101,14 @@ module _ (old mid : Bases) (m own after : Blocks) (db moment : ℕ) (key : List 
         (further (one_key db key) mid mid new m after after
         (within_store value_refs value_of value_own (one_key db key) mid m after (value_refs m lifted.value ++ []) [] extra (sound_is_intact mid m (value_refs m lifted.value ++ []) sound) p nothing)
         (subst (λ d. Within (one_key d key) mid new after after) lifts.same_db (clause key lifts.deadline place))))
+
+    -- the value that was copied has the tables that it had
+    pub copy_insides : IsArranged old m → IsArranged new later → Within (one_key db key) old new m later → HasOnly new later db key lifted.value → Insides (one_key db key) old new m later
+    copy_insides before arranged within only =
+        let sound : IsSound old.limits old.seed m lifted.value = has_sound old m db key lifted.value before lifts.had in
+        let tables : value_tables later lifted.value ≡ value_tables m lifted.value =
+        ap (λ b. value_tables b lifted.value) same ∙ value_tables_own old.limits old.seed m after lifted.value own_kept sound in
+        insides_edited db key lifted.value lifted.value old new m later before arranged within lifts.had only (served_same _ _ tables)
 
     -- from the clause `has` of `lower`
     pub copy_has : ((k : List ℕ) (deadline : Option ℕ) → IsPlace mid after lifted.db lifted.item k deadline → HasOnly new after lifted.db k lifted.value) → HasOnly new later db key lifted.value
@@ -193,3 +204,15 @@ copied_within db from number to old mid new m own after p q =
 
 pub first_within : (db : ℕ) (from : List ℕ) (number : ℕ) (to : List ℕ) (old mid : Bases) (m own : Blocks) → Within (one_key db from) old mid m own → Within (two_keys db from number to) old mid m own
 first_within db from number to old mid m own p = within_wider value_refs (one_key db from) (two_keys db from number to) (λ n here. inl here) (λ n key named. inl named) (λ n no. no) old mid m own p
+
+-- ---- the tables inside values
+
+pub first_insides : (db : ℕ) (from : List ℕ) (number : ℕ) (to : List ℕ) (old mid : Bases) (m own : Blocks) → Insides (one_key db from) old mid m own
+    → Insides (two_keys db from number to) old mid m own
+first_insides db from number to old mid m own p = insides_wider (one_key db from) (two_keys db from number to) (λ n key named. inl named) old mid m own p
+
+pub copied_insides : (db : ℕ) (from : List ℕ) (number : ℕ) (to : List ℕ) (old mid new : Bases) (m own after : Blocks) → mid.seed ≡ old.seed → Insides (one_key db from) old mid m own
+    → Insides (one_key number to) mid new own after → Insides (two_keys db from number to) old new m after
+copied_insides db from number to old mid new m own after seed p q =
+    insides_then (two_keys db from number to) old mid m own seed (first_insides db from number to old mid m own p) new after
+    (insides_wider (one_key number to) (two_keys db from number to) (λ n key named. inr named) mid new own after q)

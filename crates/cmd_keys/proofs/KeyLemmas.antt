@@ -107,29 +107,15 @@ key_shows P (Err x) all = tt
 -- what a common command may be answered is its outcome
 outcome_connection : (old : World) (moment : ℕ) (command : ConnectionCommand) → IsCommon command → (reply : List Part) (new : World)
     → IsOutcome (connection_outcome moment old command) reply new → may_connection old moment command reply new
-outcome_connection old moment (connection.Ping text) none reply new o = o
-outcome_connection old moment (connection.Echo text) none reply new o = o
-outcome_connection old moment connection.Quit none reply new o = o
-outcome_connection old moment (connection.Select number) none reply new o = o
-outcome_connection old moment connection.DbSize none reply new o = o
-outcome_connection old moment connection.FlushDb none reply new o = o
-outcome_connection old moment connection.FlushAll none reply new o = o
 outcome_connection old moment connection.MemorySlabs none reply new o = absurd none
 outcome_connection old moment (connection.DebugRehash n) none reply new o = absurd none
 outcome_connection old moment (connection.DebugDefrag n) none reply new o = absurd none
+outcome_connection old moment other none reply new o = o
 
 -- a command on the connection or the server writes no key
 connection_writes : (db : ℕ) (command : ConnectionCommand) (number : ℕ) (key : List ℕ) → (connection_scope db command).writes number key → ⊥
-connection_writes db (connection.Ping text) number key named = named
-connection_writes db (connection.Echo text) number key named = named
-connection_writes db connection.Quit number key named = named
-connection_writes db (connection.Select other) number key named = named
 connection_writes db connection.DbSize number key named = named.1
-connection_writes db connection.FlushDb number key named = named
-connection_writes db connection.FlushAll number key named = named
-connection_writes db connection.MemorySlabs number key named = named
-connection_writes db (connection.DebugRehash n) number key named = named
-connection_writes db (connection.DebugDefrag n) number key named = named
+connection_writes db other number key named = named
 
 -- a command on the connection or the server ran
 pub served_connection : {S E : Type 0} (blocks : S → Blocks) (step : S → S → Type 0) (old new : Keyspace S) (at : Ctx) (command same : ConnectionCommand) (result : Result (List Part) E)
@@ -158,7 +144,8 @@ told_connection blocks step keyspace at command same result is none told ready s
 pub ran_keys : {S E : Type 0} (blocks : S → Blocks) (step : S → S → Type 0) (old new : Keyspace S) (at : Ctx) (command same : KeyCommand) (result : Result (List Part) E)
     → ((reply : List Part) (world : World) → IsOutcome (key_outcome at.moment (visible blocks old at) same) reply world → may_keys old.bases.seed (visible blocks old at) at.moment same reply world)
     → ((reply : List Part) → key_shown old.bases (blocks old.store) at same reply)
-    → command ≡ same → Gives blocks old new at same result → KeepsOrRefuses blocks step (key_scope at.db same) old new result → IfOk result (λ reply. Formed blocks (key_form at.db (visible blocks old at) same) old new)
+    → command ≡ same → Gives blocks old new at same result → KeepsOrRefuses blocks step (key_scope at.db same) old new result → IfOk result
+    (λ reply. Formed blocks (key_form at.db (visible blocks old at) same) old new)
     → Runs blocks step old new at (Keys command) result
 ran_keys {E = E} blocks step old new at command same result fixed shows is given kept forms =
     subst (λ c. Runs {E = E} blocks step old new at (Keys c) result) (sym is) (record { answers = answers result given; kept = kept; shows = key_shows _ result shows; forms = forms })
@@ -175,7 +162,8 @@ pub removed_keys : {S E : Type 0} (blocks : S → Blocks) (step : S → S → Ty
     → command ≡ same → Gives blocks old new at same result → KeepsOrRefuses blocks step (key_scope at.db same) old new result → Runs blocks step old new at (Keys command) result
 removed_keys blocks step old new at command same result fixed shows none is given kept =
     ran_keys blocks step old new at command same result fixed shows is given kept
-    (formed_ok blocks (key_form at.db (visible blocks old at) same) old new result (formed_scope (key_form at.db (visible blocks old at) same) (key_scope at.db same) none old.bases new.bases (blocks old.store) (blocks new.store) kept.held.within))
+    (formed_ok blocks (key_form at.db (visible blocks old at) same) old new result (formed_scope (key_form at.db (visible blocks old at) same) (key_scope at.db same) none old.bases new.bases
+    (blocks old.store) (blocks new.store) kept.held.within))
 
 -- a command on keys only looked
 pub asked_keys : {S E : Type 0} (blocks : S → Blocks) (step : S → S → Type 0) (keyspace : Keyspace S) (at : Ctx) (command same : KeyCommand) (result : Result (List Part) E)
@@ -184,8 +172,13 @@ pub asked_keys : {S E : Type 0} (blocks : S → Blocks) (step : S → S → Type
     → Runs blocks step keyspace keyspace at (Keys command) result
 asked_keys {E = E} blocks step keyspace at command same result is given shows ready =
     subst (λ c. Runs {E = E} blocks step keyspace keyspace at (Keys c) result) (sym is)
-    (record
-    { answers = given; kept = unchanged blocks step (key_scope at.db same) keyspace result ready.sound; shows = shows; forms = unformed blocks (key_form at.db (visible blocks keyspace at) same) keyspace result })
+    (record {
+      answers = given;
+      kept = unchanged blocks step (key_scope at.db same) keyspace result ready.sound;
+      shows = shows;
+      forms = unformed blocks
+          (key_form at.db (visible blocks keyspace at) same) keyspace result;
+    })
 
 -- and told what the model tells
 pub told_keys : {S E : Type 0} (blocks : S → Blocks) (step : S → S → Type 0) (keyspace : Keyspace S) (at : Ctx) (command same : KeyCommand) (result : Result (List Part) E)

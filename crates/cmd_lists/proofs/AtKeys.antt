@@ -13,18 +13,17 @@ use Rattle.plain_model.specs.OfType.{list_in}
 use Rattle.plain_model.specs.ListSteps.{Elements, or_none, keep_list}
 use Rattle.plain_model.specs.declared.ctx.Ctx.{Ctx}
 use Rattle.held.specs.Calls.{HasOnly, StandsAt}
-use Rattle.held.proofs.Within.{within_keys}
 use Rattle.keyspace.specs.declared.value.Value.{Value}
 use Rattle.keyspace.specs.declared.value.Value.TheVariants as kinds
 use Rattle.keyspace.specs.Calls.{Found}
 use Rattle.quicklist.specs.Chain.{Chain, elements}
 use Rattle.std.specs.Global.{Box}
-use Rattle.keyspace.specs.Values.{Encoding, OfText, OfForm, value_of, value_refs, encoding_of}
+use Rattle.keyspace.specs.Values.{Encoding, OfText, OfForm, value_of, encoding_of}
 use Rattle.keyspace.specs.Databases.{Bases, Keyspace}
 use Rattle.keyspace.specs.Scopes.{one_key, no_key, Within}
 use Rattle.keyspace.specs.Commands.{KeepsTo, seen, visible}
 use Rattle.keyspace.specs.Edits.{Shape, shape, Edits, MakesNew}
-use Rattle.keyspace.proofs.Running.{held_then}
+use Rattle.keyspace.proofs.Running.{held_then, held_at_key}
 use Rattle.cmd_lists.specs.Changed.{HasList, ListItem, IsListThat, MakesList, ListChanged, Counting, keep_any}
 use Rattle.cmd_lists.proofs.Looking.{is_list}
 use Rattle.keyspace.proofs.Absent.{remove_put}
@@ -164,10 +163,4 @@ module _ {S : Type 0} (own : Elements → Form → Elements → Form → Type 0)
 pub held_gone : {S : Type 0} (blocks : S → Blocks) (step : S → S → Type 0) (db : ℕ) (key : List ℕ) (old mid new : Keyspace S) → KeepsTo blocks step (one_key db key) old mid
     → KeepsTo blocks step (no_key db) mid new → KeepsTo blocks step (one_key db key) old new
 held_gone blocks step db key old mid new p q =
-    held_then blocks step (one_key db key) old mid new p
-    (record {
-      sound = q.sound;
-      served = q.served;
-      settings = q.settings;
-      within = within_keys value_refs db (λ other. other ≡ key) mid.bases new.bases (blocks mid.store) (blocks new.store) q.within;
-    })
+    held_then blocks step (one_key db key) old mid new p (held_at_key blocks step db key mid new q)

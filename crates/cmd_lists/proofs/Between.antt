@@ -23,17 +23,18 @@ use Rattle.plain_model.specs.OfType.{list_in}
 use Rattle.plain_model.specs.ListSteps.{Elements, or_none, keep_list, first_or_null, from_end, without, added, move_there, move_first, move_element}
 use Rattle.plain_model.specs.declared.ctx.Ctx.{Ctx}
 use Rattle.plain_model.specs.declared.list_command.ListEnd.{ListEnd}
-use Rattle.held.specs.Calls.{HasValue}
+use Rattle.held.specs.Calls.{HasValue, AllAt}
 use Rattle.held.specs.Written as held
 use Rattle.held.proofs.Timing.{some_none}
-use Rattle.held.proofs.Within.{within_wider}
 use Rattle.held.proofs.Written.{written_then}
 use Rattle.keyspace.specs.declared.value.Value.{Value}
 use Rattle.keyspace.specs.Values.{value_refs}
 use Rattle.keyspace.specs.Databases.{Bases, Keyspace}
 use Rattle.keyspace.specs.Scopes.{Scope, one_key, two_keys, Within}
-use Rattle.keyspace.specs.Forms.{AsAt, Either, FormRule, HasForm, Formed, IsRisenAt, IsFormAt, list_of, list_at, risen_to, moved_to}
+use Rattle.keyspace.specs.Forms.{Unwritten, AsAt, Either, FormRule, HasForm, Formed, Placed, ArePlaced, placed_between, IsRisenAt, IsFormAt, list_of, list_at, risen_to, moved_to}
+use Rattle.keyspace.proofs.Forming.{stayed_at, placed_one, placed_two, formed_between}
 use Rattle.keyspace.specs.Commands.{KeepsTo, visible}
+use Rattle.keyspace.proofs.Running.{held_in_wider}
 use Rattle.cmd_lists.specs.Found.{FoundOther}
 use Rattle.cmd_lists.specs.Changed.{HasList, IsBefore}
 use Rattle.cmd_lists.specs.Moved.{HasNoOther, HasNone, IsFirst}
@@ -123,23 +124,13 @@ eq_apart a b apart = elim (cases_Bool (bytes_eq a b)) [
 
 pub held_from : {S : Type 0} (blocks : S → Blocks) (step : S → S → Type 0) (db : ℕ) (from to : List ℕ) (old new : Keyspace S) → KeepsTo blocks step (one_key db from) old new
     → KeepsTo blocks step (two_keys db from db to) old new
-held_from blocks step db from to old new p = record {
-  sound = p.sound;
-  served = p.served;
-  settings = p.settings;
-  within = within_wider value_refs (one_key db from) (two_keys db from db to) (λ number here. inl here) (λ number key named. inl named) (λ number no. absurd no) old.bases new.bases
-      (blocks old.store) (blocks new.store) p.within;
-}
+held_from blocks step db from to old new p =
+    held_in_wider blocks step (one_key db from) (two_keys db from db to) old new (λ number here. inl here) (λ number key named. inl named) (λ number no. absurd no) p
 
 pub held_to : {S : Type 0} (blocks : S → Blocks) (step : S → S → Type 0) (db : ℕ) (from to : List ℕ) (old new : Keyspace S) → KeepsTo blocks step (one_key db to) old new
     → KeepsTo blocks step (two_keys db from db to) old new
-held_to blocks step db from to old new p = record {
-  sound = p.sound;
-  served = p.served;
-  settings = p.settings;
-  within = within_wider value_refs (one_key db to) (two_keys db from db to) (λ number here. inr here) (λ number key named. inr named) (λ number no. absurd no) old.bases new.bases
-      (blocks old.store) (blocks new.store) p.within;
-}
+held_to blocks step db from to old new p =
+    held_in_wider blocks step (one_key db to) (two_keys db from db to) old new (λ number here. inr here) (λ number key named. inr named) (λ number no. absurd no) p
 
 pub world_both : {X : Type 0} (old mid new : World) (from to : List ℕ) (other : ListEnd) (rest : Elements) (element : List ℕ) (result : Result (Unit {0}) X) → mid ≡ keep_list old from rest
     → look mid to ≡ look old to
@@ -181,6 +172,18 @@ written_as Is Also on old new m after p db at e found = elim (p db at e found) [
 ]
 
 module _ {S : Type 0} (blocks : S → Blocks) (at : Ctx) (from to : List ℕ) where
+  -- what rose over the databases between rose over those before
+  risen_on : (old mid : Keyspace S) (other : ListEnd) (element : List ℕ) → (from ≡ to → ⊥) → look (visible blocks mid at) to ≡ look (visible blocks old at) to
+      → Within (one_key at.db from) old.bases mid.bases (blocks old.store) (blocks mid.store) → (value : Value)
+      → HasForm (risen_to at.db (visible blocks mid at) to (added other (list_at (visible blocks mid at) to) (element ∷ []))) mid.bases (blocks mid.store) value
+      → HasForm (risen_to at.db (visible blocks old at) to (added other (list_at (visible blocks old at) to) (element ∷ []))) old.bases (blocks old.store) value
+  risen_on old mid other element apart same within value is =
+      let m = blocks old.store in
+      let before = look (visible blocks mid at) to in
+      subst (λ (o : Option Entry). IsRisenAt (is_some o) (pack_len (added other (list_of o) (element ∷ []))) at.db to old.bases m value) same
+      (risen_before (is_some before) (pack_len (added other (list_of before) (element ∷ []))) (one_key at.db from) at.db to value old.bases mid.bases m (blocks mid.store)
+      (λ named. apart (sym named.1)) within is)
+
   pub formed_both : {X : Type 0} (old mid new : Keyspace S) (other : ListEnd) (element : List ℕ) (result : Result (Unit {0}) X) → (from ≡ to → ⊥)
       → look (visible blocks mid at) to ≡ look (visible blocks old at) to
       → Within (one_key at.db from) old.bases mid.bases (blocks old.store) (blocks mid.store) → Formed blocks (AsAt at.db from) old mid
@@ -190,30 +193,54 @@ module _ {S : Type 0} (blocks : S → Blocks) (at : Ctx) (from to : List ℕ) wh
   formed_both old mid new other element (Ok u) apart same within first last =
       let m = blocks old.store in
       let own = blocks mid.store in
-      let before = look (visible blocks mid at) to in
       let Is : Value → Type 0 = HasForm (Either (AsAt at.db from) (risen_to at.db (visible blocks old at) to (added other (list_at (visible blocks old at) to) (element ∷ [])))) old.bases m in
       written_then value_refs Is old.bases mid.bases new.bases m own (blocks new.store)
       (written_as (HasForm (AsAt at.db from) old.bases m) Is (λ value is. inl is) old.bases mid.bases m own first)
       (written_as (HasForm (risen_to at.db (visible blocks mid at) to (added other (list_at (visible blocks mid at) to) (element ∷ []))) mid.bases own) Is
-      (λ value is. inr (subst (λ (o : Option Entry). IsRisenAt (is_some o) (pack_len (added other (list_of o) (element ∷ []))) at.db to old.bases m value) same
-      (risen_before (is_some before) (pack_len (added other (list_of before) (element ∷ []))) (one_key at.db from) at.db to value old.bases mid.bases m own (λ named. apart (sym named.1)) within is)))
-      mid.bases new.bases own (blocks new.store) last)
+      (λ value is. inr (risen_on old mid other element apart same within value is)) mid.bases new.bases own (blocks new.store) last)
 
-  pub formed_same : {A X : Type 0} (old new : Keyspace S) (list : Elements) (form : FormRule) (result : Result A X) → from ≡ to
-      → form ≡ Either (AsAt at.db from) (risen_to at.db (visible blocks old at) to list)
-      → Formed blocks (risen_to at.db (visible blocks old at) from list) old new → IfOk result (λ reply. Formed blocks form old new)
-  formed_same old new list form (Err x) same is p = tt
-  formed_same old new list form (Ok reply) same is p =
+  -- each key has its own form
+  pub placed_both : {X : Type 0} (old mid new : Keyspace S) (other : ListEnd) (element : List ℕ) (result : Result (Unit {0}) X) → (from ≡ to → ⊥)
+      → look (visible blocks mid at) to ≡ look (visible blocks old at) to
+      → Within (one_key at.db from) old.bases mid.bases (blocks old.store) (blocks mid.store) → Within (one_key at.db to) mid.bases new.bases (blocks mid.store) (blocks new.store)
+      → AllAt (HasForm (AsAt at.db from) old.bases (blocks old.store)) mid.bases (blocks mid.store) at.db from
+      → OnOk result
+      (AllAt (HasForm (risen_to at.db (visible blocks mid at) to (added other (list_at (visible blocks mid at) to) (element ∷ []))) mid.bases (blocks mid.store)) new.bases
+      (blocks new.store) at.db to)
+      → OnOk result
+      (ArePlaced
+      (placed_between at.db from to (Either (AsAt at.db from) (risen_to at.db (visible blocks old at) to (added other (list_at (visible blocks old at) to) (element ∷ [])))))
+      old.bases new.bases (blocks old.store) (blocks new.store))
+  placed_both old mid new other element (Err x) apart same within beside first last = tt
+  placed_both old mid new other element (Ok u) apart same within beside first last =
       let m = blocks old.store in
-      subst (λ (f : FormRule). Formed blocks f old new) (sym is)
-      (written_as (HasForm (risen_to at.db (visible blocks old at) from list) old.bases m) (HasForm (Either (AsAt at.db from) (risen_to at.db (visible blocks old at) to list)) old.bases m)
-      (λ value h. inr (subst (λ (k : List ℕ). HasForm (risen_to at.db (visible blocks old at) k list) old.bases m value) same h)) old.bases new.bases m (blocks new.store) p)
+      let own = blocks mid.store in
+      let after = blocks new.store in
+      placed_two at.db from to (AsAt at.db from) (risen_to at.db (visible blocks old at) to (added other (list_at (visible blocks old at) to) (element ∷ []))) old.bases new.bases m after
+      (eq_apart from to apart) (
+        stayed_at (HasForm (AsAt at.db from) old.bases m) (one_key at.db to) at.db from (λ named. apart named.1) mid.bases new.bases own after beside first,
+        (λ number e found bytes. risen_on old mid other element apart same within e.value (last number e found bytes), tt),
+      )
 
-  pub formed_moved : {A X : Type 0} (old new : Keyspace S) (form made : FormRule) (result : Result A X) → form ≡ made → Formed blocks made old new → IfOk result (λ reply. Formed blocks form old new)
-  formed_moved old new form made (Err x) is p = tt
-  formed_moved old new form made (Ok reply) is p = subst (λ (f : FormRule). Formed blocks f old new) (sym is) p
+  -- one key takes what was put
+  pub formed_same : {X : Type 0} (old new : Keyspace S) (list : Elements) (form : FormRule) (result : Result (List Part) X) → from ≡ to
+      → form ≡ Either (AsAt at.db from) (risen_to at.db (visible blocks old at) to list)
+      → Formed blocks (risen_to at.db (visible blocks old at) from list) old new
+      → AllAt (HasForm (risen_to at.db (visible blocks old at) from list) old.bases (blocks old.store)) new.bases (blocks new.store) at.db from
+      → IfOk result (λ reply. Formed blocks form old new × Placed blocks (placed_between at.db from to form) reply old new)
+  formed_same old new list form result same is p placed =
+      let m = blocks old.store in
+      let after = blocks new.store in
+      formed_between blocks at.db from to old new form (Either (AsAt at.db from) (risen_to at.db (visible blocks old at) to list)) result is
+      (written_as (HasForm (risen_to at.db (visible blocks old at) from list) old.bases m) (HasForm (Either (AsAt at.db from) (risen_to at.db (visible blocks old at) to list)) old.bases m)
+      (λ value h. inr (subst (λ (k : List ℕ). HasForm (risen_to at.db (visible blocks old at) k list) old.bases m value) same h)) old.bases new.bases m after p)
+      (placed_one at.db from to (AsAt at.db from) (risen_to at.db (visible blocks old at) to list) old.bases new.bases m after (eq_same from to same)
+      (subst (λ (k : List ℕ). AllAt (HasForm (risen_to at.db (visible blocks old at) k list) old.bases m) new.bases after at.db k) same placed, tt))
 
 -- ---- what is answered
+
+met_none : (end : ListEnd) → from_end end [] ≡ []
+met_none end = no_elements (from_end end []) (met_length end [])
 
 pub moves_none : {X : Type 0} (old : World) (from to : List ℕ) (end other : ListEnd) (result : Result (List Part) X) → HasNone old from → IfOk result (λ reply. reply ≡ Null ∷ [])
     → IfOk result (λ reply. move_element old from to end other ≡ leaves reply old)
@@ -221,12 +248,15 @@ moves_none old from to end other (Err x) none told = tt
 moves_none old from to end other (Ok reply) none told =
     on_before old from none.no_other.before (move_there old from to end other) none.no_other.stands ∙ by_before none.no_other.before none.none ∙ ap (λ r. leaves r old) (sym told)
   where
-    by_end : (e : ListEnd) → from_end e [] ≡ []
-    by_end e = no_elements (from_end e []) (met_length e [])
-
     by_before : (before : Option Elements) → or_none before ≡ [] → move_there old from to end other before ≡ leaves (Null ∷ []) old
     by_before None is = refl
-    by_before (Some list) is = ap (λ l. move_first old from to end other list (from_end end l)) is ∙ ap (move_first old from to end other list) (by_end end)
+    by_before (Some list) is = ap (λ l. move_first old from to end other list (from_end end l)) is ∙ ap (move_first old from to end other list) (met_none end)
+
+-- where no element is met, none is written
+pub form_none : (db : ℕ) (old : World) (from to : List ℕ) (end other : ListEnd) → HasNone old from → moved_to db old from to end other (from_end end (list_at old from)) ≡ Unwritten
+form_none db old from to end other none =
+    ap (λ (l : Elements). moved_to db old from to end other (from_end end l)) (list_before old from none.no_other.before none.no_other.stands ∙ none.none)
+    ∙ ap (moved_to db old from to end other) (met_none end)
 
 module _ (old : World) (from to : List ℕ) (end other : ListEnd) (element : List ℕ) (p : IsFirst old from end element) where
   met_is : from_end end (list_at old from) ≡ element ∷ p.met

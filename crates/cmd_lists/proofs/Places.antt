@@ -210,9 +210,9 @@ numbers_are_replies [] = tt
 numbers_are_replies (index ∷ list) = let e : length list + 0 ≡ length list = omega arith in subst (λ n. AreReplies n (map (λ index. Number (pos index)) list)) (sym e) (numbers_are_replies list)
 
 -- the head of an array, and the numbers behind it
-pub numbers_reply : (list : List ℕ) (first mid new : List Part) → first ≡ [] → mid ≡ first ++ Array (length list) ∷ [] → new ≡ mid ++ map (λ index. Number (pos index)) list → IsReply new
-numbers_reply list first mid new e f h =
+pub numbers_reply : (list : List ℕ) (head new : List Part) → head ≡ Array (length list) ∷ [] → new ≡ head ++ map (λ index. Number (pos index)) list → IsReply new
+numbers_reply list head new is h =
     let P : List Part → Type 0 = IsReply in
     let size : 0 + length list ≡ length list = omega arith in
-    subst P (sym (h ∙ ap (λ l. l ++ map (λ index. Number (pos index)) list) (f ∙ ap (λ l. l ++ Array (length list) ∷ []) e)))
+    subst P (sym (h ∙ ap (λ l. l ++ map (λ index. Number (pos index)) list) is))
     (subst (λ n. AreReplies n (map (λ index. Number (pos index)) list)) (sym size) (numbers_are_replies list))

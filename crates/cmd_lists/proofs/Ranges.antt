@@ -43,9 +43,8 @@ pub listed_is_reply : (list : Elements) → IsReply (listed list)
 listed_is_reply list = let e : 0 + length list ≡ length list = omega arith in subst (λ n. AreReplies n (map Bulk list)) (sym e) (elements_are_replies list)
 
 -- the head of an array, and the elements behind it
-pub listed_parts : (list : Elements) (count : ℕ) (first mid new : List Part) → first ≡ [] → count ≡ length list → mid ≡ first ++ Array count ∷ [] → new ≡ mid ++ map Bulk list → new ≡ listed list
-listed_parts list count first mid new e n f h =
-    h ∙ ap (λ l. l ++ map Bulk list) (f ∙ ap (λ l. l ++ Array count ∷ []) e) ∙ ap (λ n. Array n ∷ map Bulk list) n
+pub listed_parts : (list : Elements) (count : ℕ) (head new : List Part) → count ≡ length list → head ≡ Array count ∷ [] → new ≡ head ++ map Bulk list → new ≡ listed list
+listed_parts list count head new size is h = h ∙ ap (λ l. l ++ map Bulk list) is ∙ ap (λ n. Array n ∷ map Bulk list) size
 
 -- how many elements a range has of a list of this length, and where it begins
 pub reach_is : (xs : Elements) (a b : ℤ) (len first end start stop count : ℕ) → length xs ≡ len → first ≡ range_start len a → end ≡ range_end len b → start ≡ min first len
@@ -58,8 +57,8 @@ reach_is xs a b len first end start stop count size f e s t n =
     ∙ ap (λ n. take (n - first) (drop first xs)) (e ∙ ap (λ n. range_end n b) (sym size)) ∙ ap (λ i. take (range_end (length xs) b - i) (drop i xs)) (f ∙ ap (λ n. range_start n a) (sym size))
 
 -- the head of an array, and the elements of a range behind it
-pub range_listed : (xs : Elements) (a b : ℤ) (start count : ℕ) (first mid new : List Part) → start + count ≤ length xs → take count (drop start xs) ≡ list_range xs a b
-    → first ≡ [] → mid ≡ first ++ Array count ∷ [] → new ≡ mid ++ map Bulk (take count (drop start xs)) → new ≡ listed (list_range xs a b)
-range_listed xs a b start count first mid new inside range e f h =
+pub range_listed : (xs : Elements) (a b : ℤ) (start count : ℕ) (head new : List Part) → start + count ≤ length xs → take count (drop start xs) ≡ list_range xs a b
+    → head ≡ Array count ∷ [] → new ≡ head ++ map Bulk (take count (drop start xs)) → new ≡ listed (list_range xs a b)
+range_listed xs a b start count head new inside range is h =
     let size : count ≡ length (take count (drop start xs)) = sym (length-take-le count (drop start xs) (omega (arith, inside, length-drop start xs))) in
-    listed_parts (take count (drop start xs)) count first mid new e size f h ∙ ap listed range
+    listed_parts (take count (drop start xs)) count head new size is h ∙ ap listed range

@@ -1,6 +1,6 @@
 -- What commands tell of the list at a key, from how it was changed.
 use Rattle.std.proofs.Common.{◌≡◌, ℕ, List, [], ◌∷◌, Option, None, Some, Result, Ok, Err, IfOk, take, sym, ap, subst, ◌∙◌}
-use Rattle.std.specs.Prelude.{pos, is_some}
+use Rattle.std.specs.Prelude.{ℤ, pos, is_some}
 use Rattle.blocks.specs.Blocks.{Blocks}
 use Rattle.object_codec.specs.declared.form.Form.{Form}
 use Rattle.object_codec.specs.Forms.{IsLeastFrom, FitsList}
@@ -14,6 +14,7 @@ use Rattle.plain_model.specs.OfType.{list_in, on_type}
 use Rattle.plain_model.specs.ListSteps.{Elements, on_list, or_none, keep_list, counted, added, pop, pop_of, first_or_null, from_end, without, listed}
 use Rattle.plain_model.specs.declared.ctx.Ctx.{Ctx}
 use Rattle.plain_model.specs.declared.list_command.ListEnd.{ListEnd}
+use Rattle.held.specs.Calls.{AllAt}
 use Rattle.held.proofs.Timing.{some_none}
 use Rattle.held.proofs.Written.{written_key}
 use Rattle.keyspace.specs.Values.{OfForm, value_refs}
@@ -45,6 +46,17 @@ pub before_is : (world : World) (key : List ℕ) (before : Option Elements) (lis
 before_is world key None list is has = some_none _ _ has.stands is
 before_is world key (Some other) list is has = ap Some (ap list_of (sym is.stands ∙ has.stands))
 
+-- a fact that holds anyway holds where a call succeeds
+pub if_ok : {A E P : Type 0} (result : Result A E) → P → IfOk result (λ a. P)
+if_ok (Ok a) h = h
+if_ok (Err e) h = tt
+
+-- a number is no refusal
+pub number_calm : {S X : Type 0} (blocks : S → Blocks) (step : S → S → Type 0) (scope : Scope) (old new : Keyspace S) (n : ℤ) (result : Result (List Part) X)
+    → IfOk result (λ reply. reply ≡ Number n ∷ []) → KeepsTo blocks step scope old new → KeepsOrRefuses blocks step scope old new result
+number_calm blocks step scope old new n (Err x) told held = calm blocks step scope old new (Err x) tt held
+number_calm blocks step scope old new n (Ok reply) told held = calm blocks step scope old new (Ok reply) (λ refused. subst IsRefusal told refused) held
+
 -- ---- elements put into a list
 
 pub pushed_reply : {X : Type 0} (old new : World) (key : List ℕ) (end : ListEnd) (words list : Elements) (long : ℕ) (before : Option Elements) (from form : Form)
@@ -60,30 +72,49 @@ pushed_reply old new key end words list long before from form p world (Ok reply)
 -- the list that was written has risen, whatever is answered
 module _ {S : Type 0} (own : Elements → Form → Elements → Form → Type 0) (blocks : S → Blocks) (step : S → S → Type 0) (old new : Keyspace S) (at : Ctx) (key : List ℕ)
     (p : ListChanged own keep_list blocks old new at key) (held : KeepsTo blocks step (one_key at.db key) old new) where
+  has_risen : (list : Elements) → p.now ≡ list → IsRisen p.from p.now p.form
+      → IsRisenAt (is_some (look (visible blocks old at) key)) (pack_len list) at.db key old.bases (blocks old.store) p.value
+  has_risen list is risen = record {
+    from = p.from;
+    form = p.form;
+    at = subst (λ t. IsFormAt t old.bases (blocks old.store) at.db key p.from) (sym (there_before (visible blocks old at) key p.before p.stands)) p.was_form;
+    is = p.encoded;
+    risen = subst (λ (l : Elements). IsLeastFrom p.from (FitsList (pack_len l)) p.form) is risen;
+  }
+
   pub risen_there : (list : Elements) → p.now ≡ list → IsRisen p.from p.now p.form → Formed blocks (risen_to at.db (visible blocks old at) key list) old new
   risen_there list is risen =
       let there = is_some (look (visible blocks old at) key) in
-      written_key value_refs (IsRisenAt there (pack_len list) at.db key old.bases (blocks old.store)) at.db key p.value
-      (record {
-        from = p.from;
-        form = p.form;
-        at = subst (λ t. IsFormAt t old.bases (blocks old.store) at.db key p.from) (sym (there_before (visible blocks old at) key p.before p.stands)) p.was_form;
-        is = p.encoded;
-        risen = subst (λ (l : Elements). IsLeastFrom p.from (FitsList (pack_len l)) p.form) is risen;
-      }) old.bases new.bases (blocks old.store) (blocks new.store) held.within held.sound.arranged p.only
+      written_key value_refs (IsRisenAt there (pack_len list) at.db key old.bases (blocks old.store)) at.db key p.value (has_risen list is risen)
+      old.bases new.bases (blocks old.store) (blocks new.store) held.within held.sound.arranged p.only
+
+  -- and it stands at the key
+  pub risen_placed : (list : Elements) → p.now ≡ list → IsRisen p.from p.now p.form
+      → AllAt (HasForm (risen_to at.db (visible blocks old at) key list) old.bases (blocks old.store)) new.bases (blocks new.store) at.db key
+  risen_placed list is risen number e found bytes =
+      subst (HasForm (risen_to at.db (visible blocks old at) key list) old.bases (blocks old.store)) (sym (p.only number e found bytes)) (has_risen list is risen)
 
   pub formed_risen : (list : Elements) → p.now ≡ list → IsRisen p.from p.now p.form → {A X : Type 0} (result : Result A X)
       → IfOk result (λ reply. Formed blocks (risen_to at.db (visible blocks old at) key list) old new)
   formed_risen list is risen (Err x) = tt
   formed_risen list is risen (Ok reply) = risen_there list is risen
 
+  is_like : (list : Elements) → p.before ≡ Some list → p.form ≡ p.from → HasForm (AsAt at.db key) old.bases (blocks old.store) p.value
+  is_like list is same =
+      let had = subst (λ (b : Option Elements). IsFormAt (is_some b) old.bases (blocks old.store) at.db key p.from) is p.was_form in
+      (had.0, had.1, p.encoded ∙ ap OfForm same ∙ sym had.2)
+
   -- or has its form still
   pub like_there : (list : Elements) → p.before ≡ Some list → p.form ≡ p.from → Formed blocks (AsAt at.db key) old new
   like_there list is same =
-      let had = subst (λ (b : Option Elements). IsFormAt (is_some b) old.bases (blocks old.store) at.db key p.from) is p.was_form in
-      written_key value_refs (HasForm (AsAt at.db key) old.bases (blocks old.store)) at.db key p.value
-      (had.0, had.1, p.encoded ∙ ap OfForm same ∙ sym had.2)
+      written_key value_refs (HasForm (AsAt at.db key) old.bases (blocks old.store)) at.db key p.value (is_like list is same)
       old.bases new.bases (blocks old.store) (blocks new.store) held.within held.sound.arranged p.only
+
+  -- and stands at the key
+  pub like_placed : (list : Elements) → p.before ≡ Some list → p.form ≡ p.from
+      → AllAt (HasForm (AsAt at.db key) old.bases (blocks old.store)) new.bases (blocks new.store) at.db key
+  like_placed list is same number e found bytes =
+      subst (HasForm (AsAt at.db key) old.bases (blocks old.store)) (sym (p.only number e found bytes)) (is_like list is same)
 
   pub formed_as : (list : Elements) → p.before ≡ Some list → p.form ≡ p.from → {A X : Type 0} (result : Result A X) → IfOk result (λ reply. Formed blocks (AsAt at.db key) old new)
   formed_as list is same (Err x) = tt

@@ -2,12 +2,13 @@
 
 ghost use Rattle.std.specs.Prelude.{◌≡◌, ℕ, true, false, List, ◌∷◌, [], Option, OnOk, IfOk};
 ghost use Rattle.plain_model.specs.Outcomes.{leaves};
-ghost use Rattle.plain_model.specs.ListSteps.{added, without, or_none, keep_list, move_element, from_end};
+ghost use Rattle.plain_model.specs.ListSteps.{added, without, or_none, keep_list, move_element};
 ghost use Rattle.plain_model.specs.declared.list_command.ListCommand.TheVariants as lists;
+ghost use Rattle.held.specs.Calls.{AllAt};
 ghost use Rattle.keyspace.specs.Looks.{IsLook};
 ghost use Rattle.keyspace.specs.Scopes.{one_key, two_keys};
 ghost use Rattle.keyspace.specs.Forms as form;
-ghost use Rattle.keyspace.specs.Forms.{AsAt, Either, Formed, list_form, moved_to, risen_to};
+ghost use Rattle.keyspace.specs.Forms.{AsAt, Either, HasForm, Formed, FormedList, ArePlaced, placed_between, risen_to};
 ghost use Rattle.keyspace.specs.Commands.{Ready, KeepsTo, KeepsOrRefuses, visible};
 ghost use Rattle.cmd_lists.specs.Found.{Gives, FoundOther};
 ghost use Rattle.cmd_lists.specs.Changed.{HasList, IsBefore, ListChanged};
@@ -130,6 +131,8 @@ fn take_first<B: BlockStore>(
         (visible B.blocks keyspace.new at.now ≡ keep_list (visible B.blocks keyspace.old at.now) key.now (without end 1 (form.list_at (visible B.blocks keyspace.old at.now) key.now))) }
     ensures held { KeepsTo B.blocks B.step (one_key at.now.db key.now) keyspace.old keyspace.new }
     ensures forms { OnOk result (Formed B.blocks (AsAt at.now.db key.now) keyspace.old keyspace.new) }
+    ensures placed { OnOk result
+        (AllAt (HasForm (AsAt at.now.db key.now) keyspace.old.bases (B.blocks keyspace.old.store)) keyspace.new.bases (B.blocks keyspace.new.store) at.now.db key.now) }
 {
     let _ = change_at(keyspace, at, key, Take { end })?;
     Ok(())
@@ -152,6 +155,10 @@ fn put_one<B: BlockStore>(
     ensures forms { OnOk result
         (Formed B.blocks (risen_to at.now.db (visible B.blocks keyspace.old at.now) key.now (added end (form.list_at (visible B.blocks keyspace.old at.now) key.now) (element.now ∷ [])))
         keyspace.old keyspace.new) }
+    ensures placed { OnOk result
+        (AllAt
+        (HasForm (risen_to at.now.db (visible B.blocks keyspace.old at.now) key.now (added end (form.list_at (visible B.blocks keyspace.old at.now) key.now) (element.now ∷ [])))
+        keyspace.old.bases (B.blocks keyspace.old.store)) keyspace.new.bases (B.blocks keyspace.new.store) at.now.db key.now) }
 {
     let words = [Word::new(element.as_slice())];
     let push = Push {
@@ -182,6 +189,11 @@ fn turn_list<B: BlockStore>(
         (Formed B.blocks
         (risen_to at.now.db (visible B.blocks keyspace.old at.now) key.now (added other (without end 1 (form.list_at (visible B.blocks keyspace.old at.now) key.now)) (element.now ∷ [])))
         keyspace.old keyspace.new) }
+    ensures placed { OnOk result
+        (AllAt
+        (HasForm
+        (risen_to at.now.db (visible B.blocks keyspace.old at.now) key.now (added other (without end 1 (form.list_at (visible B.blocks keyspace.old at.now) key.now)) (element.now ∷ [])))
+        keyspace.old.bases (B.blocks keyspace.old.store)) keyspace.new.bases (B.blocks keyspace.new.store) at.now.db key.now) }
 {
     let turn = Turn {
         end,
@@ -216,6 +228,12 @@ fn pass_on<B: BlockStore>(
         (Either (AsAt at.now.db from.now)
         (risen_to at.now.db (visible B.blocks keyspace.old at.now) to.now (added other (form.list_at (visible B.blocks keyspace.old at.now) to.now) (element.now ∷ [])))) keyspace.old
         keyspace.new) }
+    ensures placed { OnOk result
+        (ArePlaced
+        (placed_between at.now.db from.now to.now
+        (Either (AsAt at.now.db from.now)
+        (risen_to at.now.db (visible B.blocks keyspace.old at.now) to.now (added other (form.list_at (visible B.blocks keyspace.old at.now) to.now) (element.now ∷ [])))))
+        keyspace.old.bases keyspace.new.bases (B.blocks keyspace.old.store) (B.blocks keyspace.new.store)) }
 {
     take_first(keyspace, at, from, end)?;
     put_one(keyspace, at, to, other, element)
@@ -236,10 +254,7 @@ fn move_same<B: BlockStore>(
     requires same { from.now ≡ to.now }
     ensures gives { IfOk result (λ reply. move_element (visible B.blocks keyspace.old at.now) from.now to.now end other ≡ leaves reply (visible B.blocks keyspace.new at.now)) }
     ensures kept { KeepsOrRefuses B.blocks B.step (two_keys at.now.db from.now at.now.db to.now) keyspace.old keyspace.new result }
-    ensures forms { IfOk result
-        (λ reply. Formed B.blocks
-        (moved_to at.now.db (visible B.blocks keyspace.old at.now) from.now to.now end other (from_end end (form.list_at (visible B.blocks keyspace.old at.now) from.now))) keyspace.old
-        keyspace.new) }
+    ensures forms { IfOk result (λ reply. FormedList B.blocks at.now.db (visible B.blocks keyspace.old at.now) (lists.LMove from.now to.now end other) reply keyspace.old keyspace.new) }
 {
     // it is the same key
     let _ = to;
@@ -263,10 +278,7 @@ fn move_apart<B: BlockStore>(
     requires apart { from.now ≡ to.now → ⊥ }
     ensures gives { IfOk result (λ reply. move_element (visible B.blocks keyspace.old at.now) from.now to.now end other ≡ leaves reply (visible B.blocks keyspace.new at.now)) }
     ensures kept { KeepsOrRefuses B.blocks B.step (two_keys at.now.db from.now at.now.db to.now) keyspace.old keyspace.new result }
-    ensures forms { IfOk result
-        (λ reply. Formed B.blocks
-        (moved_to at.now.db (visible B.blocks keyspace.old at.now) from.now to.now end other (from_end end (form.list_at (visible B.blocks keyspace.old at.now) from.now))) keyspace.old
-        keyspace.new) }
+    ensures forms { IfOk result (λ reply. FormedList B.blocks at.now.db (visible B.blocks keyspace.old at.now) (lists.LMove from.now to.now end other) reply keyspace.old keyspace.new) }
 {
     let alloc = keyspace.alloc();
     if is_other(keyspace, at, to) {
@@ -288,10 +300,7 @@ fn move_between<B: BlockStore>(
     requires ready { Ready B.blocks keyspace.old at.now }
     ensures gives { IfOk result (λ reply. move_element (visible B.blocks keyspace.old at.now) from.now to.now end other ≡ leaves reply (visible B.blocks keyspace.new at.now)) }
     ensures kept { KeepsOrRefuses B.blocks B.step (two_keys at.now.db from.now at.now.db to.now) keyspace.old keyspace.new result }
-    ensures forms { IfOk result
-        (λ reply. Formed B.blocks
-        (moved_to at.now.db (visible B.blocks keyspace.old at.now) from.now to.now end other (from_end end (form.list_at (visible B.blocks keyspace.old at.now) from.now))) keyspace.old
-        keyspace.new) }
+    ensures forms { IfOk result (λ reply. FormedList B.blocks at.now.db (visible B.blocks keyspace.old at.now) (lists.LMove from.now to.now end other) reply keyspace.old keyspace.new) }
 {
     let alloc = keyspace.alloc();
     match first_at(keyspace, at, from, end)? {
@@ -319,7 +328,7 @@ pub fn lmove<B: BlockStore>(
     requires ready { Ready B.blocks keyspace.old at.now }
     ensures gives { Gives B.blocks keyspace.old keyspace.new at.now (lists.LMove from.now to.now end other) result }
     ensures kept { KeepsOrRefuses B.blocks B.step (two_keys at.now.db from.now at.now.db to.now) keyspace.old keyspace.new result }
-    ensures forms { IfOk result (λ reply. Formed B.blocks (list_form at.now.db (visible B.blocks keyspace.old at.now) (lists.LMove from.now to.now end other)) keyspace.old keyspace.new) }
+    ensures forms { IfOk result (λ reply. FormedList B.blocks at.now.db (visible B.blocks keyspace.old at.now) (lists.LMove from.now to.now end other) reply keyspace.old keyspace.new) }
 {
     move_between(keyspace, at, from, to, end, other)
 }
@@ -334,7 +343,7 @@ pub fn rpoplpush<B: BlockStore>(
     requires ready { Ready B.blocks keyspace.old at.now }
     ensures gives { Gives B.blocks keyspace.old keyspace.new at.now (lists.RPopLPush from.now to.now) result }
     ensures kept { KeepsOrRefuses B.blocks B.step (two_keys at.now.db from.now at.now.db to.now) keyspace.old keyspace.new result }
-    ensures forms { IfOk result (λ reply. Formed B.blocks (list_form at.now.db (visible B.blocks keyspace.old at.now) (lists.RPopLPush from.now to.now)) keyspace.old keyspace.new) }
+    ensures forms { IfOk result (λ reply. FormedList B.blocks at.now.db (visible B.blocks keyspace.old at.now) (lists.RPopLPush from.now to.now) reply keyspace.old keyspace.new) }
 {
     move_between(keyspace, at, from, to, ListEnd::Tail, ListEnd::Head)
 }

@@ -16,6 +16,7 @@ ghost use Rattle.cmd_lists.specs.Popped.{Pops, PopsMany, or_null};
 
 use crate::changing::{change_list, list_sought};
 use crate::edits::ListEdit;
+use crate::reading::array_of;
 use blocks::BlockStore;
 use keyspace::{Keyspace, Look, bytes_of, seek};
 use plain_model::{Bytes, Ctx, ListEnd, Memory, Part, Parts, Refusal, Reply};
@@ -156,8 +157,7 @@ fn met_parts<B: BlockStore>(
     requires inside { count ≤ length (elements (B.blocks store.now) list.now) }
     ensures { IfOk result (λ parts. parts ≡ listed (take count (from_end end (elements (B.blocks store.now) list.now)))) }
 {
-    let mut parts = Parts::new(alloc);
-    parts.push(Part::Array(count as u64))?;
+    let mut parts = array_of(alloc, count as u64)?;
     push_met(alloc, store, list, end, count, &mut parts)?;
     Ok(parts)
 }

@@ -11,6 +11,7 @@ ghost use Rattle.cmd_lists.specs.Found.{Gives};
 ghost use Rattle.cmd_lists.specs.Met.{MeetsAt, IsMet, told_at_most};
 
 use crate::look::list_at;
+use crate::reading::array_of;
 use blocks::BlockStore;
 use keyspace::{Keyspace, Look, reply_number};
 use plain_model::{Ctx, ListEnd, Memory, Part, Parts, PositionOptions, Refusal, Reply};
@@ -147,8 +148,7 @@ fn push_numbers(indexes: &[usize], parts: &mut Parts) -> Result<(), Memory>
 fn numbers_reply(alloc: Global, indexes: &[usize]) -> Result<Reply, Memory>
     ensures { IfOk result (λ reply. reply ≡ replies.Array (length indexes.now) ∷ map (λ index. replies.Number (pos index)) indexes.now) }
 {
-    let mut reply = Parts::new(alloc);
-    reply.push(Part::Array(indexes.len() as u64))?;
+    let mut reply = array_of(alloc, indexes.len() as u64)?;
     push_numbers(indexes, &mut reply)?;
     Ok(reply.into_reply())
 }

@@ -143,6 +143,15 @@ fn push_elements<B: BlockStore>(
     Ok(())
 }
 
+/// The beginning of an array of so many replies.
+pub fn array_of(alloc: Global, count: u64) -> Result<Parts, Memory>
+    ensures { IfOk result (λ parts. parts ≡ replies.Array count ∷ []) }
+{
+    let mut parts = Parts::new(alloc);
+    parts.push(Part::Array(count))?;
+    Ok(parts)
+}
+
 // The elements of a list from index a to index b, as an array.
 fn range_reply<B: BlockStore>(
     alloc: Global,
@@ -155,8 +164,7 @@ fn range_reply<B: BlockStore>(
     ensures { IfOk result (λ reply. reply ≡ listed (list_range (elements (B.blocks store.now) list.now) a b)) }
 {
     let (first, count) = reach_of(list.len(), a, b);
-    let mut reply = Parts::new(alloc);
-    reply.push(Part::Array(count as u64))?;
+    let mut reply = array_of(alloc, count as u64)?;
     push_elements(alloc, store, list, first, count, &mut reply)?;
     Ok(reply.into_reply())
 }
@@ -165,8 +173,7 @@ fn range_reply<B: BlockStore>(
 fn empty_reply(alloc: Global) -> Result<Reply, Memory>
     ensures { IfOk result (λ reply. reply ≡ replies.Array 0 ∷ []) }
 {
-    let mut reply = Parts::new(alloc);
-    reply.push(Part::Array(0))?;
+    let reply = array_of(alloc, 0)?;
     Ok(reply.into_reply())
 }
 

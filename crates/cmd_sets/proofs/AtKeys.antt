@@ -16,18 +16,17 @@ use Rattle.plain_model.specs.OfType.{set_in}
 use Rattle.plain_model.specs.SetSteps.{Members, or_no_members, keep_set}
 use Rattle.plain_model.specs.declared.ctx.Ctx.{Ctx}
 use Rattle.held.specs.Calls.{AllAt, HasValue, StandsAt}
-use Rattle.held.proofs.Within.{within_keys}
 use Rattle.keyspace.specs.declared.value.Value.{Value}
 use Rattle.keyspace.specs.declared.value.Value.TheVariants as kinds
 use Rattle.keyspace.specs.Calls.{Found}
-use Rattle.keyspace.specs.Values.{Encoding, OfText, OfForm, IsSound, value_of, value_refs, encoding_of}
+use Rattle.keyspace.specs.Values.{Encoding, OfText, OfForm, IsSound, value_of, encoding_of}
 use Rattle.keyspace.specs.Databases.{Bases, Keyspace}
 use Rattle.keyspace.specs.Sound.{Sound}
 use Rattle.keyspace.specs.Scopes.{one_key, no_key}
 use Rattle.keyspace.specs.Commands.{KeepsTo, seen, visible}
 use Rattle.keyspace.specs.Edits.{Shape, shape, limits_of, Edits, MakesNew}
 use Rattle.keyspace.proofs.Absent.{remove_put}
-use Rattle.keyspace.proofs.Running.{held_then}
+use Rattle.keyspace.proofs.Running.{held_then, held_at_key}
 use Rattle.cmd_sets.specs.Changed.{HasSet, SetItem, IsSetThat, MakesSet, SetChanged, Counting, IsFormed, IsLasting, keep_any}
 use Rattle.cmd_sets.proofs.Looking.{is_set}
 
@@ -166,10 +165,4 @@ module _ {S : Type 0} (own : Members → Form → Members → Form → Type 0) (
 pub held_gone : {S : Type 0} (blocks : S → Blocks) (step : S → S → Type 0) (db : ℕ) (key : List ℕ) (old mid new : Keyspace S) → KeepsTo blocks step (one_key db key) old mid
     → KeepsTo blocks step (no_key db) mid new → KeepsTo blocks step (one_key db key) old new
 held_gone blocks step db key old mid new p q =
-    held_then blocks step (one_key db key) old mid new p
-    (record {
-      sound = q.sound;
-      served = q.served;
-      settings = q.settings;
-      within = within_keys value_refs db (λ other. other ≡ key) mid.bases new.bases (blocks mid.store) (blocks new.store) q.within;
-    })
+    held_then blocks step (one_key db key) old mid new p (held_at_key blocks step db key mid new q)

@@ -1,10 +1,11 @@
 -- How many of some names pass a test.
-use Rattle.std.proofs.Common.{◌≡◌, ◌<◌, inl, inr, get_or, ℕ, Bool, true, false, List, [], ◌∷◌, length, refl, sym, ap, ◌∙◌, arith}
+use Rattle.std.proofs.Common.{◌≡◌, ◌<◌, ◌≤◌, ◌+◌, ◌++◌, inl, inr, get_or, ℕ, Bool, true, false, cond, List, [], ◌∷◌, length, length-append, refl, sym, ap, ◌∙◌, arith}
 use Rattle.std.specs.Prelude.{◌&&◌}
 use Rattle.std.specs.List.{filter}
 use Rattle.std.specs.FinMap.{empty, len, len-empty}
 use Rattle.std.specs.Ordering.{nat_cmp}
 use Rattle.std.specs.Cmp.Lexicographic.{slice_cmp}
+use Rattle.std.proofs.lemmas.List.Elements.{filter-append}
 use Rattle.std.proofs.lemmas.Bool.{cond-true, cond-false, cases_Bool, cases_eq, eq-eqb, ne_eqb}
 use Rattle.set_object.specs.Strings.{set_of, IsOnce}
 use Rattle.set_object.proofs.Sets.{tied, tied_true, among, has_among, has_empty, once_cons, once_parts}
@@ -53,8 +54,28 @@ once_passing test (x ∷ xs) once =
       | inr fails ↦ ap (λ l. len (set_of l)) (cond-false _ _ _ fails) ∙ rest ∙ sym (ap length (cond-false _ _ _ fails))
     ]
 
+-- how many names pass, where one stands behind the rest
+behind : (test : List ℕ → Bool) (xs rest : List (List ℕ)) (x : List ℕ) → xs ≡ rest ++ x ∷ [] → length (filter test xs) ≡ length (filter test rest) + length (filter test (x ∷ []))
+behind test xs rest x is =
+    ap (λ (l : List (List ℕ)). length (filter test l)) is ∙ ap length (filter-append test rest (x ∷ [])) ∙ length-append (filter test rest) (filter test (x ∷ []))
+
+pub one_passes : (test : List ℕ → Bool) (xs rest : List (List ℕ)) (x : List ℕ) → xs ≡ rest ++ x ∷ [] → test x ≡ true → length (filter test xs) ≡ length (filter test rest) + 1
+one_passes test xs rest x is passes = behind test xs rest x is ∙ ap (λ (b : Bool). length (filter test rest) + length (cond b (x ∷ []) [])) passes
+
+pub one_fails : (test : List ℕ → Bool) (xs rest : List (List ℕ)) (x : List ℕ) → xs ≡ rest ++ x ∷ [] → test x ≡ false → length (filter test xs) ≡ length (filter test rest)
+one_fails test xs rest x is fails =
+    let both = behind test xs rest x is ∙ ap (λ (b : Bool). length (filter test rest) + length (cond b (x ∷ []) [])) fails in omega (arith, both)
+
+pub none_passes : (test : List ℕ → Bool) (xs : List (List ℕ)) → length xs ≡ 0 → length (filter test xs) ≡ 0
+none_passes test [] none = refl
+none_passes test (x ∷ xs) none = absurd (omega (arith, none))
+
+-- a number that has come to the limit
+pub at_limit : (limit n all : ℕ) → n + 1 ≡ limit → n + 1 ≤ all → n + 1 ≡ at_most limit all
+at_limit limit n all is more = sym (cond-false _ _ _ (ne_eqb limit 0 (λ none. omega (arith, none, is))) ∙ omega (arith, is, more))
+
 -- a number below the limit, where there is one
-below_limit : (limit n : ℕ) → (0 < limit → n < limit) → n ≡ at_most limit n
+pub below_limit : (limit n : ℕ) → (0 < limit → n < limit) → n ≡ at_most limit n
 below_limit limit n below = elim (cases_eq limit 0) [
   | inl none ↦ sym (cond-true _ _ _ (eq-eqb limit 0 none))
   | inr some ↦ (let less : n < limit = below (omega (arith, some)) in sym (cond-false _ _ _ (ne_eqb limit 0 some) ∙ omega (arith, less)))

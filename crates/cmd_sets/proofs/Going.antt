@@ -1,6 +1,6 @@
 -- A member that moves from one set to another.
 use Rattle.std.proofs.Common.{◌≡◌, inl, inr, ℕ, Bool, true, false, List, [], ◌∷◌, Option, None, Some, refl, sym, ap, subst, ◌∙◌, arith}
-use Rattle.std.specs.Prelude.{◌==◌, ◌<◌, ◌&&◌, not, unwrap_or, pos, bytes_eq, is_some, IfSome, IfNone}
+use Rattle.std.specs.Prelude.{◌==◌, ◌<◌, ◌&&◌, not, unwrap_or, pos, bytes_eq, is_some, IfSome, IfNone, if◌then◌else◌}
 use Rattle.std.specs.FinMap.{empty, len, insert}
 use Rattle.std.specs.FinMap as finite
 use Rattle.std.proofs.lemmas.Bool.{cond-true, cond-false, cases_Bool}
@@ -21,18 +21,18 @@ use Rattle.plain_model.specs.SetSteps.{Members, on_set, or_no_members, keep_set,
 use Rattle.plain_model.specs.declared.ctx.Ctx.{Ctx}
 use Rattle.plain_model.specs.declared.set_command.SetCommand.TheVariants as sets
 use Rattle.held.specs.declared.seeking.SoughtAt.{SoughtAt}
-use Rattle.held.specs.Calls.{HasValue, StandsAt, HasUntil}
+use Rattle.held.specs.Calls.{HasValue, AllAt, StandsAt, HasUntil}
 use Rattle.held.proofs.Timing.{some_none}
-use Rattle.held.proofs.Within.{within_wider}
 use Rattle.held.proofs.Written.{written_then}
 use Rattle.keyspace.specs.declared.value.Value.{Value}
 use Rattle.keyspace.specs.Values.{value_refs}
 use Rattle.keyspace.specs.Databases.{Bases, Keyspace}
 use Rattle.keyspace.specs.Scopes.{one_key, two_keys, Within}
 use Rattle.keyspace.specs.Seeking.{Sees}
-use Rattle.keyspace.specs.Forms.{AsAt, Either, HasForm, Formed, RisesWith, IsSourceForm, set_of, set_at, set_with, set_passed}
+use Rattle.keyspace.specs.Forms.{Unwritten, AsAt, Either, HasForm, Formed, ArePlaced, placed_between, RisesWith, IsSourceForm, set_of, set_at, set_with, set_passed, set_form, is_moved}
 use Rattle.keyspace.specs.Commands.{KeepsTo, seen, visible}
-use Rattle.keyspace.proofs.Running.{held_then}
+use Rattle.keyspace.proofs.Forming.{stayed_at, placed_two}
+use Rattle.keyspace.proofs.Running.{held_then, held_in_wider}
 use Rattle.keyspace.proofs.Absent.{look_put_other, look_remove_other}
 use Rattle.cmd_sets.specs.Found.{FoundOther}
 use Rattle.cmd_sets.specs.Changed.{HasSet, IsBefore, IsSetThere}
@@ -132,22 +132,12 @@ moved_is limits old mid new from to member move word same before source form man
 
 module _ {S : Type 0} (blocks : S → Blocks) (step : S → S → Type 0) (db : ℕ) (from to : List ℕ) where
   pub held_from : (old new : Keyspace S) → KeepsTo blocks step (one_key db from) old new → KeepsTo blocks step (two_keys db from db to) old new
-  held_from old new p = record {
-    sound = p.sound;
-    served = p.served;
-    settings = p.settings;
-    within = within_wider value_refs (one_key db from) (two_keys db from db to) (λ number here. inl here) (λ number key named. inl named) (λ number no. no) old.bases new.bases
-        (blocks old.store) (blocks new.store) p.within;
-  }
+  held_from old new p =
+      held_in_wider blocks step (one_key db from) (two_keys db from db to) old new (λ number here. inl here) (λ number key named. inl named) (λ number no. no) p
 
   held_to : (old new : Keyspace S) → KeepsTo blocks step (one_key db to) old new → KeepsTo blocks step (two_keys db from db to) old new
-  held_to old new p = record {
-    sound = p.sound;
-    served = p.served;
-    settings = p.settings;
-    within = within_wider value_refs (one_key db to) (two_keys db from db to) (λ number here. inr here) (λ number key named. inr named) (λ number no. no) old.bases new.bases
-        (blocks old.store) (blocks new.store) p.within;
-  }
+  held_to old new p =
+      held_in_wider blocks step (one_key db to) (two_keys db from db to) old new (λ number here. inr here) (λ number key named. inr named) (λ number no. no) p
 
   pub held_both : (old mid new : Keyspace S) → KeepsTo blocks step (one_key db from) old mid → KeepsTo blocks step (one_key db to) mid new → KeepsTo blocks step (two_keys db from db to) old new
   held_both old mid new p q = held_then blocks step (two_keys db from db to) old mid new (held_from old mid p) (held_to mid new q)
@@ -197,8 +187,41 @@ module _ {S : Type 0} (blocks : S → Blocks) (step : S → S → Type 0) (old m
       (λ number i e found. elim (first number i e found) [ inl stayed ↦ inl stayed | inr is ↦ inr (inl is) ])
       (λ number i e found. elim (second number i e found) [ inl stayed ↦ inl stayed | inr is ↦ inr (inr (risen_before e.value is)) ])
 
+  -- each key has its own form
+  pub placed_both : bytes_eq from to ≡ false → AllAt (HasForm (AsAt at.db from) old.bases (blocks old.store)) mid.bases (blocks mid.store) at.db from
+      → AllAt (HasForm (set_with at.db (visible blocks mid at) to (member ∷ [])) mid.bases (blocks mid.store)) new.bases (blocks new.store) at.db to
+      → ArePlaced (placed_between at.db from to (set_passed at.db (visible blocks old at) from to member)) old.bases new.bases (blocks old.store) (blocks new.store)
+  placed_both other first second =
+      placed_two at.db from to (AsAt at.db from) (set_with at.db (visible blocks old at) to (member ∷ [])) old.bases new.bases (blocks old.store) (blocks new.store) other (
+        stayed_at (HasForm (AsAt at.db from) old.bases (blocks old.store)) (one_key at.db to) at.db from (λ named. apart (sym named.1)) mid.bases new.bases (blocks mid.store)
+            (blocks new.store) q.within first,
+        (λ number e found bytes. risen_before e.value (second number e found bytes), tt),
+      )
+
+-- ---- whether a member moves
+
+-- one that isn't there stays
+pub lacks_stays : (world : World) (from to member : List ℕ) → has (set_at world from) member ≡ false → is_moved world from to member ≡ false
+lacks_stays world from to member lacks = ap (λ (b : Bool). b && not (bytes_eq from to)) lacks
+
+and_not : (b : Bool) → (b && not true) ≡ false
+and_not true = refl
+and_not false = refl
+
+-- and so does one of which both keys are one
+pub same_stays : (world : World) (from to member : List ℕ) → bytes_eq from to ≡ true → is_moved world from to member ≡ false
+same_stays world from to member same = ap (λ (b : Bool). has (set_at world from) member && not b) same ∙ and_not (has (set_at world from) member)
+
+-- the rule by what is so
+pub form_moved : (db : ℕ) (world : World) (from to member : List ℕ) → is_moved world from to member ≡ true
+    → set_form db world (sets.SMove from to member) ≡ set_passed db world from to member
+form_moved db world from to member is = ap (λ (b : Bool). if b then set_passed db world from to member else Unwritten) is
+
+pub form_stays : (db : ℕ) (world : World) (from to member : List ℕ) → is_moved world from to member ≡ false → set_form db world (sets.SMove from to member) ≡ Unwritten
+form_stays db world from to member is = ap (λ (b : Bool). if b then set_passed db world from to member else Unwritten) is
+
 -- a member that is moved is in the first set, and the keys differ
-pub moves_on : (world : World) (from to member : List ℕ) → IsMove world from to member → (has (set_at world from) member && not (bytes_eq from to)) ≡ true
+pub moves_on : (world : World) (from to member : List ℕ) → IsMove world from to member → is_moved world from to member ≡ true
 moves_on world from to member m =
     let there = ap (λ (s : Members). has s member) (set_before world from (Some m.members) m.stands) ∙ m.there in
     ap (λ b. b && not (bytes_eq from to)) there ∙ ap not m.apart

@@ -4,16 +4,20 @@ use Rattle.std.proofs.Common.{sym, ap, subst, ◌∙◌, arith}
 use Rattle.std.specs.Prelude.{IfOk, OnErr}
 use Rattle.std.specs.FinMap.{insert, remove, len}
 use Rattle.std.proofs.lemmas.Bool.{cond-true, cond-false, cases_Bool}
-use Rattle.blocks.specs.Blocks.{Blocks, Changes}
+use Rattle.blocks.specs.Blocks.{Blocks, Changes, no_step}
 use Rattle.blocks.proofs.Change.{changes_same}
 use Rattle.object_codec.specs.declared.form.Form.{Form}
 use Rattle.object_codec.specs.declared.form.Form.TheVariants.{Intset, Listpack, Hashtable, Skiplist, Quicklist, Stream}
 use Rattle.set_object.specs.declared.members.Members as object
 use Rattle.set_object.specs.Strings.{Strings, has, IsRisen}
-use Rattle.set_object.specs.Members.{IsMembers, IsChanged, KeepsSettings, members, refs, form_of, form_left}
+use Rattle.rehash_dict.specs.Tables.{IsSettled}
+use Rattle.rehash_dict.specs.Grown.{Grown}
+use Rattle.rehash_dict.specs.Keyed.{hash_of}
+use Rattle.set_object.specs.Members.{IsMembers, IsChanged, KeepsSettings, members, refs, form_of, form_left, tables}
 use Rattle.set_object.proofs.Sets.{tied, tied_true, sets_alike, has_put, has_taken, len_put, len_taken}
 use Rattle.plain_model.specs.SetSteps.{Members, add_all, drop_all}
 use Rattle.keyspace.specs.Forms.{RisesTo, RisesIf}
+use Rattle.keyspace.specs.Insides.{SettledBelow}
 
 -- a member that is there can't be put in, nor one taken out that isn't
 pub insert_there : (m : Strings) (x : List ℕ) → has m x ≡ true → insert m x tt ≡ m
@@ -51,11 +55,12 @@ len_less m (word ∷ words) = let one = one_less m word in let rest = len_less (
 
 -- ---- one member
 
--- the set is sound after a change of it
+-- the set is sound after a change of it, and its tables come from those that it had
 pub record Goes (m after : Blocks) (old new : object.Members) : Type 0 where
   pub sound : IsMembers after new
   pub settings : KeepsSettings old new
   pub changes : Changes m after (refs old) (refs new)
+  pub grown : Grown (hash_of old.seed) (tables m old) (tables after new)
 
 pub stays : (m after : Blocks) (old new : object.Members) → IsMembers m old → new ≡ old → after ≡ m → Goes m after old new
 stays m after old new sound same_set same_blocks =
@@ -63,10 +68,11 @@ stays m after old new sound same_set same_blocks =
       sound = sound;
       settings = record { limits = refl; seed = refl };
       changes = changes_same _ _ sound.owned;
+      grown = no_step;
     }))
 
 changed : (m after : Blocks) (old new : object.Members) (set : Strings) → IsChanged m after old new set → Goes m after old new
-changed m after old new set c = record { sound = c.sound; settings = c.settings; changes = c.changes }
+changed m after old new set c = record { sound = c.sound; settings = c.settings; changes = c.changes; grown = c.grown }
 
 -- what is so wherever something is answered
 from_ok : {E P : Type 0} (r : Result Bool E) (done : Bool) → r ≡ Ok done → IfOk r (λ is. P) → P
@@ -131,6 +137,20 @@ left_some Quicklist (suc n) some = refl
 left_some Stream (suc n) some = refl
 
 module _ {E : Type 0} (m after : Blocks) (old new : object.Members) (x : List ℕ) where
+  -- what is settled where it has fewer members stays so where one is taken out, or none
+  removed_settles : (r : Result Bool E) → (r ≡ Ok true → IsSettled (tables after new)) → (r ≡ Ok false → new ≡ old) → (r ≡ Ok false → after ≡ m)
+      → IfOk r (λ was. (most : ℕ) → SettledBelow most (len (members m old)) (tables m old) → SettledBelow most (len (members after new)) (tables after new))
+  removed_settles (Ok true) settled same_set same_blocks = λ most first fewer. settled refl
+  removed_settles (Ok false) settled same_set same_blocks =
+      subst (λ (s : object.Members). (most : ℕ) → SettledBelow most (len (members m old)) (tables m old) → SettledBelow most (len (members after s)) (tables after s)) (sym (same_set refl))
+      (subst (λ (b : Blocks). (most : ℕ) → SettledBelow most (len (members m old)) (tables m old) → SettledBelow most (len (members b old)) (tables b old)) (sym (same_blocks refl))
+      (λ most first. first))
+  removed_settles (Err e) settled same_set same_blocks = tt
+
+  pub removed_settled : (r : Result Bool E) → (r ≡ Ok true → IsSettled (tables after new)) → (r ≡ Ok false → new ≡ old) → (r ≡ Ok false → after ≡ m) → (done : Bool) → r ≡ Ok done
+      → (most : ℕ) → SettledBelow most (len (members m old)) (tables m old) → SettledBelow most (len (members after new)) (tables after new)
+  removed_settled r settled same_set same_blocks done is = from_ok r done is (removed_settles r settled same_set same_blocks)
+
   pub removed_goes : (r : Result Bool E) → IsMembers m old → (r ≡ Ok true → IsChanged m after old new (remove (members m old) x)) → (r ≡ Ok false → new ≡ old) → (r ≡ Ok false → after ≡ m)
       → OnErr r (form_of old ≢ Hashtable → new ≡ old) → OnErr r (form_of old ≢ Hashtable → after ≡ m)
       → OnErr r (form_of old ≡ Hashtable → IsChanged m after old new (remove (members m old) x)) → Goes m after old new

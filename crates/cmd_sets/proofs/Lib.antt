@@ -3,6 +3,7 @@ pub mod Telling
 pub mod AtKeys
 pub mod Growing
 pub mod Going
+pub mod Running
 pub mod Listed
 pub mod Paged
 pub mod Gathered

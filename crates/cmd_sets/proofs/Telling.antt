@@ -15,11 +15,12 @@ use Rattle.plain_model.specs.OfType.{set_in, on_type}
 use Rattle.plain_model.specs.SetSteps.{Members, on_set, or_no_members, keep_set, add_members, drop_all, drop_members, set_outcome}
 use Rattle.plain_model.specs.declared.ctx.Ctx.{Ctx}
 use Rattle.plain_model.specs.declared.set_command.SetCommand.TheVariants as sets
+use Rattle.held.specs.Calls.{AllAt}
 use Rattle.held.proofs.Timing.{some_none}
 use Rattle.keyspace.specs.Values.{OfForm}
 use Rattle.keyspace.specs.Databases.{Keyspace}
 use Rattle.keyspace.specs.Scopes.{one_key}
-use Rattle.keyspace.specs.Forms.{AsAt, Formed, RisesWith, IsSourceForm, set_of, set_at, set_with}
+use Rattle.keyspace.specs.Forms.{AsAt, HasForm, Formed, RisesWith, IsSourceForm, set_of, set_at, set_with}
 use Rattle.keyspace.specs.Commands.{KeepsTo, visible}
 use Rattle.keyspace.proofs.Forming.{formed_key}
 use Rattle.cmd_sets.specs.Found.{told_each}
@@ -102,28 +103,37 @@ dropped_none old key words none (Ok reply) told = on_before old key None (drop_m
 
 module _ {S : Type 0} (own : Members → Form → Members → Form → Type 0) (blocks : S → Blocks) (step : S → S → Type 0) (old new : Keyspace S) (at : Ctx) (key : List ℕ)
     (p : SetChanged own keep_set IsLasting blocks old new at key) (held : KeepsTo blocks step (one_key at.db key) old new) where
-  -- it has risen by the members that were put in
+  -- what stands at the key has risen by the members that were put in
+  pub risen_placed : (words : List (List ℕ)) → RisesWith old.bases.limits p.from (or_no_members p.before) words p.form
+      → AllAt (HasForm (set_with at.db (visible blocks old at) key words) old.bases (blocks old.store)) new.bases (blocks new.store) at.db key
+  risen_placed words risen number e found bytes = record {
+    from = p.from;
+    form = p.form;
+    at = subst (λ t. IsSourceForm t (FitsMembers old.bases.limits empty) old.bases (blocks old.store) at.db key p.from)
+        (sym (there_before (visible blocks old at) key p.before p.stands)) p.was_form;
+    is = (p.is number e found bytes).0;
+    risen = subst (λ (s : Members). RisesWith old.bases.limits p.from s words p.form) (sym (set_before (visible blocks old at) key p.before p.stands)) risen;
+  }
+
   pub formed_risen : (words : List (List ℕ)) → RisesWith old.bases.limits p.from (or_no_members p.before) words p.form → {A X : Type 0} (result : Result A X)
       → IfOk result (λ reply. Formed blocks (set_with at.db (visible blocks old at) key words) old new)
   formed_risen words risen (Err x) = tt
   formed_risen words risen (Ok reply) =
       formed_key (set_with at.db (visible blocks old at) key words) at.db key old.bases new.bases (blocks old.store) (blocks new.store) held.within held.sound.arranged
-      (λ number e found bytes. record {
-        from = p.from;
-        form = p.form;
-        at = subst (λ t. IsSourceForm t (FitsMembers old.bases.limits empty) old.bases (blocks old.store) at.db key p.from)
-            (sym (there_before (visible blocks old at) key p.before p.stands)) p.was_form;
-        is = (p.is number e found bytes).0;
-        risen = subst (λ (s : Members). RisesWith old.bases.limits p.from s words p.form) (sym (set_before (visible blocks old at) key p.before p.stands)) risen;
-      })
+      (risen_placed words risen)
 
   -- or has its form still
+  pub like_placed : (set : Members) → p.before ≡ Some set → (0 < len p.now → p.form ≡ p.from)
+      → AllAt (HasForm (AsAt at.db key) old.bases (blocks old.store)) new.bases (blocks new.store) at.db key
+  like_placed set is same number e found bytes =
+      let had = subst (λ (b : Option Members). IsSourceForm (is_some b) (FitsMembers old.bases.limits empty) old.bases (blocks old.store) at.db key p.from) is p.was_form in
+      let now = p.is number e found bytes in
+      (had.0, had.1, now.0 ∙ ap OfForm (same now.1) ∙ sym had.2)
+
   pub formed_as : (set : Members) → p.before ≡ Some set → (0 < len p.now → p.form ≡ p.from) → {A X : Type 0} (result : Result A X) → IfOk result (λ reply. Formed blocks (AsAt at.db key) old new)
   formed_as set is same (Err x) = tt
   formed_as set is same (Ok reply) =
-      let had = subst (λ (b : Option Members). IsSourceForm (is_some b) (FitsMembers old.bases.limits empty) old.bases (blocks old.store) at.db key p.from) is p.was_form in
-      formed_key (AsAt at.db key) at.db key old.bases new.bases (blocks old.store) (blocks new.store) held.within held.sound.arranged
-      (λ number e found bytes. let now = p.is number e found bytes in (had.0, had.1, now.0 ∙ ap OfForm (same now.1) ∙ sym had.2))
+      formed_key (AsAt at.db key) at.db key old.bases new.bases (blocks old.store) (blocks new.store) held.within held.sound.arranged (like_placed set is same)
 
 -- what is answered and left, where both are known
 pub told_by : {X : Type 0} (outcome : Outcome) (parts : List Part) (world : World) (result : Result (List Part) X) → outcome ≡ leaves parts world → IfOk result (λ reply. reply ≡ parts)

@@ -6,6 +6,7 @@ use Rattle.plain_model.specs.Outcomes.{refused}
 use Rattle.plain_model.specs.ListSteps.{tells_number}
 use Rattle.plain_model.specs.SetSteps.{Members, has, set_outcome}
 use Rattle.plain_model.specs.declared.set_command.SetCommand.TheVariants as sets
+use Rattle.keyspace.specs.Forms.{is_moved}
 use Rattle.cmd_sets.specs.declared.moving.Plan.{Plan}
 use Rattle.cmd_sets.specs.declared.moving.Plan.TheVariants.{Refuse, Tell, Move}
 use Rattle.cmd_sets.specs.Changed.{HasSet, IsBefore}
@@ -29,5 +30,6 @@ pub record IsMove (world : World) (from to member : List ℕ) : Type 0 where
 abbrev pub IsPlan : World → List ℕ → List ℕ → List ℕ → Plan → Type 0
 IsPlan world from to member Refuse = set_outcome world (sets.SMove from to member) ≡ refused WrongType world
 IsPlan world from to member (Tell number) =
-    set_outcome world (sets.SMove from to member) ≡ tells_number (pos number) world
+    (set_outcome world (sets.SMove from to member) ≡ tells_number (pos number) world)
+    × (is_moved world from to member ≡ false)
 IsPlan world from to member Move = IsMove world from to member

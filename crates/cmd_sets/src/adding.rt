@@ -3,7 +3,9 @@
 ghost use Rattle.std.specs.Prelude.{◌≡◌, OnOk, IfOk};
 ghost use Rattle.std.specs.FinMap.{insert};
 ghost use Rattle.blocks.specs.Blocks.{Changes, Served};
-ghost use Rattle.set_object.specs.Members.{IsMembers, KeepsSettings, members, refs, form_of};
+ghost use Rattle.rehash_dict.specs.Grown.{Grown};
+ghost use Rattle.rehash_dict.specs.Keyed.{hash_of};
+ghost use Rattle.set_object.specs.Members.{IsMembers, KeepsSettings, members, refs, form_of, tables};
 ghost use Rattle.plain_model.specs.SetSteps.{add_all};
 ghost use Rattle.plain_model.specs.declared.set_command.SetCommand.TheVariants as sets;
 ghost use Rattle.keyspace.specs.Scopes.{one_key};
@@ -24,6 +26,7 @@ pub fn add_one<B: BlockStore>(set: &mut Members, store: &mut B, member: &[u8]) -
     requires { IsMembers (B.blocks store.old) set.old }
     ensures sound { IsMembers (B.blocks store.new) set.new }
     ensures settings { KeepsSettings set.old set.new }
+    ensures grown { Grown (hash_of set.old.seed) (tables (B.blocks store.old) set.old) (tables (B.blocks store.new) set.new) }
     ensures members { OnOk result (members (B.blocks store.new) set.new ≡ insert (members (B.blocks store.old) set.old) member.now tt) }
     ensures form { OnOk result (RisesTo set.old.limits (form_of set.old) (members (B.blocks store.old) set.old) member.now (form_of set.new)) }
     ensures changes { Changes (B.blocks store.old) (B.blocks store.new) (refs set.old) (refs set.new) }
@@ -44,6 +47,7 @@ fn add_words<B: BlockStore>(
     requires { IsMembers (B.blocks store.old) set.old }
     ensures sound { IsMembers (B.blocks store.new) set.new }
     ensures settings { KeepsSettings set.old set.new }
+    ensures grown { Grown (hash_of set.old.seed) (tables (B.blocks store.old) set.old) (tables (B.blocks store.new) set.new) }
     ensures members { OnOk result (members (B.blocks store.new) set.new ≡ add_all (members (B.blocks store.old) set.old) words.now) }
     ensures form { OnOk result (RisesWith set.old.limits (form_of set.old) (members (B.blocks store.old) set.old) words.now (form_of set.new)) }
     ensures changes { Changes (B.blocks store.old) (B.blocks store.new) (refs set.old) (refs set.new) }

@@ -7,6 +7,7 @@ ghost use Rattle.plain_model.specs.SetSteps as model;
 ghost use Rattle.held.specs.Calls.{Seeks};
 ghost use Rattle.keyspace.specs.Looks.{IsLook};
 ghost use Rattle.keyspace.specs.Scopes.{one_key};
+ghost use Rattle.keyspace.specs.Insides.{SettlesAt};
 ghost use Rattle.keyspace.specs.Seeking.{Sees};
 ghost use Rattle.keyspace.specs.Commands.{Ready, KeepsTo, visible};
 ghost use Rattle.cmd_sets.specs.Found.{FoundOther};
@@ -58,6 +59,7 @@ fn edit_set_at<E: SetEdit, B: BlockStore>(
     requires there { IsSetThere (visible B.blocks keyspace.old at.now) keyspace.old.bases (B.blocks keyspace.old.store) at.now.db key.now at.now.moment there }
     requires takes { (before : Option model.Members) → IsBefore (visible B.blocks keyspace.old at.now) key.now before → E.takes on.old.edit (or_no_members before) }
     ensures edited { OnOk result (SetChanged (Counting (E.makes keyspace.old.bases.limits on.old.edit on.new.edit) on.new.left) keep_any IsFormed B.blocks keyspace.old keyspace.new at.now key.now) }
+    ensures settles { OnOk result (SettlesAt B.blocks keyspace.old keyspace.new at.now key.now) }
     ensures held { KeepsTo B.blocks B.step (one_key at.now.db key.now) keyspace.old keyspace.new }
 {
     match there {
@@ -86,6 +88,7 @@ pub fn change_set<E: SetEdit, B: BlockStore>(
     requires there { IsSetThere (visible B.blocks keyspace.old at.now) keyspace.old.bases (B.blocks keyspace.old.store) at.now.db key.now at.now.moment there }
     requires takes { (before : Option model.Members) → IsBefore (visible B.blocks keyspace.old at.now) key.now before → E.takes edit (or_no_members before) }
     ensures changed { IfOk result (λ last. SetChanged (E.makes keyspace.old.bases.limits edit last) keep_set IsLasting B.blocks keyspace.old keyspace.new at.now key.now) }
+    ensures settles { IfOk result (λ last. SettlesAt B.blocks keyspace.old keyspace.new at.now key.now) }
     ensures held { KeepsTo B.blocks B.step (one_key at.now.db key.now) keyspace.old keyspace.new }
 {
     let mut on = OnSet { edit, left: 0 };

@@ -5,8 +5,11 @@ ghost use Rattle.std.specs.FinMap.{len};
 ghost use Rattle.blocks.specs.Blocks.{Changes, Served};
 ghost use Rattle.object_codec.specs.declared.form.Form.{Form};
 ghost use Rattle.object_codec.specs.declared.limits.Limits.{Limits};
-ghost use Rattle.set_object.specs.Members.{IsMembers, KeepsSettings, members, refs, form_of};
+ghost use Rattle.rehash_dict.specs.Grown.{Grown};
+ghost use Rattle.rehash_dict.specs.Keyed.{hash_of};
+ghost use Rattle.set_object.specs.Members.{IsMembers, KeepsSettings, members, refs, form_of, tables};
 ghost use Rattle.plain_model.specs.SetSteps as model;
+ghost use Rattle.keyspace.specs.Insides.{SettledBelow};
 ghost use Rattle.cmd_sets.specs.Changed.{IsSetThat, MakesSet};
 
 use blocks::BlockStore;
@@ -22,12 +25,15 @@ pub trait SetEdit: Drop {
     /// What it makes, by these limits, of the members of a set and of its form.
     ghost makes: { Limits → Self → Self → model.Members → Form → model.Members → Form → Type 0 };
 
-    /// Changes a set. After want of memory it is sound, and what it means is not said.
+    /// Changes a set. After want of memory it is sound, and what it means is not said. Its tables come from those that it had, and are
+    /// settled where it has fewer members.
     fn edit_set<B: BlockStore>(&mut self, set: &mut Members, store: &mut B) -> Result<(), Memory>
         requires sound { IsMembers (B.blocks store.old) set.old }
         requires takes { takes self.old (members (B.blocks store.old) set.old) }
         ensures sound { IsMembers (B.blocks store.new) set.new }
         ensures settings { KeepsSettings set.old set.new }
+        ensures grown { Grown (hash_of set.old.seed) (tables (B.blocks store.old) set.old) (tables (B.blocks store.new) set.new) }
+        ensures settled { OnOk result (SettledBelow (len (members (B.blocks store.old) set.old)) (len (members (B.blocks store.new) set.new)) (tables (B.blocks store.new) set.new)) }
         ensures makes { OnOk result (makes set.old.limits self.old self.new (members (B.blocks store.old) set.old) (form_of set.old) (members (B.blocks store.new) set.new) (form_of set.new)) }
         ensures changes { Changes (B.blocks store.old) (B.blocks store.new) (refs set.old) (refs set.new) }
         ensures served { Served B.step store.old store.new };
@@ -51,6 +57,8 @@ fn edit_counted<E: SetEdit, B: BlockStore>(
     requires takes { E.takes on.old.edit (members (B.blocks store.old) set.old) }
     ensures sound { IsMembers (B.blocks store.new) set.new }
     ensures settings { KeepsSettings set.old set.new }
+    ensures grown { Grown (hash_of set.old.seed) (tables (B.blocks store.old) set.old) (tables (B.blocks store.new) set.new) }
+    ensures settled { OnOk result (SettledBelow (len (members (B.blocks store.old) set.old)) (len (members (B.blocks store.new) set.new)) (tables (B.blocks store.new) set.new)) }
     ensures makes { OnOk result (E.makes set.old.limits on.old.edit on.new.edit (members (B.blocks store.old) set.old) (form_of set.old) (members (B.blocks store.new) set.new) (form_of set.new)) }
     ensures counted { OnOk result (on.new.left ≡ len (members (B.blocks store.new) set.new)) }
     ensures changes { Changes (B.blocks store.old) (B.blocks store.new) (refs set.old) (refs set.new) }

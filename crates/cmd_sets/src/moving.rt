@@ -5,7 +5,8 @@ ghost use Rattle.plain_model.specs.SetSteps.{set_outcome};
 ghost use Rattle.plain_model.specs.ListSteps.{tells_number};
 ghost use Rattle.plain_model.specs.declared.set_command.SetCommand.TheVariants as sets;
 ghost use Rattle.keyspace.specs.Scopes.{two_keys};
-ghost use Rattle.keyspace.specs.Forms.{Formed, set_form, set_passed};
+ghost use Rattle.keyspace.specs.Insides.{SettlesAt};
+ghost use Rattle.keyspace.specs.Forms.{Formed, FormedSet, ArePlaced, placed_between, set_passed};
 ghost use Rattle.keyspace.specs.Commands.{Ready, KeepsTo, KeepsOrRefuses, visible};
 ghost use Rattle.cmd_sets.specs.Found.{Gives};
 ghost use Rattle.cmd_sets.specs.Moves.{IsMove, IsPlan, Takes};
@@ -82,7 +83,11 @@ fn move_member<B: BlockStore>(
     requires moves { IsMove (visible B.blocks keyspace.old at.now) from.now to.now member.now }
     ensures moved { OnOk result (set_outcome (visible B.blocks keyspace.old at.now) (sets.SMove from.now to.now member.now) ≡ tells_number (pos 1) (visible B.blocks keyspace.new at.now)) }
     ensures held { KeepsTo B.blocks B.step (two_keys at.now.db from.now at.now.db to.now) keyspace.old keyspace.new }
+    ensures settles { OnOk result (SettlesAt B.blocks keyspace.old keyspace.new at.now from.now) }
     ensures forms { OnOk result (Formed B.blocks (set_passed at.now.db (visible B.blocks keyspace.old at.now) from.now to.now member.now) keyspace.old keyspace.new) }
+    ensures placed { OnOk result
+        (ArePlaced (placed_between at.now.db from.now to.now (set_passed at.now.db (visible B.blocks keyspace.old at.now) from.now to.now member.now)) keyspace.old.bases keyspace.new.bases
+        (B.blocks keyspace.old.store) (B.blocks keyspace.new.store)) }
 {
     let words = [Word::new(member)];
     let found = seek(keyspace, at, from);
@@ -112,7 +117,8 @@ pub fn smove<B: BlockStore>(
     requires ready { Ready B.blocks keyspace.old at.now }
     ensures gives { Gives B.blocks keyspace.old keyspace.new at.now (sets.SMove from.now to.now member.now) result }
     ensures kept { KeepsOrRefuses B.blocks B.step (two_keys at.now.db from.now at.now.db to.now) keyspace.old keyspace.new result }
-    ensures forms { IfOk result (λ reply. Formed B.blocks (set_form at.now.db (visible B.blocks keyspace.old at.now) (sets.SMove from.now to.now member.now)) keyspace.old keyspace.new) }
+    ensures settles { IfOk result (λ reply. SettlesAt B.blocks keyspace.old keyspace.new at.now from.now) }
+    ensures forms { IfOk result (λ reply. FormedSet B.blocks at.now.db (visible B.blocks keyspace.old at.now) (sets.SMove from.now to.now member.now) reply keyspace.old keyspace.new) }
 {
     let alloc = keyspace.alloc();
     match plan_of(keyspace, at, from, to, member) {

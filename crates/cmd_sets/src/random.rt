@@ -4,7 +4,10 @@ ghost use Rattle.std.specs.Prelude.{◌≡◌, ◌++◌, ◌≤◌, ◌<◌, ℕ
 ghost use Rattle.std.specs.List.{Contains};
 ghost use Rattle.std.specs.FinMap.{len};
 ghost use Rattle.blocks.specs.Blocks.{Changes, Served};
-ghost use Rattle.set_object.specs.Members.{IsMembers, KeepsSettings, members, refs, form_of};
+ghost use Rattle.rehash_dict.specs.Grown.{Grown};
+ghost use Rattle.rehash_dict.specs.Keyed.{hash_of};
+ghost use Rattle.set_object.specs.Members.{IsMembers, KeepsSettings, members, refs, form_of, tables};
+ghost use Rattle.keyspace.specs.Insides.{SettledBelow, SettlesAt};
 ghost use Rattle.set_object.specs.Items.{member_at};
 ghost use Rattle.picking.specs.Elements.{elements_of};
 ghost use Rattle.plain_model.specs.Picks.{picks_told, as_number};
@@ -142,6 +145,10 @@ fn drop_names<B: BlockStore>(
     requires { IsMembers (B.blocks store.old) set.old }
     ensures sound { IsMembers (B.blocks store.new) set.new }
     ensures settings { KeepsSettings set.old set.new }
+    ensures grown { Grown (hash_of set.old.seed) (tables (B.blocks store.old) set.old) (tables (B.blocks store.new) set.new) }
+    ensures settles { OnOk result
+        ((most : ℕ) → SettledBelow most (len (members (B.blocks store.old) set.old)) (tables (B.blocks store.old) set.old)
+        → SettledBelow most (len (members (B.blocks store.new) set.new)) (tables (B.blocks store.new) set.new)) }
     ensures members { OnOk result (members (B.blocks store.new) set.new ≡ drop_all (members (B.blocks store.old) set.old) names.now) }
     ensures form { OnOk result (0 < len (members (B.blocks store.new) set.new) → form_of set.new ≡ form_of set.old) }
     ensures changes { Changes (B.blocks store.old) (B.blocks store.new) (refs set.old) (refs set.new) }
@@ -188,6 +195,7 @@ pub fn spop<B: BlockStore>(
     requires ready { Ready B.blocks keyspace.old at.now }
     ensures gives { IfOk result (λ reply. may_sets keyspace.old.bases.seed (visible B.blocks keyspace.old at.now) (sets.SPop key.now n) reply (visible B.blocks keyspace.new at.now)) }
     ensures kept { KeepsOrRefuses B.blocks B.step (one_key at.now.db key.now) keyspace.old keyspace.new result }
+    ensures settles { IfOk result (λ reply. SettlesAt B.blocks keyspace.old keyspace.new at.now key.now) }
     ensures forms { IfOk result (λ reply. Formed B.blocks (set_form at.now.db (visible B.blocks keyspace.old at.now) (sets.SPop key.now n)) keyspace.old keyspace.new) }
 {
     let alloc = keyspace.alloc();

@@ -1,9 +1,12 @@
 //! The command that takes members out of a set.
 
-ghost use Rattle.std.specs.Prelude.{◌≡◌, ◌<◌, OnOk, IfOk};
+ghost use Rattle.std.specs.Prelude.{◌≡◌, ◌<◌, ℕ, OnOk, IfOk};
 ghost use Rattle.std.specs.FinMap.{remove, len};
 ghost use Rattle.blocks.specs.Blocks.{Changes, Served};
-ghost use Rattle.set_object.specs.Members.{IsMembers, KeepsSettings, members, refs, form_of};
+ghost use Rattle.rehash_dict.specs.Grown.{Grown};
+ghost use Rattle.rehash_dict.specs.Keyed.{hash_of};
+ghost use Rattle.set_object.specs.Members.{IsMembers, KeepsSettings, members, refs, form_of, tables};
+ghost use Rattle.keyspace.specs.Insides.{SettledBelow, SettlesAt};
 ghost use Rattle.plain_model.specs.SetSteps.{drop_all};
 ghost use Rattle.plain_model.specs.declared.set_command.SetCommand.TheVariants as sets;
 ghost use Rattle.keyspace.specs.Scopes.{one_key};
@@ -24,6 +27,10 @@ fn drop_one<B: BlockStore>(set: &mut Members, store: &mut B, member: &[u8]) -> R
     requires { IsMembers (B.blocks store.old) set.old }
     ensures sound { IsMembers (B.blocks store.new) set.new }
     ensures settings { KeepsSettings set.old set.new }
+    ensures grown { Grown (hash_of set.old.seed) (tables (B.blocks store.old) set.old) (tables (B.blocks store.new) set.new) }
+    ensures settles { OnOk result
+        ((most : ℕ) → SettledBelow most (len (members (B.blocks store.old) set.old)) (tables (B.blocks store.old) set.old)
+        → SettledBelow most (len (members (B.blocks store.new) set.new)) (tables (B.blocks store.new) set.new)) }
     ensures members { OnOk result (members (B.blocks store.new) set.new ≡ remove (members (B.blocks store.old) set.old) member.now) }
     ensures form { OnOk result (0 < len (remove (members (B.blocks store.old) set.old) member.now) → form_of set.new ≡ form_of set.old) }
     ensures changes { Changes (B.blocks store.old) (B.blocks store.new) (refs set.old) (refs set.new) }
@@ -44,6 +51,10 @@ pub fn drop_words<B: BlockStore>(
     requires { IsMembers (B.blocks store.old) set.old }
     ensures sound { IsMembers (B.blocks store.new) set.new }
     ensures settings { KeepsSettings set.old set.new }
+    ensures grown { Grown (hash_of set.old.seed) (tables (B.blocks store.old) set.old) (tables (B.blocks store.new) set.new) }
+    ensures settles { OnOk result
+        ((most : ℕ) → SettledBelow most (len (members (B.blocks store.old) set.old)) (tables (B.blocks store.old) set.old)
+        → SettledBelow most (len (members (B.blocks store.new) set.new)) (tables (B.blocks store.new) set.new)) }
     ensures members { OnOk result (members (B.blocks store.new) set.new ≡ drop_all (members (B.blocks store.old) set.old) words.now) }
     ensures form { OnOk result (0 < len (members (B.blocks store.new) set.new) → form_of set.new ≡ form_of set.old) }
     ensures changes { Changes (B.blocks store.old) (B.blocks store.new) (refs set.old) (refs set.new) }
@@ -85,6 +96,7 @@ pub fn srem<B: BlockStore>(
     requires ready { Ready B.blocks keyspace.old at.now }
     ensures gives { Gives B.blocks keyspace.old keyspace.new at.now (sets.SRem key.now members.now) result }
     ensures kept { KeepsOrRefuses B.blocks B.step (one_key at.now.db key.now) keyspace.old keyspace.new result }
+    ensures settles { IfOk result (λ reply. SettlesAt B.blocks keyspace.old keyspace.new at.now key.now) }
     ensures forms { IfOk result (λ reply. Formed B.blocks (set_form at.now.db (visible B.blocks keyspace.old at.now) (sets.SRem key.now members.now)) keyspace.old keyspace.new) }
 {
     let alloc = keyspace.alloc();

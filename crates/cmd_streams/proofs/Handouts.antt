@@ -8,7 +8,6 @@ use Rattle.object_codec.specs.declared.form.Form.TheVariants as forms
 use Rattle.stream_object.specs.Handing.{told}
 use Rattle.stream_object.specs.Ranges.{taken}
 use Rattle.stream_object.specs.declared.again.Again.{Again as Entry}
-use Rattle.held.proofs.Within.{within_wider}
 use Rattle.held.proofs.Written.{written_then}
 use Rattle.plain_world.specs.Streams.{StreamEntry}
 use Rattle.plain_world.specs.declared.reply.Part.{Part}
@@ -26,7 +25,7 @@ use Rattle.keyspace.specs.declared.value.Value.{Value}
 use Rattle.keyspace.specs.Forms.{Log, Formed}
 use Rattle.keyspace.specs.Scopes.{Scope, asked_keys, one_key, some_keys}
 use Rattle.keyspace.specs.Commands.{KeepsTo, KeepsOrRefuses}
-use Rattle.keyspace.proofs.Running.{calm}
+use Rattle.keyspace.proofs.Running.{calm, held_in_wider}
 use Rattle.cmd_streams.specs.declared.delivering.Handed.{Handed}
 use Rattle.cmd_streams.specs.declared.delivering.Handed.TheVariants.{Fresh, Again}
 use Rattle.cmd_streams.specs.declared.delivering.KeyHanded.{KeyHanded}
@@ -141,13 +140,9 @@ handed_calm blocks step scope old new told (Ok reply) is held = calm blocks step
 -- what is held to one key is held to those that it is one of
 pub held_wider : {S : Type 0} (blocks : S → Blocks) (step : S → S → Type 0) (db : ℕ) (key : List ℕ) (keys : List (List ℕ)) → Contains keys key → (old new : Keyspace S)
     → KeepsTo blocks step (one_key db key) old new → KeepsTo blocks step (some_keys db keys) old new
-held_wider blocks step db key keys there old new held = record {
-  sound = held.sound;
-  served = held.served;
-  settings = held.settings;
-  within = within_wider value_refs (one_key db key) (some_keys db keys) (λ number here. here) (λ number other named. (named.0, subst (Contains keys) (sym named.1) there)) (λ number no. no)
-      old.bases new.bases (blocks old.store) (blocks new.store) held.within;
-}
+held_wider blocks step db key keys there old new held =
+    held_in_wider blocks step (one_key db key) (some_keys db keys) old new (λ number here. here)
+    (λ number other named. (named.0, subst (Contains keys) (sym named.1) there)) (λ number no. no) held
 
 -- streams that are written one after the other are encoded as any stream
 pub log_then : {S : Type 0} (blocks : S → Blocks) (a b c : Keyspace S) → Formed blocks Log a b → Formed blocks Log b c → Formed blocks Log a c

@@ -6,6 +6,8 @@ use Rattle.held.proofs.Within.{within_wider}
 use Rattle.keyspace.specs.Databases.{Bases}
 use Rattle.keyspace.specs.Values.{value_refs}
 use Rattle.keyspace.specs.Scopes.{one_key, some_keys, first_words, Within}
+use Rattle.keyspace.specs.Insides.{Insides}
+use Rattle.keyspace.proofs.Insides.{insides_wider}
 
 -- each key of some pairs is one of others
 abbrev pub ArePart : List (List ℕ × List ℕ) → List (List ℕ × List ℕ) → Type 0
@@ -24,6 +26,12 @@ pub within_pairs : (db : ℕ) (key : List ℕ) (pairs : List (List ℕ × List �
 within_pairs db key pairs there old new m after p =
     within_wider value_refs (one_key db key) (some_keys db (first_words pairs)) (λ number here. here)
     (λ number other named. (named.0, subst (Contains (first_words pairs)) (sym named.1) there)) (λ number no. no) old new m after p
+
+-- and so are the tables inside values
+pub insides_pairs : (db : ℕ) (key : List ℕ) (pairs : List (List ℕ × List ℕ)) → Contains (first_words pairs) key → (old new : Bases) (m after : Blocks)
+    → Insides (one_key db key) old new m after → Insides (some_keys db (first_words pairs)) old new m after
+insides_pairs db key pairs there old new m after p =
+    insides_wider (one_key db key) (some_keys db (first_words pairs)) (λ number other named. (named.0, subst (Contains (first_words pairs)) (sym named.1) there)) old new m after p
 
 -- the rest of a list from a place on is the element there and the rest behind it
 pub rest_from : {A : Type 0} (xs : List A) (i : ℕ) (x : A) → i < length xs → x ≡ get_or xs i x → drop i xs ≡ x ∷ drop (i + 1) xs

@@ -366,7 +366,8 @@ removed_strings blocks step old new at command own same result none e f given ke
 
 -- a command on strings only looked
 pub looked_strings : {S E : Type 0} (blocks : S → Blocks) (step : S → S → Type 0) (keyspace : Keyspace S) (at : Ctx) (command : Command) (own same : StringCommand) (result : Result (List Part) E)
-    → command ≡ Strings own → own ≡ same → Gives blocks keyspace keyspace at same result → Ready blocks keyspace at → string_places at.db (visible blocks keyspace at) same ≡ [] → Runs blocks step keyspace keyspace at command result
+    → command ≡ Strings own → own ≡ same → Gives blocks keyspace keyspace at same result → Ready blocks keyspace at → string_places at.db (visible blocks keyspace at) same ≡ [] → Runs blocks
+    step keyspace keyspace at command result
 looked_strings blocks step keyspace at command own same result e f given ready nowhere =
     ran_strings blocks step keyspace keyspace at command own same result e f given (unchanged blocks step (string_scope at.db same) keyspace result ready.sound)
     (formed_both blocks (string_form (visible blocks keyspace at) same) (string_places at.db (visible blocks keyspace at) same) keyspace keyspace result

@@ -18,18 +18,17 @@ use Rattle.plain_model.specs.ZsetSteps.{Scores, or_no_scores, keep_zset}
 use Rattle.plain_model.specs.declared.ctx.Ctx.{Ctx}
 use Rattle.held.specs.Calls.{HasOnly, HasValue, StandsAt}
 use Rattle.held.proofs.Timing.{some_none}
-use Rattle.held.proofs.Within.{within_keys}
 use Rattle.keyspace.specs.declared.value.Value.{Value}
 use Rattle.keyspace.specs.declared.value.Value.TheVariants as kinds
 use Rattle.keyspace.specs.Calls.{Found}
 use Rattle.std.specs.Global.{Box}
 use Rattle.keyspace.specs.Sound.{Sound}
-use Rattle.keyspace.specs.Values.{Encoding, OfText, OfForm, value_of, value_refs, encoding_of, IsSound}
+use Rattle.keyspace.specs.Values.{Encoding, OfText, OfForm, value_of, encoding_of, IsSound}
 use Rattle.keyspace.specs.Databases.{Bases, Keyspace}
 use Rattle.keyspace.specs.Scopes.{one_key, no_key, Within}
 use Rattle.keyspace.specs.Commands.{KeepsTo, seen, visible}
 use Rattle.keyspace.specs.Edits.{Shape, shape, limits_of, Edits, MakesNew}
-use Rattle.keyspace.proofs.Running.{held_then}
+use Rattle.keyspace.proofs.Running.{held_then, held_at_key}
 use Rattle.cmd_zsets.specs.Changed.{HasZset, ZsetItem, IsZsetThat, Made, MakesZset, ZsetChanged, Counting, keep_any}
 use Rattle.cmd_zsets.specs.Found.{FoundZset, FoundOther}
 use Rattle.cmd_zsets.proofs.Looking.{is_zset}
@@ -202,10 +201,4 @@ module _ {S : Type 0} (own : Made) (left : ℕ) (blocks : S → Blocks) (old mid
 pub held_gone : {S : Type 0} (blocks : S → Blocks) (step : S → S → Type 0) (db : ℕ) (key : List ℕ) (old mid new : Keyspace S) → KeepsTo blocks step (one_key db key) old mid
     → KeepsTo blocks step (no_key db) mid new → KeepsTo blocks step (one_key db key) old new
 held_gone blocks step db key old mid new p q =
-    held_then blocks step (one_key db key) old mid new p
-    (record {
-      sound = q.sound;
-      served = q.served;
-      settings = q.settings;
-      within = within_keys value_refs db (λ other. other ≡ key) mid.bases new.bases (blocks mid.store) (blocks new.store) q.within;
-    })
+    held_then blocks step (one_key db key) old mid new p (held_at_key blocks step db key mid new q)

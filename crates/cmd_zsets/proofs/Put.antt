@@ -20,14 +20,13 @@ use Rattle.plain_model.specs.ZsetSteps.{Scores, or_no_scores, keep_zset, store_z
 use Rattle.plain_model.specs.declared.ctx.Ctx.{Ctx}
 use Rattle.held.specs.Calls.{AllAt}
 use Rattle.held.proofs.Timing.{some_none}
-use Rattle.held.proofs.Within.{within_keys}
-use Rattle.keyspace.specs.Values.{value_refs, encoding_of}
+use Rattle.keyspace.specs.Values.{encoding_of}
 use Rattle.keyspace.specs.Databases.{Keyspace}
 use Rattle.keyspace.specs.Scopes.{one_key, no_key}
 use Rattle.keyspace.specs.Forms.{IsNewZset, IsSourceForm}
 use Rattle.keyspace.specs.Commands.{KeepsTo, visible}
 use Rattle.keyspace.proofs.Absent.{look_removed}
-use Rattle.keyspace.proofs.Running.{held_then}
+use Rattle.keyspace.proofs.Running.{held_then, held_at_key}
 use Rattle.cmd_zsets.specs.Changed.{IsBefore, ZsetChanged}
 use Rattle.cmd_zsets.specs.Joined.{Fills, or_else}
 
@@ -162,10 +161,4 @@ module _ {S : Type 0} (blocks : S → Blocks) (old mid new : Keyspace S) (at : C
 pub held_anew : {S : Type 0} (blocks : S → Blocks) (step : S → S → Type 0) (db : ℕ) (key : List ℕ) (old mid new : Keyspace S) → KeepsTo blocks step (no_key db) old mid
     → KeepsTo blocks step (one_key db key) mid new → KeepsTo blocks step (one_key db key) old new
 held_anew blocks step db key old mid new p q =
-    held_then blocks step (one_key db key) old mid new
-    (record {
-      sound = p.sound;
-      served = p.served;
-      settings = p.settings;
-      within = within_keys value_refs db (λ other. other ≡ key) old.bases mid.bases (blocks old.store) (blocks mid.store) p.within;
-    }) q
+    held_then blocks step (one_key db key) old mid new (held_at_key blocks step db key old mid p) q

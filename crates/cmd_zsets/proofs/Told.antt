@@ -46,10 +46,10 @@ listed_reply w list =
     subst IsReply (sym (listed_is w list)) (subst (λ n. AreReplies n (told_all w list)) e (told_replies w list))
 
 -- the head of an array, and what is told of members behind it
-pub span_listed : (w : Bool) (list : List Scored) (count size : ℕ) (first mid new : List Part) → count ≡ length list → size ≡ sized w count → first ≡ [] → mid ≡ first ++ Array size ∷ []
-    → new ≡ mid ++ told_all w list → new ≡ listed w list
-span_listed w list count size first mid new long many none head rest =
-    rest ∙ ap (λ l. l ++ told_all w list) (head ∙ ap (λ l. l ++ Array size ∷ []) none) ∙ ap (λ n. Array n ∷ told_all w list) (many ∙ ap (sized w) long) ∙ sym (listed_is w list)
+pub span_listed : (w : Bool) (list : List Scored) (count : ℕ) (head new : List Part) → count ≡ length list → head ≡ Array (sized w count) ∷ [] → new ≡ head ++ told_all w list
+    → new ≡ listed w list
+span_listed w list count head new long is rest =
+    rest ∙ ap (λ l. l ++ told_all w list) is ∙ ap (λ n. Array (sized w n) ∷ told_all w list) long ∙ sym (listed_is w list)
 
 -- a member more, with its score behind it
 pub with_score : (first mid new : List Part) (a b : Part) → mid ≡ first ++ a ∷ [] → new ≡ mid ++ b ∷ [] → new ≡ first ++ a ∷ b ∷ []
@@ -171,12 +171,11 @@ scores_are_replies scores [] = tt
 scores_are_replies scores (member ∷ members) = subst (λ n. AreReplies n (scores_told scores members)) (sym (none_follows (get scores member) (length members))) (scores_are_replies scores members)
 
 -- the head of an array and the scores behind it
-pub scores_parts : (scores : Scores) (members : List (List ℕ)) (first mid new : List Part) → first ≡ [] → mid ≡ first ++ Array (length members) ∷ [] → new ≡ mid
-    ++ scores_told scores members → new ≡ Array (length members) ∷ scores_told scores members
-scores_parts scores members first mid new e f h = h ∙ ap (λ l. l ++ scores_told scores members) (f ∙ ap (λ l. l ++ Array (length members) ∷ []) e)
+pub scores_parts : (scores : Scores) (members : List (List ℕ)) (head new : List Part) → head ≡ Array (length members) ∷ [] → new ≡ head ++ scores_told scores members
+    → new ≡ Array (length members) ∷ scores_told scores members
+scores_parts scores members head new is h = h ∙ ap (λ l. l ++ scores_told scores members) is
 
-pub scores_reply : (scores : Scores) (members : List (List ℕ)) (first mid new : List Part) → first ≡ [] → mid ≡ first ++ Array (length members) ∷ [] → new ≡ mid
-    ++ scores_told scores members → IsReply new
-scores_reply scores members first mid new e f h =
+pub scores_reply : (scores : Scores) (members : List (List ℕ)) (head new : List Part) → head ≡ Array (length members) ∷ [] → new ≡ head ++ scores_told scores members → IsReply new
+scores_reply scores members head new is h =
     let one : length members ≡ 0 + length members = omega arith in
-    subst IsReply (sym (scores_parts scores members first mid new e f h)) (subst (λ n. AreReplies n (scores_told scores members)) one (scores_are_replies scores members))
+    subst IsReply (sym (scores_parts scores members head new is h)) (subst (λ n. AreReplies n (scores_told scores members)) one (scores_are_replies scores members))

@@ -3,7 +3,9 @@
 ghost use Rattle.std.specs.Prelude.{◌≡◌, ◌&&◌, ℕ, Bool, IfOk, OnOk, length, if◌then◌else◌};
 ghost use Rattle.std.specs.FinMap.{get};
 ghost use Rattle.blocks.specs.Blocks.{Changes, Served};
-ghost use Rattle.zset_object.specs.Scored.{IsScored, KeepsSettings, scores, form_of, refs};
+ghost use Rattle.rehash_dict.specs.Grown.{Grown};
+ghost use Rattle.rehash_dict.specs.Keyed.{hash_of};
+ghost use Rattle.zset_object.specs.Scored.{IsScored, KeepsSettings, scores, form_of, refs, tables};
 ghost use Rattle.held.specs.Calls.{Seeks};
 ghost use Rattle.plain_model.specs.ZsetSteps.{admits, passes, permits, differs, write_score, write_scores};
 ghost use Rattle.plain_model.specs.ZsetSteps as model;
@@ -60,7 +62,7 @@ fn is_permitted(rules: ScoreRules, old: Option<i64>, new: i64) -> bool
 }
 
 // Writes a score where the rules permit it, and answers whether it is another one then, or the first.
-#[tactic(auto, using(crate::proofs::Rests::left_sound, crate::proofs::Rests::left_changes, crate::proofs::Rests::left_settings))]
+#[tactic(auto, using(crate::proofs::Rests::left_sound, crate::proofs::Rests::left_changes, crate::proofs::Rests::left_settings, crate::proofs::Rests::left_grown))]
 fn write_one<B: BlockStore>(
     zset: &mut Scored,
     store: &mut B,
@@ -71,6 +73,7 @@ fn write_one<B: BlockStore>(
     requires { IsScored (B.blocks store.old) zset.old }
     ensures sound { IsScored (B.blocks store.new) zset.new }
     ensures settings { KeepsSettings zset.old zset.new }
+    ensures grown { Grown (hash_of zset.old.seed) (tables (B.blocks store.old) zset.old) (tables (B.blocks store.new) zset.new) }
     ensures is { OnOk result (scores (B.blocks store.new) zset.new ≡ write_score rules (scores (B.blocks store.old) zset.old) (score, member.now)) }
     ensures changed { IfOk result
         (λ changed. changed ≡ (permits rules (get (scores (B.blocks store.old) zset.old) member.now) score && differs (get (scores (B.blocks store.old) zset.old) member.now) score)) }
@@ -96,6 +99,7 @@ fn write_each<B: BlockStore>(
     requires { IsScored (B.blocks store.old) zset.old }
     ensures sound { IsScored (B.blocks store.new) zset.new }
     ensures settings { KeepsSettings zset.old zset.new }
+    ensures grown { Grown (hash_of zset.old.seed) (tables (B.blocks store.old) zset.old) (tables (B.blocks store.new) zset.new) }
     ensures is { OnOk result (scores (B.blocks store.new) zset.new ≡ write_scores rules (scores (B.blocks store.old) zset.old) pairs.now) }
     ensures changed { IfOk result (λ changed. changed ≡ model.changes rules (scores (B.blocks store.old) zset.old) pairs.now) }
     ensures risen { OnOk result (RisesUnder rules zset.old.limits (form_of zset.old) (scores (B.blocks store.old) zset.old) pairs.now (form_of zset.new)) }

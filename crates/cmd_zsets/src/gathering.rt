@@ -24,7 +24,7 @@ use zset_object::Scored;
 pub type Sums = BTreeMap<Vec<u8>, i128>;
 
 /// What is done with the scores of the sources of a join.
-#[derive(Clone, Copy, Debug)]
+#[derive(Clone, Copy)]
 pub struct Meeting {
     pub join: ScoreJoin,
     pub how: Aggregate,

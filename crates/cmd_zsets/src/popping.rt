@@ -3,12 +3,15 @@
 ghost use Rattle.std.specs.Prelude.{◌≡◌, ◌+◌, ◌≤◌, [], ◌∷◌, true, Some, IsSome, IfOk, OnOk};
 ghost use Rattle.std.specs.FinMap.{len};
 ghost use Rattle.blocks.specs.Blocks.{Changes, Served};
-ghost use Rattle.zset_object.specs.Scored.{IsScored, KeepsSettings, scores, ranked, form_of, refs};
+ghost use Rattle.rehash_dict.specs.Grown.{Grown};
+ghost use Rattle.rehash_dict.specs.Keyed.{hash_of};
+ghost use Rattle.zset_object.specs.Scored.{IsScored, KeepsSettings, scores, ranked, form_of, refs, tables};
 ghost use Rattle.plain_world.specs.declared.reply.Part.TheVariants as parts;
 ghost use Rattle.plain_model.specs.ListSteps.{list_range};
 ghost use Rattle.plain_model.specs.ZsetSteps.{members_of, within, without_members};
 ghost use Rattle.plain_model.specs.declared.zset_command.ZsetCommand.TheVariants as zsets;
 ghost use Rattle.keyspace.specs.Scopes.{one_key};
+ghost use Rattle.keyspace.specs.Insides.{SettledBelow, SettlesAt};
 ghost use Rattle.keyspace.specs.Forms.{Formed, zset_form};
 ghost use Rattle.keyspace.specs.Commands.{Ready, KeepsOrRefuses, visible};
 ghost use Rattle.cmd_zsets.specs.Found.{Gives};
@@ -18,10 +21,11 @@ ghost use Rattle.cmd_zsets.specs.Popped.{PopsMany, DropsPart};
 use crate::changing::{change_zset, zset_sought};
 use crate::edits::ZsetEdit;
 use crate::ranges::{by_rank, by_score, start_met};
+use crate::reading::array_of;
 use crate::spans::{Span, span_reply};
 use blocks::BlockStore;
 use keyspace::{Keyspace, Look, count_reply, seek};
-use plain_model::{Ctx, Direction, Memory, Part, Parts, Refusal, Reply, ScoreBound};
+use plain_model::{Ctx, Direction, Memory, Refusal, Reply, ScoreBound};
 use std::alloc::Global;
 use zset_object::Scored;
 
@@ -31,6 +35,8 @@ fn take_span<B: BlockStore>(zset: &mut Scored, store: &mut B, span: Span) -> Res
     requires inside { span.start + span.count ≤ len (scores (B.blocks store.old) zset.old) }
     ensures sound { IsScored (B.blocks store.new) zset.new }
     ensures settings { KeepsSettings zset.old zset.new }
+    ensures grown { Grown (hash_of zset.old.seed) (tables (B.blocks store.old) zset.old) (tables (B.blocks store.new) zset.new) }
+    ensures settled { OnOk result (SettledBelow (len (scores (B.blocks store.old) zset.old)) (len (scores (B.blocks store.new) zset.new)) (tables (B.blocks store.new) zset.new)) }
     ensures is { OnOk result (scores (B.blocks store.new) zset.new ≡ without_members (scores (B.blocks store.old) zset.old) (members_of (in_span span (ranked (B.blocks store.old) zset.old)))) }
     ensures form { form_of zset.new ≡ form_of zset.old }
     ensures changes { Changes (B.blocks store.old) (B.blocks store.new) (refs zset.old) (refs zset.new) }
@@ -116,8 +122,7 @@ impl ZsetEdit for DropScores {
 fn empty_array(alloc: Global) -> Result<Reply, Memory>
     ensures { IfOk result (λ reply. reply ≡ parts.Array 0 ∷ []) }
 {
-    let mut parts = Parts::new(alloc);
-    parts.push(Part::Array(0))?;
+    let parts = array_of(alloc, 0)?;
     Ok(parts.into_reply())
 }
 
@@ -144,6 +149,7 @@ pub fn zpop<B: BlockStore>(
     requires ready { Ready B.blocks keyspace.old at.now }
     ensures gives { Gives B.blocks keyspace.old keyspace.new at.now (zsets.ZPop key.now from most) result }
     ensures kept { KeepsOrRefuses B.blocks B.step (one_key at.now.db key.now) keyspace.old keyspace.new result }
+    ensures settles { IfOk result (λ reply. SettlesAt B.blocks keyspace.old keyspace.new at.now key.now) }
     ensures forms { IfOk result (λ reply. Formed B.blocks (zset_form at.now.db (visible B.blocks keyspace.old at.now) (zsets.ZPop key.now from most)) keyspace.old keyspace.new) }
 {
     let alloc = keyspace.alloc();
@@ -175,6 +181,7 @@ pub fn zremrangebyrank<B: BlockStore>(
     requires ready { Ready B.blocks keyspace.old at.now }
     ensures gives { Gives B.blocks keyspace.old keyspace.new at.now (zsets.ZRemRangeByRank key.now a b) result }
     ensures kept { KeepsOrRefuses B.blocks B.step (one_key at.now.db key.now) keyspace.old keyspace.new result }
+    ensures settles { IfOk result (λ reply. SettlesAt B.blocks keyspace.old keyspace.new at.now key.now) }
     ensures forms { IfOk result (λ reply. Formed B.blocks (zset_form at.now.db (visible B.blocks keyspace.old at.now) (zsets.ZRemRangeByRank key.now a b)) keyspace.old keyspace.new) }
 {
     let alloc = keyspace.alloc();
@@ -201,6 +208,7 @@ pub fn zremrangebyscore<B: BlockStore>(
     requires ready { Ready B.blocks keyspace.old at.now }
     ensures gives { Gives B.blocks keyspace.old keyspace.new at.now (zsets.ZRemRangeByScore key.now min max) result }
     ensures kept { KeepsOrRefuses B.blocks B.step (one_key at.now.db key.now) keyspace.old keyspace.new result }
+    ensures settles { IfOk result (λ reply. SettlesAt B.blocks keyspace.old keyspace.new at.now key.now) }
     ensures forms { IfOk result (λ reply. Formed B.blocks (zset_form at.now.db (visible B.blocks keyspace.old at.now) (zsets.ZRemRangeByScore key.now min max)) keyspace.old keyspace.new) }
 {
     let alloc = keyspace.alloc();

@@ -11,11 +11,11 @@ ghost use Rattle.cmd_zsets.specs.Spans.{told_all};
 ghost use Rattle.cmd_zsets.specs.Picked.{pairs_of, first_told};
 
 use crate::look::zset_at;
-use crate::spans::{push_member, told_size};
+use crate::spans::{array_of_members, push_member};
 use blocks::BlockStore;
 use keyspace::{Keyspace, Look, bytes_of};
 use picking::pick;
-use plain_model::{Ctx, Memory, Part, Parts, Refusal, Reply};
+use plain_model::{Ctx, Memory, Parts, Refusal, Reply};
 use rand_pcg::Pcg32;
 use std::alloc::Global;
 use zset_object::Scored;
@@ -68,8 +68,7 @@ fn items_reply<B: BlockStore>(
     requires real { (at : ℕ) → Contains items.now at → IsSome (pair_at (B.blocks store.now) zset.now at) }
     ensures { IfOk result (λ reply. reply ≡ listed with_scores (pairs_of (λ at. pair_at (B.blocks store.now) zset.now at) items.now)) }
 {
-    let mut parts = Parts::new(alloc);
-    parts.push(Part::Array(told_size(items.len(), with_scores)?))?;
+    let mut parts = array_of_members(alloc, items.len(), with_scores)?;
     push_items(alloc, store, zset, with_scores, items, &mut parts)?;
     Ok(parts.into_reply())
 }

@@ -1,6 +1,6 @@
 //! The command that tells the place of a member.
 
-ghost use Rattle.std.specs.Prelude.{◌≡◌, ◌∷◌, [], pos, IfOk};
+ghost use Rattle.std.specs.Prelude.{◌≡◌, ◌∷◌, ◌++◌, [], pos, IfOk, OnOk};
 ghost use Rattle.int_text.specs.Decimal.{canonical};
 ghost use Rattle.zset_object.specs.Scored.{IsScored, scores};
 ghost use Rattle.plain_world.specs.declared.reply.Part.TheVariants as replies;
@@ -10,7 +10,7 @@ ghost use Rattle.keyspace.specs.Commands.{Ready, visible};
 ghost use Rattle.cmd_zsets.specs.Found.{Gives};
 
 use crate::look::zset_at;
-use crate::reading::score_text;
+use crate::reading::{array_of, score_text};
 use crate::spans::rank_met;
 use blocks::BlockStore;
 use keyspace::{Keyspace, Look, count_reply, reply_number};
@@ -46,14 +46,29 @@ fn null_array(alloc: Global) -> Result<Reply, Memory>
     Ok(parts.into_reply())
 }
 
+// Adds a score.
+fn push_score(alloc: Global, score: i64, parts: &mut Parts) -> Result<(), Memory>
+    ensures { OnOk result (parts.new ≡ parts.old ++ replies.Bulk (canonical score) ∷ []) }
+{
+    let text = score_text(alloc, score)?;
+    parts.push(Part::Bulk(text))
+}
+
+// Adds a place, and a score behind it.
+fn push_place(alloc: Global, place: usize, score: i64, parts: &mut Parts) -> Result<(), Memory>
+    ensures { OnOk result (parts.new ≡ parts.old ++ replies.Number (pos place) ∷ replies.Bulk (canonical score) ∷ []) }
+{
+    let number = reply_number(place)?;
+    parts.push(Part::Number(number))?;
+    push_score(alloc, score, parts)
+}
+
 // A place and a score as an array.
 fn scored_place(alloc: Global, place: usize, score: i64) -> Result<Reply, Memory>
     ensures { IfOk result (λ reply. reply ≡ replies.Array 2 ∷ replies.Number (pos place) ∷ replies.Bulk (canonical score) ∷ []) }
 {
-    let mut parts = Parts::new(alloc);
-    parts.push(Part::Array(2))?;
-    parts.push(Part::Number(reply_number(place)?))?;
-    parts.push(Part::Bulk(score_text(alloc, score)?))?;
+    let mut parts = array_of(alloc, 2)?;
+    push_place(alloc, place, score, &mut parts)?;
     Ok(parts.into_reply())
 }
 

@@ -26,6 +26,15 @@ pub fn score_text(alloc: Global, score: i64) -> Result<Bytes, Memory>
     Bytes::new(alloc, Buffer::new().format(score).as_bytes())
 }
 
+/// The beginning of an array of so many replies.
+pub fn array_of(alloc: Global, count: u64) -> Result<Parts, Memory>
+    ensures { IfOk result (λ parts. parts ≡ replies.Array count ∷ []) }
+{
+    let mut parts = Parts::new(alloc);
+    parts.push(Part::Array(count))?;
+    Ok(parts)
+}
+
 /// `ZCARD key`: the number of members, 0 where there is no sorted set.
 #[tactic(auto, using(crate::proofs::Looking::refused_other))]
 pub fn zcard<B: BlockStore>(keyspace: &Keyspace<B>, at: &Ctx, key: &[u8]) -> Result<Reply, Memory>
@@ -124,8 +133,7 @@ fn scores_reply<B: BlockStore>(
     requires sound { IfSome zset (λ z. IsScored (B.blocks store.now) z.now) }
     ensures { IfOk result (λ reply. reply ≡ replies.Array (length members.now) ∷ scores_told (scores_in (B.blocks store.now) zset.entry) members.now) }
 {
-    let mut parts = Parts::new(alloc);
-    parts.push(Part::Array(members.len() as u64))?;
+    let mut parts = array_of(alloc, members.len() as u64)?;
     push_scores(alloc, store, zset, members, &mut parts)?;
     Ok(parts.into_reply())
 }

@@ -1,12 +1,15 @@
 //! The command that takes members out of a sorted set.
 
-ghost use Rattle.std.specs.Prelude.{◌≡◌, IfOk, OnOk};
-ghost use Rattle.std.specs.FinMap.{remove};
+ghost use Rattle.std.specs.Prelude.{◌≡◌, ℕ, IfOk, OnOk};
+ghost use Rattle.std.specs.FinMap.{remove, len};
 ghost use Rattle.blocks.specs.Blocks.{Changes, Served};
-ghost use Rattle.zset_object.specs.Scored.{IsScored, KeepsSettings, scores, form_of, refs};
+ghost use Rattle.rehash_dict.specs.Grown.{Grown};
+ghost use Rattle.rehash_dict.specs.Keyed.{hash_of};
+ghost use Rattle.zset_object.specs.Scored.{IsScored, KeepsSettings, scores, form_of, refs, tables};
 ghost use Rattle.plain_model.specs.ZsetSteps.{without_members};
 ghost use Rattle.plain_model.specs.declared.zset_command.ZsetCommand.TheVariants as zsets;
 ghost use Rattle.keyspace.specs.Scopes.{one_key};
+ghost use Rattle.keyspace.specs.Insides.{SettledBelow, SettlesAt};
 ghost use Rattle.keyspace.specs.Forms.{Formed, zset_form};
 ghost use Rattle.keyspace.specs.Commands.{Ready, KeepsOrRefuses, visible};
 ghost use Rattle.cmd_zsets.specs.Found.{Gives};
@@ -24,6 +27,10 @@ fn take_out<B: BlockStore>(zset: &mut Scored, store: &mut B, member: &[u8]) -> R
     requires { IsScored (B.blocks store.old) zset.old }
     ensures sound { IsScored (B.blocks store.new) zset.new }
     ensures settings { KeepsSettings zset.old zset.new }
+    ensures grown { Grown (hash_of zset.old.seed) (tables (B.blocks store.old) zset.old) (tables (B.blocks store.new) zset.new) }
+    ensures settles { OnOk result
+        ((most : ℕ) → SettledBelow most (len (scores (B.blocks store.old) zset.old)) (tables (B.blocks store.old) zset.old)
+        → SettledBelow most (len (scores (B.blocks store.new) zset.new)) (tables (B.blocks store.new) zset.new)) }
     ensures is { OnOk result (scores (B.blocks store.new) zset.new ≡ remove (scores (B.blocks store.old) zset.old) member.now) }
     ensures form { form_of zset.new ≡ form_of zset.old }
     ensures changes { Changes (B.blocks store.old) (B.blocks store.new) (refs zset.old) (refs zset.new) }
@@ -42,6 +49,10 @@ fn take_each<B: BlockStore>(
     requires { IsScored (B.blocks store.old) zset.old }
     ensures sound { IsScored (B.blocks store.new) zset.new }
     ensures settings { KeepsSettings zset.old zset.new }
+    ensures grown { Grown (hash_of zset.old.seed) (tables (B.blocks store.old) zset.old) (tables (B.blocks store.new) zset.new) }
+    ensures settles { OnOk result
+        ((most : ℕ) → SettledBelow most (len (scores (B.blocks store.old) zset.old)) (tables (B.blocks store.old) zset.old)
+        → SettledBelow most (len (scores (B.blocks store.new) zset.new)) (tables (B.blocks store.new) zset.new)) }
     ensures is { OnOk result (scores (B.blocks store.new) zset.new ≡ without_members (scores (B.blocks store.old) zset.old) members.now) }
     ensures form { form_of zset.new ≡ form_of zset.old }
     ensures changes { Changes (B.blocks store.old) (B.blocks store.new) (refs zset.old) (refs zset.new) }
@@ -84,6 +95,7 @@ pub fn zrem<B: BlockStore>(
     requires ready { Ready B.blocks keyspace.old at.now }
     ensures gives { Gives B.blocks keyspace.old keyspace.new at.now (zsets.ZRem key.now members.now) result }
     ensures kept { KeepsOrRefuses B.blocks B.step (one_key at.now.db key.now) keyspace.old keyspace.new result }
+    ensures settles { IfOk result (λ reply. SettlesAt B.blocks keyspace.old keyspace.new at.now key.now) }
     ensures forms { IfOk result (λ reply. Formed B.blocks (zset_form at.now.db (visible B.blocks keyspace.old at.now) (zsets.ZRem key.now members.now)) keyspace.old keyspace.new) }
 {
     let alloc = keyspace.alloc();

@@ -1,13 +1,14 @@
 //! Members that are told one after the other.
 
-ghost use Rattle.std.specs.Prelude.{◌≡◌, ◌+◌, ◌<◌, ◌≤◌, ◌++◌, take, drop, reverse, IfOk, OnOk};
+ghost use Rattle.std.specs.Prelude.{◌≡◌, ◌+◌, ◌<◌, ◌≤◌, ◌++◌, ◌∷◌, [], take, drop, reverse, IfOk, OnOk};
 ghost use Rattle.std.specs.FinMap.{len as members};
 ghost use Rattle.listpack.specs.Element.{element_text};
 ghost use Rattle.zset_object.specs.Scored.{IsScored, scores};
+ghost use Rattle.plain_world.specs.declared.reply.Part.TheVariants as replies;
 ghost use Rattle.plain_model.specs.ZsetSteps.{ranked, listed};
 ghost use Rattle.cmd_zsets.specs.Spans.{in_span, rank_of, told, told_all, sized};
 
-use crate::reading::score_text;
+use crate::reading::{array_of, score_text};
 use blocks::BlockStore;
 use keyspace::bytes_of;
 use listpack::Element;
@@ -16,7 +17,7 @@ use std::alloc::{AllocError, Global};
 use zset_object::Scored;
 
 /// So many members from a place on, as they are met from an end.
-#[derive(Clone, Copy, Debug)]
+#[derive(Clone, Copy)]
 pub struct Span {
     /// The end from which they are met.
     pub from: Direction,
@@ -172,8 +173,8 @@ fn push_span<B: BlockStore>(
     }
 }
 
-/// How many replies tell of so many members. 2^64 or more are want of memory.
-pub fn told_size(count: usize, with_scores: bool) -> Result<u64, Memory>
+// How many replies tell of so many members. 2^64 or more are want of memory.
+fn told_size(count: usize, with_scores: bool) -> Result<u64, Memory>
     ensures { IfOk result (λ size. size ≡ sized with_scores count) }
 {
     let count = count as u64;
@@ -184,6 +185,14 @@ pub fn told_size(count: usize, with_scores: bool) -> Result<u64, Memory>
         };
     }
     Ok(count)
+}
+
+/// The beginning of an array of so many members.
+pub fn array_of_members(alloc: Global, count: usize, with_scores: bool) -> Result<Parts, Memory>
+    ensures { IfOk result (λ parts. parts ≡ replies.Array (sized with_scores count) ∷ []) }
+{
+    let size = told_size(count, with_scores)?;
+    array_of(alloc, size)
 }
 
 /// The members of a span as an array, each followed by its score where that is asked for.
@@ -198,8 +207,7 @@ pub fn span_reply<B: BlockStore>(
     requires inside { span.start + span.count ≤ members (scores (B.blocks store.now) zset.now) }
     ensures { IfOk result (λ reply. reply ≡ listed with_scores (in_span span (ranked (scores (B.blocks store.now) zset.now)))) }
 {
-    let mut parts = Parts::new(alloc);
-    parts.push(Part::Array(told_size(span.count, with_scores)?))?;
+    let mut parts = array_of_members(alloc, span.count, with_scores)?;
     push_span(alloc, store, zset, span, with_scores, &mut parts)?;
     Ok(parts.into_reply())
 }

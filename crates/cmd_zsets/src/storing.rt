@@ -1,11 +1,13 @@
 //! The commands that store joins of sorted sets and sets.
 
-ghost use Rattle.std.specs.Prelude.{◌≡◌, ℕ, List, true, map, IfOk, OnOk};
+ghost use Rattle.std.specs.Prelude.{◌≡◌, ◌≤◌, ℕ, List, true, map, IfOk, OnOk};
 ghost use Rattle.std.specs.FinMap.{entries, get, insert, len};
 ghost use Rattle.blocks.specs.Blocks.{Changes, Served};
 ghost use Rattle.held.specs.Calls.{AllAt};
 ghost use Rattle.zset_object.specs.Orders.{IsRisen};
-ghost use Rattle.zset_object.specs.Scored.{IsScored, KeepsSettings, scores, refs, form_of};
+ghost use Rattle.rehash_dict.specs.Grown.{Grown};
+ghost use Rattle.rehash_dict.specs.Keyed.{hash_of};
+ghost use Rattle.zset_object.specs.Scored.{IsScored, KeepsSettings, scores, refs, form_of, tables};
 ghost use Rattle.plain_model.specs.ZsetSteps.{are_scores, is_score, may_zsets, store_zset};
 ghost use Rattle.plain_model.specs.declared.zset_command.ZsetCommand.TheVariants as zsets;
 ghost use Rattle.keyspace.specs.Scopes.{one_key};
@@ -56,7 +58,7 @@ fn score_of(sum: i128) -> i64
 }
 
 // Gives a member its score.
-#[tactic(auto, using(crate::proofs::Rests::left_sound, crate::proofs::Rests::left_changes, crate::proofs::Rests::left_settings))]
+#[tactic(auto, using(crate::proofs::Rests::left_sound, crate::proofs::Rests::left_changes, crate::proofs::Rests::left_settings, crate::proofs::Rests::left_grown))]
 fn give_score<B: BlockStore>(
     zset: &mut Scored,
     store: &mut B,
@@ -66,6 +68,7 @@ fn give_score<B: BlockStore>(
     requires { IsScored (B.blocks store.old) zset.old }
     ensures sound { IsScored (B.blocks store.new) zset.new }
     ensures settings { KeepsSettings zset.old zset.new }
+    ensures grown { Grown (hash_of zset.old.seed) (tables (B.blocks store.old) zset.old) (tables (B.blocks store.new) zset.new) }
     ensures is { OnOk result (scores (B.blocks store.new) zset.new ≡ insert (scores (B.blocks store.old) zset.old) member.now score) }
     ensures risen { OnOk result (IsRisen zset.old.limits (form_of zset.old) (insert (scores (B.blocks store.old) zset.old) member.now score) (form_of zset.new)) }
     ensures changes { Changes (B.blocks store.old) (B.blocks store.new) (refs zset.old) (refs zset.new) }
@@ -81,6 +84,8 @@ fn fill_zset<B: BlockStore>(zset: &mut Scored, store: &mut B, sums: &mut Sums) -
     requires range { are_scores (map entry_of sums.old.entries) ≡ true }
     ensures sound { IsScored (B.blocks store.new) zset.new }
     ensures settings { KeepsSettings zset.old zset.new }
+    ensures grown { Grown (hash_of zset.old.seed) (tables (B.blocks store.old) zset.old) (tables (B.blocks store.new) zset.new) }
+    ensures more { OnOk result (len (scores (B.blocks store.old) zset.old) ≤ len (scores (B.blocks store.new) zset.new)) }
     ensures fills { OnOk result (Fills (gathered sums.old) zset.old.limits (scores (B.blocks store.old) zset.old) (form_of zset.old) (scores (B.blocks store.new) zset.new) (form_of zset.new)) }
     ensures changes { Changes (B.blocks store.old) (B.blocks store.new) (refs zset.old) (refs zset.new) }
     ensures served { Served B.step store.old store.new }

@@ -6,8 +6,8 @@ use Rattle.std.specs.Fmt.{decimal}
 use Rattle.plain_model.specs.Meant.{meant}
 use Rattle.plain_model.specs.Runs.{Call, Turn, calls_of, run}
 use Rattle.plain_model.specs.Shapes.{AllTold, Plain, Whole, all_told, and_then, fixed, options_read}
-use Rattle.plain_model.specs.Steps.{may}
 use Rattle.plain_model.specs.StreamWords.{append_words}
+use Rattle.plain_model.proofs.Led.{Leads, led}
 use Rattle.plain_model.specs.declared.zset_command.AddOptions.{AddOptions}
 use Rattle.plain_model.specs.ZsetWords.{add_of, add_breaks, add_options, add_words, no_add_options, no_range_options, options_in_front, range_words, rank_range_of, scores_read}
 use Rattle.plain_model.specs.declared.command.Command.{Command}
@@ -24,16 +24,10 @@ use Rattle.plain_world.specs.Worlds.{World, live}
 use Rattle.plain_world.specs.declared.refusal.Refusal.{Refusal}
 use Rattle.plain_world.specs.declared.refusal.Refusal.TheVariants.{WrongNumberOfArguments}
 use Rattle.plain_world.specs.declared.reply.Part.{Part}
-use Rattle.plain_world.specs.declared.reply.Part.TheVariants.{Refused}
 use Rattle.generator.specs.Commands.{words_of, kind_of, word, commands_after}
 use Rattle.generator.specs.Laws.{numbered, RunsAreOne}
 use Rattle.generator.specs.declared.commands.Kind.{Kind}
 use Rattle.generator.specs.declared.commands.Kind.TheVariants as kinds
-
--- a step on what is meant
-abbrev Leads : ℕ → World → ℕ → List Part → World → Result Command Refusal → Type 0
-Leads seed old moment reply new m =
-    MatchResult m (λ command. may seed (live old moment) moment command reply new) (λ refusal. (reply ≡ Refused refusal ∷ []) × (new ≡ live old moment))
 
 -- what is meant has one answer
 abbrev One : Result Command Refusal → Type 0
@@ -143,9 +137,11 @@ runs_same (c ∷ calls) seed old (x ∷ r) (y ∷ s) new other h p q a b =
     let second : y.call ≡ c = cc in
     let later : calls_of r ≡ calls = cc in
     let after : calls_of s ≡ calls = cc in
-    let X : Call → Type 0 = λ d. Leads seed old d.moment x.reply a.1 (meant d.words) in
-    let Y : Call → Type 0 = λ d. Leads seed old d.moment y.reply b.1 (meant d.words) in
-    let one = h.0 seed c.moment old x.reply y.reply a.1 b.1 (subst X first a.2) (subst Y second b.2) in
+    let X : Call → Type 0 = λ d. Leads seed (live old d.moment) d.moment x.reply a.1 (meant d.words) in
+    let Y : Call → Type 0 = λ d. Leads seed (live old d.moment) d.moment y.reply b.1 (meant d.words) in
+    let left = led seed (live old x.call.moment) x.call.moment (meant x.call.words) x.reply a.1 a.2 in
+    let right = led seed (live old y.call.moment) y.call.moment (meant y.call.words) y.reply b.1 b.2 in
+    let one = h.0 seed c.moment (live old c.moment) x.reply y.reply a.1 b.1 (subst X first left) (subst Y second right) in
     let W : World → Type 0 = λ w. run seed w s other in
     let rest = runs_same calls seed a.1 r s new other h.1 later after a.3 (subst W (sym one.1) b.3) in
     let call : x.call ≡ y.call = first ∙ sym second in

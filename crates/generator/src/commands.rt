@@ -1,9 +1,12 @@
 //! The table of the kinds of commands.
 
-ghost use Rattle.std.specs.Prelude.{◌≡◌, ◌%◌, OnOk};
+ghost use Rattle.std.specs.Prelude.{◌≡◌, ◌%◌, [], ◌∷◌, ◌++◌, OnOk};
+ghost use Rattle.std.specs.Fmt.{decimal};
 ghost use Rattle.resp_frames.specs.Frames.{request_bytes};
 ghost use Rattle.generator.specs.Commands.{kind_of, words_of};
+ghost use Rattle.generator.specs.Requests.{word_bytes};
 
+use crate::requests::Word::{Named, Number, Text};
 use crate::requests::{Word, put_request};
 use std::alloc::AllocError;
 
@@ -55,73 +58,87 @@ pub fn kind_of(word: u64) -> Kind
     KINDS[(word % 16) as usize]
 }
 
+// The request of a name and a key.
+fn put_two(bytes: &mut Vec<u8>, name: &[u8], letter: &[u8], key: u64) -> Result<(), AllocError>
+    ensures { OnOk result (bytes.new.items ≡ request_bytes (name.now ∷ (letter.now ++ decimal key) ∷ [])) }
+{
+    put_request(bytes, &[Text(name), Named(letter, key)])
+}
+
+// The request of a name, a key and a word more.
+fn put_three(
+    bytes: &mut Vec<u8>,
+    name: &[u8],
+    letter: &[u8],
+    key: u64,
+    third: Word<'_>,
+) -> Result<(), AllocError>
+    ensures { OnOk result (bytes.new.items ≡ request_bytes (name.now ∷ (letter.now ++ decimal key) ∷ word_bytes third.entry ∷ [])) }
+{
+    put_request(bytes, &[Text(name), Named(letter, key), third])
+}
+
+// The request of a name, a key and two words more.
+fn put_four(
+    bytes: &mut Vec<u8>,
+    name: &[u8],
+    letter: &[u8],
+    key: u64,
+    third: Word<'_>,
+    fourth: Word<'_>,
+) -> Result<(), AllocError>
+    ensures { OnOk result (bytes.new.items ≡ request_bytes (name.now ∷ (letter.now ++ decimal key) ∷ word_bytes third.entry ∷ word_bytes fourth.entry ∷ [])) }
+{
+    put_request(bytes, &[Text(name), Named(letter, key), third, fourth])
+}
+
+// The request of an entry of a stream, which has one field.
+fn put_entry(bytes: &mut Vec<u8>, key: u64, word: u64) -> Result<(), AllocError>
+    ensures { OnOk result (bytes.new.items ≡ request_bytes (words_of Kind.XAdd key word)) }
+{
+    put_request(
+        bytes,
+        &[
+            Text(b"XADD"),
+            Named(b"x:", key),
+            Text(b"*"),
+            Text(b"f"),
+            Number(word),
+        ],
+    )
+}
+
 /// The bytes of a request of this kind, on the key of this number, with this word. What stood in the bytes is cleared.
 pub fn put_command(bytes: &mut Vec<u8>, kind: Kind, key: u64, word: u64) -> Result<(), AllocError>
     ensures { OnOk result (bytes.new.items ≡ request_bytes (words_of kind key word)) }
 {
-    use Word::{Named, Number, Text};
     match kind {
-        Kind::Set => put_request(bytes, &[Text(b"SET"), Named(b"s:", key), Number(word)]),
-        Kind::Get => put_request(bytes, &[Text(b"GET"), Named(b"s:", key)]),
-        Kind::IncrBy => put_request(
+        Kind::Set => put_three(bytes, b"SET", b"s:", key, Number(word)),
+        Kind::Get => put_two(bytes, b"GET", b"s:", key),
+        Kind::IncrBy => put_three(bytes, b"INCRBY", b"n:", key, Number(word % 1000)),
+        Kind::RPush => put_three(bytes, b"RPUSH", b"l:", key, Number(word)),
+        Kind::LRange => put_four(bytes, b"LRANGE", b"l:", key, Number(0), Number(9)),
+        Kind::SAdd => put_three(bytes, b"SADD", b"t:", key, Number(word % 64)),
+        Kind::SIsMember => put_three(bytes, b"SISMEMBER", b"t:", key, Number(word % 64)),
+        Kind::HSet => put_four(
             bytes,
-            &[Text(b"INCRBY"), Named(b"n:", key), Number(word % 1000)],
+            b"HSET",
+            b"h:",
+            key,
+            Named(b"f", word % 32),
+            Number(word),
         ),
-        Kind::RPush => put_request(bytes, &[Text(b"RPUSH"), Named(b"l:", key), Number(word)]),
-        Kind::LRange => put_request(
+        Kind::HGet => put_three(bytes, b"HGET", b"h:", key, Named(b"f", word % 32)),
+        Kind::ZAdd => put_four(
             bytes,
-            &[Text(b"LRANGE"), Named(b"l:", key), Number(0), Number(9)],
+            b"ZADD",
+            b"z:",
+            key,
+            Number(word % 1000),
+            Named(b"m", word % 64),
         ),
-        Kind::SAdd => put_request(
-            bytes,
-            &[Text(b"SADD"), Named(b"t:", key), Number(word % 64)],
-        ),
-        Kind::SIsMember => put_request(
-            bytes,
-            &[Text(b"SISMEMBER"), Named(b"t:", key), Number(word % 64)],
-        ),
-        Kind::HSet => put_request(
-            bytes,
-            &[
-                Text(b"HSET"),
-                Named(b"h:", key),
-                Named(b"f", word % 32),
-                Number(word),
-            ],
-        ),
-        Kind::HGet => put_request(
-            bytes,
-            &[Text(b"HGET"), Named(b"h:", key), Named(b"f", word % 32)],
-        ),
-        Kind::ZAdd => put_request(
-            bytes,
-            &[
-                Text(b"ZADD"),
-                Named(b"z:", key),
-                Number(word % 1000),
-                Named(b"m", word % 64),
-            ],
-        ),
-        Kind::ZRange => put_request(
-            bytes,
-            &[Text(b"ZRANGE"), Named(b"z:", key), Number(0), Number(9)],
-        ),
-        Kind::XAdd => put_request(
-            bytes,
-            &[
-                Text(b"XADD"),
-                Named(b"x:", key),
-                Text(b"*"),
-                Text(b"f"),
-                Number(word),
-            ],
-        ),
-        Kind::Del => put_request(
-            bytes,
-            &[
-                Text(b"DEL"),
-                Named(&[LETTERS[(word % 6) as usize], b':'], key),
-            ],
-        ),
+        Kind::ZRange => put_four(bytes, b"ZRANGE", b"z:", key, Number(0), Number(9)),
+        Kind::XAdd => put_entry(bytes, key, word),
+        Kind::Del => put_two(bytes, b"DEL", &[LETTERS[(word % 6) as usize], b':'], key),
     }
 }

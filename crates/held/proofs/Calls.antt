@@ -26,6 +26,7 @@ use Rattle.held.specs.Worlds.{without}
 use Rattle.held.specs.Calls.{HasOnly, Found, StandsAt, IsPlace, IsVacant, Lifts, AreParts, IsDeadline, Joins, KeepsTimes}
 use Rattle.rehash_dict.proofs.MapOf.{cases_key, map_of_stands, map_of_lacks, map_of_empty, map_of_removes, map_of_had, map_of_kept}
 use Rattle.held.specs.Scopes.{Scope, one_key, no_key, all_keys, BaseGrows, AreGrown, Within}
+use Rattle.held.specs.Written.{KeepBytes}
 use Rattle.held.proofs.Within.{within_then, within_keys, within_times, within_swaps, within_removes, within_joins, within_anew, within_store}
 use Rattle.held.proofs.Maps.{entry_with, get_with, with_none, got_deadline}
 use Rattle.held.proofs.Tables.{key_itself, some_bytes, named_in, keyed_none}
@@ -449,6 +450,12 @@ module _ {V : Type 0} {IsSound : Limits → ℕ → Blocks → V → Type 0} (re
           (omega (arith, key_itself s.key, item_owned (refs_of m) new db at (record { key = s.key; hash = s.hash; value = value }) s.key s.updates.changed)) in
           only_here new after db key at (record { key = s.key; hash = s.hash; value = value }) (put_arranged.keyed db) s.updates.changed (kept ∙ there)
 
+      -- the value that was put has the blocks that it had
+      pub put_blocks : KeepBytes m after (refs_of m value)
+      put_blocks q named =
+          kept_inside refs_of value_of own new m after (refs_of m was) (refs_of m was) [] (over_out mid new db m d at was value s keyed arranged mid_intact after p) p (λ r. omega arith) q
+          (omega (arith, named, item_owned (refs_of m) new db at (record { key = s.key; hash = s.hash; value = value }) q s.updates.changed))
+
       -- where a key got a deadline and a new value, these are put at the key of the world
       pub put_over : means value_of db new after ≡ put (means value_of db old m) key (record { value = value_of m value; deadline = deadline })
       put_over =
@@ -468,6 +475,10 @@ module _ {V : Type 0} {IsSound : Limits → ℕ → Blocks → V → Type 0} (re
     -- the block that was placed holds the bytes of the key
     pub placed_bytes : mid r ≡ Some key
     placed_bytes = ap (λ b. b r) placed ∙ with_block_same m r (Some key)
+
+    -- where a key's block is placed, the value that is out has the blocks that it had
+    pub placed_blocks : KeepBytes m mid (refs_of m value)
+    placed_blocks q named = kept_named refs_of value_of own old m mid (refs_of m value) [] (r ∷ []) intact_placed p q (omega (arith, named)) refl
 
     -- where a key's block is placed, the value that is out owns what it owned
     placed_refs : refs_of mid value ≡ refs_of m value
@@ -608,8 +619,7 @@ module _ {V : Type 0} {IsSound : Limits → ℕ → Blocks → V → Type 0} (re
 
   -- giving back the value that was handed back ends the blocks of the value that was given
   pub returned_changes : (m mid after : Blocks) (value returned : V) → returned ≡ value → mid ≡ m → Changes mid after (refs_of mid returned) [] → Changes m after (refs_of m value) []
-  returned_changes m mid after value returned same blocks p =
-      subst (λ v. Changes m after (refs_of m v) []) same (subst (λ b. Changes b after (refs_of b returned) []) blocks p)
+  returned_changes m mid after value returned same blocks p = subst (λ v. Changes m after (refs_of m v) []) same (subst (λ b. Changes b after (refs_of b returned) []) blocks p)
 
   -- where the store is as it was the databases own what they owned
   pub refused_owned : (old new : Bases V) (m mid : Blocks) → mid ≡ m → ((q : BlockRef) → times q (owned (refs_of mid) new) ≡ times q (owned (refs_of m) old)) → (q : BlockRef)

@@ -12,12 +12,13 @@ use Rattle.blocks.proofs.Change.{one, changes_same, changes_then, changes_beside
 use Rattle.rehash_dict.proofs.MapOf.{map_of_has}
 use Rattle.plain_world.specs.Worlds.{Value, Entry, World, Database, look, put, put_in, remove, selecting, deadline_of}
 use Rattle.expiry.specs.Timed.{Timed, moments}
+use Rattle.held.specs.declared.databases.Base.{Base}
 use Rattle.held.specs.Table.{Table, Element, item, Stands, Keyed, Swaps}
 use Rattle.held.specs.Databases.{Bases, table_at, deadlines_at, means, owned, SameSettings, ChangesTable}
 use Rattle.stored.specs.Owning.{ReadsOwn, IsBlank}
 use Rattle.held.specs.Sound.{IsArranged, IsIntact, IsIntactWith, SoundBeside}
 use Rattle.held.specs.Worlds.{without}
-use Rattle.held.specs.Calls.{HasValue, HasOnly, IsDeadline}
+use Rattle.held.specs.Calls.{HasOnly, IsDeadline}
 use Rattle.held.proofs.Maps.{same_entry, put_removed, moved_base}
 use Rattle.held.proofs.Timing.{some_same, some_none}
 use Rattle.held.proofs.Bases.{owned_swaps, swapped_means, sound_joined}
@@ -26,7 +27,7 @@ use Rattle.held.specs.Scopes.{one_key, two_keys, no_key, Within}
 use Rattle.plain_world.proofs.Maps.{get_removed}
 use Rattle.plain_world.proofs.Lives.{put_twice}
 use Rattle.held.proofs.Tables.{some_bytes}
-use Rattle.held.specs.Written.{Written}
+use Rattle.held.specs.Written.{KeepBytes, Carried, Written}
 use Rattle.held.proofs.Written.{written_named, two_settled}
 use Rattle.held.proofs.Within.{within_then, within_wider, within_swaps}
 use Rattle.held.proofs.Calls.{look_stands, deadline_seen, swapped_key, over_intact}
@@ -150,25 +151,32 @@ module _ {V : Type 0} {IsSound : Limits → ℕ → Blocks → V → Type 0} (re
     left_within to_db to new last after later left =
         within_wider refs_of (no_key db) (two_keys db key to_db to) (λ number here. inl here) (λ number other none. absurd none.1) (λ number no. absurd no) new last after later left
 
-    -- Nothing stands at the first key, and whatever stands at the other one is the value that stood there.
-    pub moved_writes : (to_db : ℕ) (to : List ℕ) (new last : Bases V) (after later : Blocks) → HasOnly new after to_db to was → Within refs_of (no_key db) new last after later
-        → means value_of db last later ≡ without (means value_of db new after) key
-        → Within refs_of (two_keys db key to_db to) old last m later → IsArranged IsSound last later → Written refs_of (HasValue old m db key) old last m later
-    moved_writes to_db to new last after later only left gone within arranged =
-        written_named refs_of (HasValue old m db key) (two_keys db key to_db to) (two_settled db key to_db to) old last m later within arranged
+    -- Nothing stands at the first key, and whatever stands at the other one is the value that stood there, with its blocks.
+    pub moved_writes : (to_db : ℕ) (to : List ℕ) (new last : Bases V) (after later : Blocks) → HasOnly new after to_db to was → KeepBytes m after (refs_of m was)
+        → Within refs_of (no_key db) new last after later → means value_of db last later ≡ without (means value_of db new after) key
+        → Within refs_of (two_keys db key to_db to) old last m later → IsArranged IsSound last later → Written refs_of (Carried refs_of old m later db key) old last m later
+    moved_writes to_db to new last after later only placed left gone within arranged =
+        written_named refs_of (Carried refs_of old m later db key) (two_keys db key to_db to) (two_settled db key to_db to) old last m later within arranged
         (λ number i e other found bytes named. elim named [
           | inl here ↦ some_none _ _
               (look_stands refs_of value_of own last db later arranged key i e (subst (λ n. item (table_at last n) i ≡ Some e) here.0 found) (bytes ∙ ap Some here.1) _ refl)
               (ap (λ w. look w key) gone ∙ ap (λ (b : Database). get b key) (cond-true _ _ _ (eq-eqb db db refl)) ∙ get_removed ((means value_of db new after).bases db) key)
-          | inr there ↦ had i e (subst (λ n. item (table_at last n) i ≡ Some e) there.0 found) (bytes ∙ ap Some there.1)
+          | inr there ↦ carried i e (subst (λ n. item (table_at last n) i ≡ Some e) there.0 found) (bytes ∙ ap Some there.1)
         ])
       where
-        had : (i : ℕ) (e : Element V) → item (table_at last to_db) i ≡ Some e → later e.key ≡ Some to → HasValue old m db key e.value
-        had i e found bytes =
+        -- the element of the other key has the value that was moved
+        carried : (i : ℕ) (e : Element V) → item (table_at last to_db) i ≡ Some e → later e.key ≡ Some to → Carried refs_of old m later db key e.value
+        carried i e found bytes =
             let stayed = left.stayed to_db i e found (λ none. none.1) in
             let itself : one e.key e.key ≡ 1 = cond-true _ _ _ (ref_eq_refl e.key) in
             let same = stayed.bytes e.key (omega (arith, itself)) in
-            record { at = at; element = record { key = s.key; hash = s.hash; value = was }; found = s.found; bytes = out_key; is = sym (only i e stayed.stood (sym same ∙ bytes)) }
+            let is : e.value ≡ was = only i e stayed.stood (sym same ∙ bytes) in
+            let blocks : KeepBytes m after (refs_of m e.value) = subst (λ v. KeepBytes m after (refs_of m v)) (sym is) placed in
+            let refs : refs_of after e.value ≡ refs_of m e.value = own.refs m after e.value blocks in
+            record {
+              had = record { at = at; element = record { key = s.key; hash = s.hash; value = was }; found = s.found; bytes = out_key; is = sym is };
+              kept = λ r owns. stayed.bytes r (omega (arith, owns, ap (times r) refs)) ∙ blocks r owns;
+            }
 
     -- ---- it stands at the other key, and the first one leaves
 
@@ -237,6 +245,23 @@ module _ {V : Type 0} {IsSound : Limits → ℕ → Blocks → V → Type 0} (re
         back_within tables to =
             within_swaps refs_of (two_keys db key to_db to) new last after db (inl refl) d at vacant value b tables
             (inl (refl, some_bytes after b.key key (swapped_key refs_of value_of own new last db after d at vacant value b last_keyed a key back_stands)))
+
+        -- what stands in the place that the value goes back to stood there when it was taken out
+        back_same : ◌≡◌ {A = Element V} (record { key = b.key; hash = b.hash; value = vacant }) (record { key = s.key; hash = s.hash; value = zero })
+        back_same = some_same (item (table_at new db) at) _ _ b.found back_found
+
+        -- where the value is put back, each element stands where it stood at first
+        pub back_items : (number i : ℕ) → item (table_at last number) i ≡ item (table_at old number) i
+        back_items number i = elim (cases_eq number db) [
+          | inl here ↦ subst (λ n. item (table_at last n) i ≡ item (table_at old n) i) (sym here) (elim (cases_eq i at) [
+            | inl there ↦ subst (λ k. item (table_at last db) k ≡ item (table_at old db) k) (sym there)
+                (b.updates.changed ∙ (λ j. Some (record { key = (back_same j).key; hash = (back_same j).hash; value = returned j })) ∙ sym s.found)
+            | inr apart ↦ b.updates.others i apart ∙ ap (λ (t : Table V). item t i) (keys db) ∙ s.updates.others i apart
+          ])
+          | inr apart ↦
+              ap (λ (x : Base V). item x.keys i) (d.base.others number apart) ∙ ap (λ (t : Table V). item t i) (keys number)
+              ∙ ap (λ (x : Base V). item x.keys i) (c.base.others number apart)
+        ]
 
         -- the value that is put back means what it meant
         back_value : value_of after value ≡ value_of m was

@@ -70,7 +70,8 @@ impl<V: Stored, B: BlockStore> Keyspace<V, B> {
         requires intact { IsIntact V.refs_of V.IsSound self.old.bases (B.blocks self.old.store) [] }
         ensures means { means V.value_of db self.new.bases (B.blocks self.new.store) ≡ with_base (means V.value_of db self.old.bases (B.blocks self.old.store))
             (live_keys ((means V.value_of db self.old.bases (B.blocks self.old.store)).bases db) moment) }
-        ensures answer { map.len ((means V.value_of db self.old.bases (B.blocks self.old.store)).bases db) ≡ result + map.len ((means V.value_of db self.new.bases (B.blocks self.new.store)).bases db) }
+        ensures answer { map.len ((means V.value_of db self.old.bases (B.blocks self.old.store)).bases db) ≡ result
+            + map.len ((means V.value_of db self.new.bases (B.blocks self.new.store)).bases db) }
         ensures sound { (out : List BlockRef) → SoundBeside V.refs_of V.IsSound self.old.bases (B.blocks self.old.store) out
             → SoundBeside V.refs_of V.IsSound self.new.bases (B.blocks self.new.store) out }
         ensures changes { Changes (B.blocks self.old.store) (B.blocks self.new.store) (owned (V.refs_of (B.blocks self.old.store)) self.old.bases)

@@ -14,6 +14,7 @@ ghost use Rattle.held.specs.Scopes.{one_key, no_key, all_keys, AreGrown, Within,
 ghost use Rattle.held.specs.Worlds.{without, emptied};
 ghost use Rattle.held.specs.Shrinking.{Shrinks, BeginsToShrink};
 ghost use Rattle.held.specs.Calls.{HasOnly, Found, StandsAt, IsPlace, IsVacant, IsDeadline, Lifts, AreParts};
+ghost use Rattle.held.specs.Written.{KeepBytes};
 
 use crate::Databases;
 use blocks::{BlockRef, BlockStore, Memory};
@@ -260,6 +261,7 @@ impl<V: Stored, B: BlockStore> Keyspace<V, B> {
             (means V.value_of db self.new.bases (B.blocks self.new.store) ≡ put (means V.value_of db self.old.bases (B.blocks self.old.store)) key.now
             (record { value = V.value_of (B.blocks self.old.store) value; deadline = deadline })) }
         ensures has { OnOk result (HasOnly self.new.bases (B.blocks self.new.store) db key.now value) }
+        ensures value_blocks { OnOk result (KeepBytes (B.blocks self.old.store) (B.blocks self.new.store) (V.refs_of (B.blocks self.old.store) value)) }
         ensures kept { OnErr result (means V.value_of db self.new.bases (B.blocks self.new.store) ≡ means V.value_of db self.old.bases (B.blocks self.old.store)) }
         ensures sound { (all out : List BlockRef) → SoundBeside V.refs_of V.IsSound self.old.bases (B.blocks self.old.store) all → AreParts all (V.refs_of (B.blocks self.old.store) value) out
             → SoundBeside V.refs_of V.IsSound self.new.bases (B.blocks self.new.store) out }

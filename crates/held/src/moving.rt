@@ -4,10 +4,10 @@ ghost use Rattle.blocks.specs.Blocks.{Changes, Served, times};
 ghost use Rattle.plain_world.specs.Worlds.{Entry, deadline_of, look, put, put_in, remove};
 ghost use Rattle.held.specs.Databases.{means, owned, SameSettings, table_at};
 ghost use Rattle.held.specs.Sound.{IsArranged, IsIntact, SoundBeside};
-ghost use Rattle.held.specs.Table.{Lacks};
-ghost use Rattle.held.specs.Calls.{HasValue, HasOnly, IsDeadline, Seeks};
+ghost use Rattle.held.specs.Table.{Lacks, item};
+ghost use Rattle.held.specs.Calls.{HasOnly, IsDeadline, Seeks};
 ghost use Rattle.held.specs.Scopes.{one_key, two_keys, Within};
-ghost use Rattle.held.specs.Written.{Written};
+ghost use Rattle.held.specs.Written.{Carried, Written};
 
 use crate::{Keyspace, Sought, SoughtAt};
 use blocks::{BlockStore, Memory};
@@ -33,11 +33,14 @@ impl<V: Stored, B: BlockStore> Keyspace<V, B> {
         ensures same { db ≡ to_db → from.now ≡ to.now → (self.new.bases ≡ self.old.bases) × (self.new.store ≡ self.old.store) }
         ensures writes { OnOk result
             ((out : List BlockRef) → SoundBeside V.refs_of V.IsSound self.old.bases (B.blocks self.old.store) out
-            → Written V.refs_of (HasValue self.old.bases (B.blocks self.old.store) db from.now) self.old.bases self.new.bases (B.blocks self.old.store) (B.blocks self.new.store)) }
+            → Written V.refs_of (Carried V.refs_of self.old.bases (B.blocks self.old.store) (B.blocks self.new.store) db from.now) self.old.bases self.new.bases (B.blocks self.old.store)
+            (B.blocks self.new.store)) }
         ensures absent { look (means V.value_of db self.old.bases (B.blocks self.old.store)) from.now ≡ None → (self.new.bases ≡ self.old.bases) × (self.new.store ≡ self.old.store) }
         ensures err { OnErr result (means V.value_of db self.new.bases (B.blocks self.new.store) ≡ means V.value_of db self.old.bases (B.blocks self.old.store)) }
+        ensures err_items { OnErr result ((number at : ℕ) → item (table_at self.new.bases number) at ≡ item (table_at self.old.bases number) at) }
         ensures err_blocks { OnErr result (B.blocks self.new.store ≡ B.blocks self.old.store) }
-        ensures err_owned { OnErr result ((r : BlockRef) → times r (owned (V.refs_of (B.blocks self.new.store)) self.new.bases) ≡ times r (owned (V.refs_of (B.blocks self.old.store)) self.old.bases)) }
+        ensures err_owned { OnErr result
+            ((r : BlockRef) → times r (owned (V.refs_of (B.blocks self.new.store)) self.new.bases) ≡ times r (owned (V.refs_of (B.blocks self.old.store)) self.old.bases)) }
         ensures sound { (out : List BlockRef) → SoundBeside V.refs_of V.IsSound self.old.bases (B.blocks self.old.store) out
             → SoundBeside V.refs_of V.IsSound self.new.bases (B.blocks self.new.store) out }
         ensures changes { Changes (B.blocks self.old.store) (B.blocks self.new.store) (owned (V.refs_of (B.blocks self.old.store)) self.old.bases)
@@ -78,11 +81,14 @@ impl<V: Stored, B: BlockStore> Keyspace<V, B> {
         ensures same { db ≡ to_db → from.now ≡ to.now → (self.new.bases ≡ self.old.bases) × (self.new.store ≡ self.old.store) }
         ensures writes { OnOk result
             ((out : List BlockRef) → SoundBeside V.refs_of V.IsSound self.old.bases (B.blocks self.old.store) out
-            → Written V.refs_of (HasValue self.old.bases (B.blocks self.old.store) db from.now) self.old.bases self.new.bases (B.blocks self.old.store) (B.blocks self.new.store)) }
+            → Written V.refs_of (Carried V.refs_of self.old.bases (B.blocks self.old.store) (B.blocks self.new.store) db from.now) self.old.bases self.new.bases (B.blocks self.old.store)
+            (B.blocks self.new.store)) }
         ensures absent { look (means V.value_of db self.old.bases (B.blocks self.old.store)) from.now ≡ None → (self.new.bases ≡ self.old.bases) × (self.new.store ≡ self.old.store) }
         ensures err { OnErr result (means V.value_of db self.new.bases (B.blocks self.new.store) ≡ means V.value_of db self.old.bases (B.blocks self.old.store)) }
+        ensures err_items { OnErr result ((number at : ℕ) → item (table_at self.new.bases number) at ≡ item (table_at self.old.bases number) at) }
         ensures err_blocks { OnErr result (B.blocks self.new.store ≡ B.blocks self.old.store) }
-        ensures err_owned { OnErr result ((r : BlockRef) → times r (owned (V.refs_of (B.blocks self.new.store)) self.new.bases) ≡ times r (owned (V.refs_of (B.blocks self.old.store)) self.old.bases)) }
+        ensures err_owned { OnErr result
+            ((r : BlockRef) → times r (owned (V.refs_of (B.blocks self.new.store)) self.new.bases) ≡ times r (owned (V.refs_of (B.blocks self.old.store)) self.old.bases)) }
         ensures sound { (out : List BlockRef) → SoundBeside V.refs_of V.IsSound self.old.bases (B.blocks self.old.store) out
             → SoundBeside V.refs_of V.IsSound self.new.bases (B.blocks self.new.store) out }
         ensures changes { Changes (B.blocks self.old.store) (B.blocks self.new.store) (owned (V.refs_of (B.blocks self.old.store)) self.old.bases)

@@ -9,6 +9,7 @@ ghost use Rattle.held.specs.Sound.{IsArranged, IsIntact, IsIntactWith, SoundBesi
 ghost use Rattle.held.specs.Table.{item, Stands, Lacks};
 ghost use Rattle.held.specs.Scopes.{one_key, no_key, Within};
 ghost use Rattle.held.specs.Calls.{HasOnly, Found, StandsAt, Seeks, IsDeadline, Lifts, AreParts, Sees};
+ghost use Rattle.held.specs.Written.{KeepBytes};
 
 use crate::keyspace::is_in_time;
 use crate::{Keyspace, Lifted};
@@ -239,6 +240,7 @@ impl<V: Stored, B: BlockStore> Keyspace<V, B> {
             (means V.value_of db self.new.bases (B.blocks self.new.store) ≡ put (means V.value_of db self.old.bases (B.blocks self.old.store)) key.now
             (record { value = V.value_of (B.blocks self.old.store) value; deadline = deadline })) }
         ensures has { OnOk result (HasOnly self.new.bases (B.blocks self.new.store) db key.now value) }
+        ensures value_blocks { OnOk result (KeepBytes (B.blocks self.old.store) (B.blocks self.new.store) (V.refs_of (B.blocks self.old.store) value)) }
         ensures kept { OnErr result (means V.value_of db self.new.bases (B.blocks self.new.store) ≡ means V.value_of db self.old.bases (B.blocks self.old.store)) }
         ensures arranged { IsArranged V.IsSound self.new.bases (B.blocks self.new.store) }
         ensures changes { OnOk result
@@ -246,7 +248,8 @@ impl<V: Stored, B: BlockStore> Keyspace<V, B> {
             (owned (V.refs_of (B.blocks self.new.store)) self.new.bases)) }
         ensures err_blocks { OnErr result (B.blocks self.new.store ≡ B.blocks self.old.store) }
         ensures err_keys { OnErr result ((number : ℕ) → table_at self.new.bases number ≡ table_at self.old.bases number) }
-        ensures err_owned { OnErr result ((r : BlockRef) → times r (owned (V.refs_of (B.blocks self.new.store)) self.new.bases) ≡ times r (owned (V.refs_of (B.blocks self.old.store)) self.old.bases)) }
+        ensures err_owned { OnErr result
+            ((r : BlockRef) → times r (owned (V.refs_of (B.blocks self.new.store)) self.new.bases) ≡ times r (owned (V.refs_of (B.blocks self.old.store)) self.old.bases)) }
         ensures value_returned { IfErr result (λ refused. refused ≡ value) }
         ensures served { Served B.step self.old.store self.new.store }
         ensures settings { SameSettings self.old.bases self.new.bases }
@@ -283,6 +286,7 @@ impl<V: Stored, B: BlockStore> Keyspace<V, B> {
             (means V.value_of db self.new.bases (B.blocks self.new.store) ≡ put (means V.value_of db self.old.bases (B.blocks self.old.store)) key.now
             (record { value = V.value_of (B.blocks self.old.store) value; deadline = deadline })) }
         ensures has { OnOk result (HasOnly self.new.bases (B.blocks self.new.store) db key.now value) }
+        ensures value_blocks { OnOk result (KeepBytes (B.blocks self.old.store) (B.blocks self.new.store) (V.refs_of (B.blocks self.old.store) value)) }
         ensures kept { OnErr result (means V.value_of db self.new.bases (B.blocks self.new.store) ≡ means V.value_of db self.old.bases (B.blocks self.old.store)) }
         ensures arranged { IsArranged V.IsSound self.new.bases (B.blocks self.new.store) }
         ensures changes { OnOk result
@@ -290,7 +294,8 @@ impl<V: Stored, B: BlockStore> Keyspace<V, B> {
             (owned (V.refs_of (B.blocks self.new.store)) self.new.bases)) }
         ensures err_blocks { OnErr result (B.blocks self.new.store ≡ B.blocks self.old.store) }
         ensures err_keys { OnErr result ((number : ℕ) → table_at self.new.bases number ≡ table_at self.old.bases number) }
-        ensures err_owned { OnErr result ((r : BlockRef) → times r (owned (V.refs_of (B.blocks self.new.store)) self.new.bases) ≡ times r (owned (V.refs_of (B.blocks self.old.store)) self.old.bases)) }
+        ensures err_owned { OnErr result
+            ((r : BlockRef) → times r (owned (V.refs_of (B.blocks self.new.store)) self.new.bases) ≡ times r (owned (V.refs_of (B.blocks self.old.store)) self.old.bases)) }
         ensures value_returned { IfErr result (λ refused. refused ≡ value) }
         ensures served { Served B.step self.old.store self.new.store }
         ensures settings { SameSettings self.old.bases self.new.bases }
@@ -328,6 +333,7 @@ impl<V: Stored, B: BlockStore> Keyspace<V, B> {
             (means V.value_of db self.new.bases (B.blocks self.new.store) ≡ put (means V.value_of db self.old.bases (B.blocks self.old.store)) key.now
             (record { value = V.value_of (B.blocks self.old.store) value; deadline = deadline })) }
         ensures has { OnOk result (HasOnly self.new.bases (B.blocks self.new.store) db key.now value) }
+        ensures value_blocks { OnOk result (KeepBytes (B.blocks self.old.store) (B.blocks self.new.store) (V.refs_of (B.blocks self.old.store) value)) }
         ensures kept { OnErr result (means V.value_of db self.new.bases (B.blocks self.new.store) ≡ means V.value_of db self.old.bases (B.blocks self.old.store)) }
         ensures sound { (all out : List BlockRef) → SoundBeside V.refs_of V.IsSound self.old.bases (B.blocks self.old.store) all → AreParts all (V.refs_of (B.blocks self.old.store) value) out
             → SoundBeside V.refs_of V.IsSound self.new.bases (B.blocks self.new.store) out }

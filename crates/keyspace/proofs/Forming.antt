@@ -1,5 +1,5 @@
 -- Which encodings values have that were written.
-use Rattle.std.proofs.Common.{◌≡◌, ◌+◌, ◌<◌, ◌≤◌, inl, inr, ℕ, List, [], ◌∷◌, Bool, true, false, Option, Some, Result, Ok, Err, OnOk, IfOk, unwrap_or, refl, sym, ap, subst, ◌∙◌, arith}
+use Rattle.std.proofs.Common.{◌≡◌, ◌+◌, ◌<◌, ◌≤◌, inl, inr, ℕ, List, [], ◌∷◌, ◌++◌, Bool, true, false, Option, Some, Result, Ok, Err, OnOk, IfOk, unwrap_or, refl, sym, ap, subst, ◌∙◌, arith}
 use Rattle.std.specs.FinMap.{get, get-empty}
 use Rattle.std.specs.Ordering.{nat_cmp}
 use Rattle.std.specs.Cmp.Lexicographic.{slice_cmp}
@@ -9,7 +9,7 @@ use Rattle.blocks.proofs.Refs.{ref_eq_refl}
 use Rattle.blocks.proofs.Change.{one}
 use Rattle.rehash_dict.proofs.Keys.{live_bytes}
 use Rattle.plain_world.specs.Worlds.{World, new_world}
-use Rattle.held.specs.Calls.{HasValue, AllAt, HasOnly}
+use Rattle.held.specs.Calls.{AllAt, HasOnly}
 use Rattle.held.specs.Written as held
 use Rattle.held.proofs.Calls.{look_stands}
 use Rattle.held.proofs.Timing.{some_none}
@@ -21,11 +21,11 @@ use Rattle.keyspace.specs.Databases.{Bases, Keyspace, means, table_at}
 use Rattle.keyspace.specs.Sound.{IsArranged}
 use Rattle.keyspace.specs.Scopes.{Scope, one_key, Within}
 use Rattle.keyspace.specs.Values.{value_of, value_refs, value_own, IsWrittenWhole, IsLike}
-use Rattle.keyspace.specs.Forms.{AreWhole, FormRule, Unwritten, Whole, AsAt, HasForm, Forms, Formed, Place, ArePlaced, Placed, FormedBy}
-use Rattle.keyspace.specs.Forms.{string_form, string_places, list_form, set_form, hash_form, zset_form, stream_form, key_form}
+use Rattle.keyspace.specs.Forms.{AreWhole, FormRule, Unwritten, Whole, AsAt, Either, HasForm, Forms, Formed, Place, ArePlaced, Placed, placed_at, placed_between, FormedBy}
+use Rattle.keyspace.specs.Forms.{string_form, string_places, list_form, list_places, set_form, set_places, hash_form, zset_form, stream_form, key_form}
 use Rattle.plain_model.specs.declared.command.Command.{Command}
 use Rattle.plain_model.specs.declared.command.Command.TheVariants.{Strings, Lists, Sets, Hashes, Zsets, Streams, Keys, Connection}
-use Rattle.std.specs.Prelude.{not, ◌&&◌, if◌then◌else◌}
+use Rattle.std.specs.Prelude.{not, ◌&&◌, bytes_eq, if◌then◌else◌}
 use Rattle.plain_model.specs.Outcomes.{IsRefusal}
 use Rattle.plain_world.specs.declared.refusal.Refusal.{Refusal}
 use Rattle.plain_world.specs.declared.reply.Part.{Part}
@@ -94,10 +94,11 @@ pub like_itself : (value : Value) → IsLike value value
 like_itself value = refl
 
 -- the value that stood at a key moves
-pub formed_moved : (db : ℕ) (key : List ℕ) (old new : Bases) (m after : Blocks) → held.Written value_refs (HasValue old m db key) old new m after → Forms (AsAt db key) old new m after
+pub formed_moved : (db : ℕ) (key : List ℕ) (old new : Bases) (m after : Blocks) → held.Written value_refs (held.Carried value_refs old m after db key) old new m after
+    → Forms (AsAt db key) old new m after
 formed_moved db key old new m after written number at e found = elim (written number at e found) [
   | inl stayed ↦ inl stayed
-  | inr has ↦ inr (e.value, has, like_itself e.value)
+  | inr carried ↦ inr (e.value, carried.had, like_itself e.value)
 ]
 
 -- a value that was made is put at another key
@@ -121,7 +122,7 @@ formed_on blocks form scope old mid new none formed within =
     written_then value_refs (HasForm form old.bases (blocks old.store)) old.bases mid.bases new.bases (blocks old.store) (blocks mid.store) (blocks new.store) formed
     (written_within value_refs (HasForm form old.bases (blocks old.store)) scope none mid.bases new.bases (blocks mid.store) (blocks new.store) within)
 
--- ---- where strings stand
+-- ---- where values stand
 
 -- nothing changes, and the reply is an error
 pub formed_refused : {S E : Type 0} (blocks : S → Blocks) (form : FormRule) (places : List Place) (keyspace : Keyspace S) (refusal : Refusal) (result : Result (List Part) E)
@@ -148,6 +149,11 @@ pub formed_both : {S E : Type 0} (blocks : S → Blocks) (form : FormRule) (plac
 formed_both blocks form places old new (Ok reply) formed placed = (formed, placed)
 formed_both blocks form places old new (Err e) formed placed = tt
 
+-- the same, where nothing is to be said of single keys
+pub formed_nowhere : {S E : Type 0} (blocks : S → Blocks) (form : FormRule) (places : List Place) (old new : Keyspace S) (result : Result (List Part) E)
+    → IfOk result (λ reply. Formed blocks form old new) → places ≡ [] → IfOk result (λ reply. Formed blocks form old new × Placed blocks places reply old new)
+formed_nowhere blocks form places old new result formed none = formed_both blocks form places old new result formed (nowhere_placed blocks places old new result none)
+
 -- what stands at a key that isn't written stood there before, and so is encoded as it was
 pub stayed_at : (Is : Value → Type 0) (scope : Scope) (db : ℕ) (key : List ℕ) → (scope.writes db key → ⊥) → (old new : Bases) (m after : Blocks) → Within scope old new m after
     → AllAt Is old m db key → AllAt Is new after db key
@@ -172,6 +178,35 @@ written_where blocks old new writes form result is formed =
 pub holds_alone : (a b : Bool) → a ≡ true → b ≡ false → (a && not b) ≡ true
 holds_alone a b is none = ap (λ x. x && not b) is ∙ ap not none
 
+-- ---- from one key to another
+
+-- both are one key, where what was put stands
+pub placed_one : (db : ℕ) (from to : List ℕ) (taken put : FormRule) (old new : Bases) (m after : Blocks) → bytes_eq from to ≡ true → ArePlaced (placed_at db to put) old new m after
+    → ArePlaced (placed_between db from to (Either taken put)) old new m after
+placed_one db from to taken put old new m after same placed =
+    subst (λ (b : Bool). ArePlaced (if b then placed_at db to put else placed_at db from taken ++ placed_at db to put) old new m after) (sym same) placed
+
+-- or each has its own
+pub placed_two : (db : ℕ) (from to : List ℕ) (taken put : FormRule) (old new : Bases) (m after : Blocks) → bytes_eq from to ≡ false
+    → ArePlaced (placed_at db from taken ++ placed_at db to put) old new m after → ArePlaced (placed_between db from to (Either taken put)) old new m after
+placed_two db from to taken put old new m after apart placed =
+    subst (λ (b : Bool). ArePlaced (if b then placed_at db to put else placed_at db from taken ++ placed_at db to put) old new m after) (sym apart) placed
+
+module _ {S E : Type 0} (blocks : S → Blocks) (db : ℕ) (from to : List ℕ) where
+  -- something moved by a rule that is this one
+  pub formed_between : (old new : Keyspace S) (form made : FormRule) (result : Result (List Part) E) → form ≡ made → Formed blocks made old new
+      → ArePlaced (placed_between db from to made) old.bases new.bases (blocks old.store) (blocks new.store)
+      → IfOk result (λ reply. Formed blocks form old new × Placed blocks (placed_between db from to form) reply old new)
+  formed_between old new form made result is formed placed =
+      subst (λ (f : FormRule). IfOk result (λ reply. Formed blocks f old new × Placed blocks (placed_between db from to f) reply old new)) (sym is)
+      (formed_both blocks made (placed_between db from to made) old new result (formed_ok blocks made old new result formed)
+      (placed_ok blocks (placed_between db from to made) old new result placed))
+
+  -- nothing moved
+  pub unformed_between : (keyspace : Keyspace S) (form : FormRule) (result : Result (List Part) E) → form ≡ Unwritten
+      → IfOk result (λ reply. Formed blocks form keyspace keyspace × Placed blocks (placed_between db from to form) reply keyspace keyspace)
+  unformed_between keyspace form result is = formed_between keyspace keyspace form Unwritten result is (formed_none blocks Unwritten keyspace) tt
+
 -- ---- and then no key is written
 
 placed_on : {S : Type 0} (blocks : S → Blocks) (scope : Scope) (places : List Place) (old mid new : Keyspace S) → ((db : ℕ) (key : List ℕ) → scope.writes db key → ⊥)
@@ -183,15 +218,23 @@ placed_on blocks scope (place ∷ places) old mid new none placed within = (
   placed_on blocks scope places old mid new none placed.1 within,
 )
 
+both_on : {S : Type 0} (blocks : S → Blocks) (scope : Scope) (form : FormRule) (places : List Place) (reply : List Part) (old mid new : Keyspace S)
+    → ((db : ℕ) (key : List ℕ) → scope.writes db key → ⊥) → Formed blocks form old mid × Placed blocks places reply old mid
+    → Within scope mid.bases new.bases (blocks mid.store) (blocks new.store) → Formed blocks form old new × Placed blocks places reply old new
+both_on blocks scope form places reply old mid new none formed within = (
+  formed_on blocks form scope old mid new none formed.0 within,
+  λ calm. placed_on blocks scope places old mid new none (formed.1 calm) within,
+)
+
 pub formed_by_on : {S : Type 0} (blocks : S → Blocks) (scope : Scope) (db : ℕ) (world : World) (command : Command) (reply : List Part) (old mid new : Keyspace S)
     → ((db : ℕ) (key : List ℕ) → scope.writes db key → ⊥) → FormedBy blocks db world command reply old mid → Within scope mid.bases new.bases (blocks mid.store) (blocks new.store)
     → FormedBy blocks db world command reply old new
-formed_by_on blocks scope db world (Strings command) reply old mid new none formed within = (
-  formed_on blocks (string_form world command) scope old mid new none formed.0 within,
-  λ calm. placed_on blocks scope (string_places db world command) old mid new none (formed.1 calm) within,
-)
-formed_by_on blocks scope db world (Lists command) reply old mid new none formed within = formed_on blocks (list_form db world command) scope old mid new none formed within
-formed_by_on blocks scope db world (Sets command) reply old mid new none formed within = formed_on blocks (set_form db world command) scope old mid new none formed within
+formed_by_on blocks scope db world (Strings command) reply old mid new none formed within =
+    both_on blocks scope (string_form world command) (string_places db world command) reply old mid new none formed within
+formed_by_on blocks scope db world (Lists command) reply old mid new none formed within =
+    both_on blocks scope (list_form db world command) (list_places db world command) reply old mid new none formed within
+formed_by_on blocks scope db world (Sets command) reply old mid new none formed within =
+    both_on blocks scope (set_form db world command) (set_places db world command) reply old mid new none formed within
 formed_by_on blocks scope db world (Hashes command) reply old mid new none formed within = formed_on blocks (hash_form db world command) scope old mid new none formed within
 formed_by_on blocks scope db world (Zsets command) reply old mid new none formed within = formed_on blocks (zset_form db world command) scope old mid new none formed within
 formed_by_on blocks scope db world (Streams command) reply old mid new none formed within = formed_on blocks (stream_form command) scope old mid new none formed within

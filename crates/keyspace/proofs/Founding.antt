@@ -1,5 +1,5 @@
 -- A value is made of one that owns no block, and put at a key.
-use Rattle.std.proofs.Common.{◌≡◌, ℕ, List, [], Option, None, Some, IfSome, IfNone, Result, Ok, Err, OnOk, refl, sym, subst, ◌∙◌, arith}
+use Rattle.std.proofs.Common.{◌≡◌, ℕ, List, [], Option, None, Some, IfSome, IfNone, Result, Ok, Err, OnOk, OnErr, refl, sym, subst, ◌∙◌, arith}
 use Rattle.std.proofs.lemmas.Bool.{cond-true}
 use Rattle.blocks.specs.declared.BlockRef.{BlockRef}
 use Rattle.blocks.specs.Blocks.{Blocks, Changes, ref_eq}
@@ -8,18 +8,24 @@ use Rattle.blocks.proofs.Refs.{ref_eq_refl}
 use Rattle.plain_world.specs.Worlds.{put}
 use Rattle.plain_model.specs.declared.ctx.Ctx.{Ctx}
 use Rattle.held.specs.declared.seeking.Sought.{Sought}
+use Rattle.rehash_dict.specs.Grown.{Grown}
+use Rattle.rehash_dict.specs.Keyed.{hash_of}
+use Rattle.stored.specs.Owning.{no_tables}
 use Rattle.held.specs.Calls.{Seeks, HasOnly}
+use Rattle.held.specs.Written.{KeepBytes}
 use Rattle.held.specs.Table.{Element, item, Stands, Lacks}
 use Rattle.held.proofs.Bases.{kept_inside, table_owned}
 use Rattle.held.proofs.Tables.{named_in}
 use Rattle.held.proofs.Within.{within_store}
 use Rattle.keyspace.specs.declared.value.Value.{Value}
 use Rattle.keyspace.specs.Databases.{Bases, Keyspace, table_at, means}
-use Rattle.keyspace.specs.Sound.{IsIntactWith, Sound, SoundBeside}
-use Rattle.keyspace.specs.Scopes.{Scope, Within}
+use Rattle.keyspace.specs.Sound.{IsArranged, IsIntactWith, Sound, SoundBeside}
+use Rattle.keyspace.specs.Scopes.{Scope, untouched, one_key, Within}
+use Rattle.keyspace.specs.Insides.{Insides}
+use Rattle.keyspace.proofs.Insides.{insides_put, insides_unwritten}
 use Rattle.keyspace.specs.Calls.{AreParts}
 use Rattle.keyspace.specs.Commands.{seen}
-use Rattle.keyspace.specs.Values.{value_refs, value_of, value_own, IsSound}
+use Rattle.keyspace.specs.Values.{value_refs, value_of, value_own, value_tables, IsSound}
 use Rattle.keyspace.specs.Edits.{Shape, shape, MakesNew}
 use Rattle.keyspace.proofs.Uses.{sound_is_intact, changed_sound_in_uses, made_intact, put_sound_in_uses, put_within_in_uses, put_means_in_uses}
 
@@ -54,6 +60,14 @@ module _ (at : Ctx) (old : Bases) (m after : Blocks) (key : List ℕ) (fresh val
   pub new_intact : IsSound old.limits old.seed after value → IsIntactWith old after value
   new_intact is_sound = made_intact old m after value sound made is_sound
 
+  -- from the clauses of `put_sought`, and that the tables of what is put come from none
+  pub new_insides : {E : Type 0} → IsSound old.limits old.seed after value → Grown (hash_of old.seed) no_tables (value_tables after value) → (new : Bases) (later : Blocks)
+      → IsArranged new later → Within (one_key at.db key) old new after later → (result : Result (Unit {0}) E) → OnOk result (HasOnly new later at.db key value)
+      → OnOk result (KeepBytes after later (value_refs after value)) → OnErr result ((number : ℕ) → table_at new number ≡ table_at old number)
+      → OnErr result (Changes after later (value_refs after value) []) → Insides (one_key at.db key) old new m later
+  new_insides is_sound grown new later arranged within result only kept keys gone =
+      insides_put at.db key value old new m after later sound made is_sound grown arranged within result only kept keys gone
+
   pub new_seeks : (sought : Sought) → Seeks old m at.db key sought → Seeks old after at.db key sought
   new_seeks sought seeks = kept_seeks old m after at.db key sought (value_refs after value) sound made seeks
 
@@ -75,6 +89,10 @@ module _ (at : Ctx) (old : Bases) (m after : Blocks) (key : List ℕ) (fresh val
 
     pub undone_sound : Sound old later
     undone_sound = changed_sound_in_uses old m later [] [] [] [] sound gone (λ r. omega arith) (λ r. omega arith)
+
+    pub undone_insides : (scope : Scope) → Insides scope old old m later
+    undone_insides scope = insides_unwritten scope untouched (λ number named no. no) old old m later sound.arranged
+        (within_store value_refs value_of value_own untouched old m later [] [] [] (sound_is_intact old m [] sound) gone (λ r. omega arith))
 
     pub undone_within : (scope : Scope) → Within scope old old m later
     undone_within scope = within_store value_refs value_of value_own scope old m later [] [] [] (sound_is_intact old m [] sound) gone (λ r. omega arith)

@@ -1,5 +1,7 @@
 pub mod Seen
 pub mod Uses
+pub mod Insides
+pub mod Settles
 pub mod Running
 pub mod Serving
 pub mod Tables

@@ -1,5 +1,5 @@
 -- What a command promises, from what its parts do.
-use Rattle.std.proofs.Common.{◌≡◌, List, Result, Ok, Err, IfOk, refl, sym, ap, subst, ◌∙◌}
+use Rattle.std.proofs.Common.{◌≡◌, ℕ, List, Result, Ok, Err, IfOk, refl, sym, ap, subst, ◌∙◌}
 use Rattle.blocks.specs.Blocks.{Blocks, Served}
 use Rattle.plain_world.specs.Worlds.{World}
 use Rattle.plain_model.specs.Outcomes.{Outcome, IsOutcome, IsRefusal, leaves}
@@ -10,13 +10,16 @@ use Rattle.plain_model.specs.declared.command.Command.{Command}
 use Rattle.keyspace.specs.Databases.{Bases, SameSettings}
 use Rattle.keyspace.specs.Sound.{Sound}
 use Rattle.keyspace.specs.Databases.{Keyspace}
-use Rattle.keyspace.specs.Scopes.{Scope, scope_of}
+use Rattle.keyspace.specs.Scopes.{Scope, no_key, one_key, Within, scope_of}
+use Rattle.held.proofs.Within.{within_wider}
+use Rattle.keyspace.specs.Values.{value_refs}
 use Rattle.keyspace.specs.Forms.{Formed, FormRule, FormedBy}
 use Rattle.keyspace.specs.Shown.{Shows}
 use Rattle.keyspace.specs.Commands.{Ready, KeepsTo, KeepsOrRefuses, Runs, visible}
 use Rattle.keyspace.proofs.Forming.{formed_none}
 use Rattle.blocks.proofs.Serve.{served_then}
 use Rattle.keyspace.proofs.Serving.{unmoved, further}
+use Rattle.keyspace.proofs.Insides.{insides_none, insides_then, insides_unwritten, insides_wider}
 
 -- an outcome's own reply and world
 pub outcome_is : (outcome : Outcome) (reply : List Part) (new : World) → outcome ≡ leaves reply new → IsOutcome outcome reply new
@@ -27,7 +30,13 @@ same_settings bases = record { limits = refl; seed = refl; turn = refl }
 
 pub same_held : {S : Type 0} (blocks : S → Blocks) (step : S → S → Type 0) (scope : Scope) (keyspace : Keyspace S) → Sound keyspace.bases (blocks keyspace.store)
     → KeepsTo blocks step scope keyspace keyspace
-same_held blocks step scope keyspace sound = record { sound = sound; served = Served.no_step; settings = same_settings keyspace.bases; within = unmoved scope keyspace.bases (blocks keyspace.store) }
+same_held blocks step scope keyspace sound = record {
+  sound = sound;
+  served = Served.no_step;
+  settings = same_settings keyspace.bases;
+  within = unmoved scope keyspace.bases (blocks keyspace.store);
+  insides = insides_none scope keyspace.bases (blocks keyspace.store);
+}
 
 -- nothing is changed
 pub unchanged : {S E : Type 0} (blocks : S → Blocks) (step : S → S → Type 0) (scope : Scope) (keyspace : Keyspace S) (result : Result (List Part) E)
@@ -43,7 +52,38 @@ held_then blocks step scope a b c p q = record {
   served = served_then _ _ _ p.served q.served;
   settings = record { limits = q.settings.limits ∙ p.settings.limits; seed = q.settings.seed ∙ p.settings.seed; turn = q.settings.turn ∙ p.settings.turn };
   within = further scope a.bases b.bases c.bases (blocks a.store) (blocks b.store) (blocks c.store) p.within q.within;
+  insides = insides_then scope a.bases b.bases (blocks a.store) (blocks b.store) p.settings.seed p.insides c.bases (blocks c.store) q.insides;
 }
+
+-- no key is written
+pub held_unwritten : {S : Type 0} (blocks : S → Blocks) (step : S → S → Type 0) (scope : Scope) (old new : Keyspace S) → ((db : ℕ) (key : List ℕ) → scope.writes db key → ⊥)
+    → Sound old.bases (blocks old.store) → Sound new.bases (blocks new.store) → Served step old.store new.store → SameSettings old.bases new.bases
+    → Within scope old.bases new.bases (blocks old.store) (blocks new.store) → KeepsTo blocks step scope old new
+held_unwritten blocks step scope old new none before sound served settings within = record {
+  sound = sound;
+  served = served;
+  settings = settings;
+  within = within;
+  insides = insides_unwritten scope scope none old.bases new.bases (blocks old.store) (blocks new.store) before.arranged within;
+}
+
+-- what keeps to a scope keeps to a wider one
+pub held_in_wider : {S : Type 0} (blocks : S → Blocks) (step : S → S → Type 0) (scope wider : Scope) (old new : Keyspace S) → ((db : ℕ) → scope.touches db → wider.touches db)
+    → ((db : ℕ) (key : List ℕ) → scope.writes db key → wider.writes db key) → ((db : ℕ) → scope.empties db → wider.empties db) → KeepsTo blocks step scope old new
+    → KeepsTo blocks step wider old new
+held_in_wider blocks step scope wider old new touches writes empties held = record {
+  sound = held.sound;
+  served = held.served;
+  settings = held.settings;
+  within = within_wider value_refs scope wider touches writes empties old.bases new.bases (blocks old.store) (blocks new.store) held.within;
+  insides = insides_wider scope wider writes old.bases new.bases (blocks old.store) (blocks new.store) held.insides;
+}
+
+-- what writes no key keeps to a key of its database
+pub held_at_key : {S : Type 0} (blocks : S → Blocks) (step : S → S → Type 0) (db : ℕ) (key : List ℕ) (old new : Keyspace S) → KeepsTo blocks step (no_key db) old new
+    → KeepsTo blocks step (one_key db key) old new
+held_at_key blocks step db key old new held =
+    held_in_wider blocks step (no_key db) (one_key db key) old new (λ number here. here) (λ number other none. absurd none.1) (λ number no. no) held
 
 -- no refusal: what the parts hold is kept
 pub calm : {S E : Type 0} (blocks : S → Blocks) (step : S → S → Type 0) (scope : Scope) (old new : Keyspace S) (result : Result (List Part) E) → IfOk result (λ reply. IsRefusal reply → ⊥)

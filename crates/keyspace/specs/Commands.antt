@@ -10,6 +10,7 @@ use Rattle.plain_world.specs.declared.reply.Part.{Part}
 use Rattle.keyspace.specs.Databases.{Bases, Keyspace, means, SameSettings}
 use Rattle.keyspace.specs.Sound.{Sound}
 use Rattle.keyspace.specs.Scopes.{Scope, Within, scope_of}
+use Rattle.keyspace.specs.Insides.{Insides}
 use Rattle.keyspace.specs.Shown.{Shows}
 use Rattle.keyspace.specs.Forms.{FormedBy}
 
@@ -26,13 +27,14 @@ pub record Ready {S : Type 0} (blocks : S → Blocks) (keyspace : Keyspace S) (a
   pub sound : Sound keyspace.bases (blocks keyspace.store)
 
 -- The keyspace is sound afterwards, also for want of memory, the store was served placings, returns and writes alone,
--- and nothing changed outside the scope.
+-- nothing changed outside the scope, and the tables inside values come from those before.
 pub record KeepsTo {S : Type 0} (blocks : S → Blocks) (step : S → S → Type 0) (scope : Scope) (old new : Keyspace S)
     : Type 0 where
   pub sound : Sound new.bases (blocks new.store)
   pub served : Served step old.store new.store
   pub settings : SameSettings old.bases new.bases
   pub within : Within scope old.bases new.bases (blocks old.store) (blocks new.store)
+  pub insides : Insides scope old.bases new.bases (blocks old.store) (blocks new.store)
 
 -- The same, and where the command is refused, keyspace and store stay as they are.
 pub record KeepsOrRefuses {S E : Type 0} (blocks : S → Blocks) (step : S → S → Type 0) (scope : Scope) (old new : Keyspace S)

@@ -1,5 +1,5 @@
 -- How commands leave the encodings of values (Redis command reference, "OBJECT ENCODING").
-use Rattle.std.specs.Prelude.{◌≡◌, ◌⊎◌, ◌==◌, ◌&&◌, ℕ, List, [], ◌∷◌, map, length, Bool, true, false, Option, None, Some, is_some, not, bytes_eq, ℤ, ◌+ℤ◌, if◌then◌else◌}
+use Rattle.std.specs.Prelude.{◌≡◌, ◌⊎◌, ◌==◌, ◌&&◌, ℕ, List, [], ◌∷◌, map, length, Bool, true, false, Option, None, Some, is_some, not, bytes_eq, ℤ, ◌+ℤ◌, ◌++◌, if◌then◌else◌}
 use Rattle.blocks.specs.Blocks.{Blocks}
 use Rattle.plain_world.specs.Worlds.{World, Entry, look, look_in}
 use Rattle.plain_model.specs.KeySteps.{or_selected}
@@ -219,6 +219,13 @@ abbrev pub placed_at : ℕ → List ℕ → FormRule → List Place
 placed_at db key Unwritten = []
 placed_at db key form = record { db = db; key = key; form = form } ∷ []
 
+-- Two keys between which something moves, each with its own rule: of what was taken, and of what was put. Where both are
+-- one key, what was put stands there.
+abbrev pub placed_between : ℕ → List ℕ → List ℕ → FormRule → List Place
+placed_between db from to (Either taken put) =
+    if bytes_eq from to then placed_at db to put else placed_at db from taken ++ placed_at db to put
+placed_between db from to other = []
+
 -- a string is written whole where this holds, and else not
 abbrev pub whole_where : Bool → FormRule
 whole_where writes = if writes then Whole else Unwritten
@@ -308,6 +315,14 @@ list_form db world (lists.LMove from to end other) =
 list_form db world (lists.RPopLPush from to) = moved_to db world from to Tail Head (from_end Tail (list_at world from))
 list_form db world other = Unwritten
 
+-- the keys between which a command on lists moves an element, each with its rule
+abbrev pub list_places : ℕ → World → ListCommand → List Place
+list_places db world (lists.LMove from to end other) =
+    placed_between db from to (list_form db world (lists.LMove from to end other))
+list_places db world (lists.RPopLPush from to) =
+    placed_between db from to (list_form db world (lists.RPopLPush from to))
+list_places db world other = []
+
 -- the hash that stands at a key, without a field where none does
 abbrev pub hash_of : Option Entry → Fields
 hash_of None = empty
@@ -347,6 +362,10 @@ set_at world key = set_of (look world key)
 abbrev pub set_with : ℕ → World → List ℕ → List (List ℕ) → FormRule
 set_with db world key others = SetRisen (is_some (look world key)) (set_at world key) others db key
 
+-- a member moves from one set to another: it is there, and the keys differ
+abbrev pub is_moved : World → List ℕ → List ℕ → List ℕ → Bool
+is_moved world from to member = has (set_at world from) member && not (bytes_eq from to)
+
 -- a member that was taken out of a set is added to another one
 abbrev pub set_passed : ℕ → World → List ℕ → List ℕ → List ℕ → FormRule
 set_passed db world from to member = Either (AsAt db from) (set_with db world to (member ∷ []))
@@ -356,10 +375,16 @@ abbrev pub set_form : ℕ → World → SetCommand → FormRule
 set_form db world (sets.SAdd key others) = set_with db world key others
 set_form db world (sets.SRem key others) = AsAt db key
 set_form db world (sets.SMove from to member) =
-    if has (set_at world from) member && not (bytes_eq from to) then set_passed db world from to member else Unwritten
+    if is_moved world from to member then set_passed db world from to member else Unwritten
 set_form db world (sets.SPop key n) = AsAt db key
 set_form db world (sets.SJoinStore how to keys) = NewSet (is_joined how (or_no_sources (sets_at world keys)))
 set_form db world other = Unwritten
+
+-- the keys between which a command on sets moves a member, each with its rule
+abbrev pub set_places : ℕ → World → SetCommand → List Place
+set_places db world (sets.SMove from to member) =
+    placed_between db from to (set_form db world (sets.SMove from to member))
+set_places db world other = []
 
 -- the sorted set that stands at a key, without a member where none does
 abbrev pub zset_of : Option Entry → Scores
@@ -415,11 +440,21 @@ abbrev pub FormedString : {S : Type 0} → (S → Blocks) → ℕ → World → 
 FormedString blocks db world command reply old new =
     Formed blocks (string_form world command) old new × Placed blocks (string_places db world command) reply old new
 
+-- The same of lists: each key between which an element moves has its own rule.
+abbrev pub FormedList : {S : Type 0} → (S → Blocks) → ℕ → World → ListCommand → List Part → Keyspace S → Keyspace S → Type 0
+FormedList blocks db world command reply old new =
+    Formed blocks (list_form db world command) old new × Placed blocks (list_places db world command) reply old new
+
+-- The same of sets.
+abbrev pub FormedSet : {S : Type 0} → (S → Blocks) → ℕ → World → SetCommand → List Part → Keyspace S → Keyspace S → Type 0
+FormedSet blocks db world command reply old new =
+    Formed blocks (set_form db world command) old new × Placed blocks (set_places db world command) reply old new
+
 -- How a command leaves the encodings of values: each that it wrote by its rule.
 abbrev pub FormedBy : {S : Type 0} → (S → Blocks) → ℕ → World → Command → List Part → Keyspace S → Keyspace S → Type 0
 FormedBy blocks db world (Strings command) reply old new = FormedString blocks db world command reply old new
-FormedBy blocks db world (Lists command) reply old new = Formed blocks (list_form db world command) old new
-FormedBy blocks db world (Sets command) reply old new = Formed blocks (set_form db world command) old new
+FormedBy blocks db world (Lists command) reply old new = FormedList blocks db world command reply old new
+FormedBy blocks db world (Sets command) reply old new = FormedSet blocks db world command reply old new
 FormedBy blocks db world (Hashes command) reply old new = Formed blocks (hash_form db world command) old new
 FormedBy blocks db world (Zsets command) reply old new = Formed blocks (zset_form db world command) old new
 FormedBy blocks db world (Streams command) reply old new = Formed blocks (stream_form command) old new

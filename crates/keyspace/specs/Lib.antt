@@ -4,6 +4,7 @@ pub mod Databases
 pub mod Sound
 pub mod Worlds
 pub mod Scopes
+pub mod Insides
 pub mod Calls
 pub mod Forms
 pub mod Sifted

@@ -29,212 +29,174 @@ pub use Rattle.held.specs.Scopes.{Scope, untouched, one_key, some_keys, no_key, 
 abbrev pub Within : Scope → Bases → Bases → Blocks → Blocks → Type 0
 Within scope old new m after = held.Within value_refs scope old new m after
 
--- What a command may change: nothing; in a database, keys that may leave it and deadlines, and no value; the value at a
--- key too, or at some keys, or at a key of each of two databases; all that a database holds, or all of them.
-pub data Reach : Type 0 where
-  Nothing : Reach
-  NoKey : ℕ → Reach
-  OneKey : ℕ → List ℕ → Reach
-  SomeKeys : ℕ → List (List ℕ) → Reach
-  TwoKeys : ℕ → List ℕ → ℕ → List ℕ → Reach
-  AllKeys : ℕ → Reach
-  Everything : Reach
-
-abbrev pub scope : Reach → Scope
-scope Nothing = untouched
-scope (NoKey db) = no_key db
-scope (OneKey db key) = one_key db key
-scope (SomeKeys db keys) = some_keys db keys
-scope (TwoKeys db key other_db other) = two_keys db key other_db other
-scope (AllKeys db) = all_keys db
-scope Everything = everything
-
--- the first words of pairs
-abbrev pub first_words : List (List ℕ × List ℕ) → List (List ℕ)
-first_words pairs = map (λ pair. pair.0) pairs
-
-abbrev pub string_reach : ℕ → StringCommand → Reach
-string_reach db (strings.Get key) = Nothing
-string_reach db (strings.Set key value options) = OneKey db key
-string_reach db (strings.SetNx key value) = OneKey db key
-string_reach db (strings.SetEx key n value) = OneKey db key
-string_reach db (strings.PSetEx key n value) = OneKey db key
-string_reach db (strings.GetEx key renewal) = NoKey db
-string_reach db (strings.GetSet key value) = OneKey db key
-string_reach db (strings.GetDel key) = NoKey db
-string_reach db (strings.MGet keys) = Nothing
-string_reach db (strings.MSet pairs) = SomeKeys db (first_words pairs)
-string_reach db (strings.MSetNx pairs) = SomeKeys db (first_words pairs)
-string_reach db (strings.Append key tail) = OneKey db key
-string_reach db (strings.StrLen key) = Nothing
-string_reach db (strings.GetRange key a b) = Nothing
-string_reach db (strings.SetRange key at piece) = OneKey db key
-string_reach db (strings.Incr key) = OneKey db key
-string_reach db (strings.Decr key) = OneKey db key
-string_reach db (strings.IncrBy key n) = OneKey db key
-string_reach db (strings.DecrBy key n) = OneKey db key
-
-abbrev pub string_scope : ℕ → StringCommand → Scope
-string_scope db command = scope (string_reach db command)
-
-abbrev pub list_reach : ℕ → ListCommand → Reach
-list_reach db (lists.LPush key elements) = OneKey db key
-list_reach db (lists.RPush key elements) = OneKey db key
-list_reach db (lists.LPushX key elements) = OneKey db key
-list_reach db (lists.RPushX key elements) = OneKey db key
-list_reach db (lists.LPop key n) = OneKey db key
-list_reach db (lists.RPop key n) = OneKey db key
-list_reach db (lists.LLen key) = Nothing
-list_reach db (lists.LIndex key index) = Nothing
-list_reach db (lists.LSet key index element) = OneKey db key
-list_reach db (lists.LRange key a b) = Nothing
-list_reach db (lists.LTrim key a b) = OneKey db key
-list_reach db (lists.LInsert key side pivot element) = OneKey db key
-list_reach db (lists.LRem key n element) = OneKey db key
-list_reach db (lists.LPos key element options) = Nothing
-list_reach db (lists.LMove from to end other) = TwoKeys db from db to
-list_reach db (lists.RPopLPush from to) = TwoKeys db from db to
-
-abbrev pub list_scope : ℕ → ListCommand → Scope
-list_scope db command = scope (list_reach db command)
-
-abbrev pub set_reach : ℕ → SetCommand → Reach
-set_reach db (sets.SAdd key others) = OneKey db key
-set_reach db (sets.SRem key others) = OneKey db key
-set_reach db (sets.SIsMember key member) = Nothing
-set_reach db (sets.SMIsMember key others) = Nothing
-set_reach db (sets.SMembers key) = Nothing
-set_reach db (sets.SCard key) = Nothing
-set_reach db (sets.SMove from to member) = TwoKeys db from db to
-set_reach db (sets.SPop key n) = OneKey db key
-set_reach db (sets.SRandMember key n) = Nothing
-set_reach db (sets.SJoin how keys) = Nothing
-set_reach db (sets.SJoinStore how to keys) = OneKey db to
-set_reach db (sets.SInterCard keys limit) = Nothing
-set_reach db (sets.SScan key cursor options) = Nothing
-
-abbrev pub set_scope : ℕ → SetCommand → Scope
-set_scope db command = scope (set_reach db command)
-
-abbrev pub hash_reach : ℕ → HashCommand → Reach
-hash_reach db (hashes.HSet key pairs) = OneKey db key
-hash_reach db (hashes.HMSet key pairs) = OneKey db key
-hash_reach db (hashes.HSetNx key field value) = OneKey db key
-hash_reach db (hashes.HGet key field) = Nothing
-hash_reach db (hashes.HMGet key others) = Nothing
-hash_reach db (hashes.HDel key others) = OneKey db key
-hash_reach db (hashes.HExists key field) = Nothing
-hash_reach db (hashes.HLen key) = Nothing
-hash_reach db (hashes.HStrLen key field) = Nothing
-hash_reach db (hashes.HKeys key) = Nothing
-hash_reach db (hashes.HVals key) = Nothing
-hash_reach db (hashes.HGetAll key) = Nothing
-hash_reach db (hashes.HIncrBy key field n) = OneKey db key
-hash_reach db (hashes.HRandField key n with_values) = Nothing
-hash_reach db (hashes.HScan key cursor options) = Nothing
-
-abbrev pub hash_scope : ℕ → HashCommand → Scope
-hash_scope db command = scope (hash_reach db command)
-
-abbrev pub zset_reach : ℕ → ZsetCommand → Reach
-zset_reach db (zsets.ZAdd key rules ch pairs) = OneKey db key
-zset_reach db (zsets.ZIncr key rules by member) = OneKey db key
-zset_reach db (zsets.ZRem key members) = OneKey db key
-zset_reach db (zsets.ZScore key member) = Nothing
-zset_reach db (zsets.ZMScore key members) = Nothing
-zset_reach db (zsets.ZCard key) = Nothing
-zset_reach db (zsets.ZCount key min max) = Nothing
-zset_reach db (zsets.ZRank key member from with_score) = Nothing
-zset_reach db (zsets.ZRange key a b from with_scores) = Nothing
-zset_reach db (zsets.ZRangeByScore key min max from limit with_scores) = Nothing
-zset_reach db (zsets.ZRemRangeByRank key a b) = OneKey db key
-zset_reach db (zsets.ZRemRangeByScore key min max) = OneKey db key
-zset_reach db (zsets.ZPop key from n) = OneKey db key
-zset_reach db (zsets.ZRandMember key n with_scores) = Nothing
-zset_reach db (zsets.ZJoinStore join to keys how) = OneKey db to
-zset_reach db (zsets.ZScan key cursor options) = Nothing
-
-abbrev pub zset_scope : ℕ → ZsetCommand → Scope
-zset_scope db command = scope (zset_reach db command)
-
--- the keys that are asked for
-abbrev pub asked_keys : List Asked → List (List ℕ)
-asked_keys asked = map (λ (one : Asked). one.0) asked
-
-abbrev pub stream_reach : ℕ → StreamCommand → Reach
-stream_reach db (streams.XAdd key options id pairs) = OneKey db key
-stream_reach db (streams.XLen key) = Nothing
-stream_reach db (streams.XRange key from to order limit) = Nothing
-stream_reach db (streams.XDel key ids) = OneKey db key
-stream_reach db (streams.XTrim key trim) = OneKey db key
-stream_reach db (streams.XRead limit asked) = Nothing
-stream_reach db (streams.XGroupCreate key name id make) = OneKey db key
-stream_reach db (streams.XGroupDestroy key name) = OneKey db key
-stream_reach db (streams.XReadGroup name consumer limit asked) = SomeKeys db (asked_keys asked)
-stream_reach db (streams.XAck key name ids) = OneKey db key
-stream_reach db (streams.XPending key name) = Nothing
-
-abbrev pub stream_scope : ℕ → StreamCommand → Scope
-stream_scope db command = scope (stream_reach db command)
-
 -- the database of this number, or else the selected one
 abbrev pub number_or : ℕ → Option ℕ → ℕ
 number_or db None = db
 number_or db (Some number) = number
 
-abbrev pub key_reach : ℕ → KeyCommand → Reach
-key_reach db (keys.Del names) = NoKey db
-key_reach db (keys.Unlink names) = NoKey db
-key_reach db (keys.Exists names) = Nothing
-key_reach db (keys.Touch names) = Nothing
-key_reach db (keys.TypeOf key) = Nothing
-key_reach db (keys.Expire key n options) = NoKey db
-key_reach db (keys.PExpire key n options) = NoKey db
-key_reach db (keys.ExpireAt key n options) = NoKey db
-key_reach db (keys.PExpireAt key n options) = NoKey db
-key_reach db (keys.Ttl key) = Nothing
-key_reach db (keys.PTtl key) = Nothing
-key_reach db (keys.ExpireTime key) = Nothing
-key_reach db (keys.PExpireTime key) = Nothing
-key_reach db (keys.Persist key) = NoKey db
-key_reach db (keys.Rename from to) = TwoKeys db from db to
-key_reach db (keys.RenameNx from to) = TwoKeys db from db to
-key_reach db (keys.Copy from to options) = TwoKeys db from (number_or db options.db) to
-key_reach db (keys.MoveKey key number) = TwoKeys db key number key
-key_reach db keys.RandomKey = Nothing
-key_reach db (keys.ObjectEncoding key) = Nothing
-key_reach db (keys.KeysLike pattern) = Nothing
-key_reach db (keys.Scan cursor options) = Nothing
+-- What a command may change in the database that is selected: nothing; keys that may leave it and deadlines, and no value;
+-- the value at a key too, or at some keys, or at two.
+pub data Reach : Type 0 where
+  Nothing : Reach
+  NoKey : Reach
+  OneKey : List ℕ → Reach
+  SomeKeys : List (List ℕ) → Reach
+  TwoKeys : List ℕ → List ℕ → Reach
+
+-- What it may change in all: so much in the selected database; the value at a key there, and at one in the database of this
+-- number, or else there too; all that the selected one holds; all that any holds.
+pub data WholeReach : Type 0 where
+  Here : Reach → WholeReach
+  Across : List ℕ → Option ℕ → List ℕ → WholeReach
+  AllKeys : WholeReach
+  Everything : WholeReach
+
+abbrev pub scope_here : ℕ → Reach → Scope
+scope_here db Nothing = untouched
+scope_here db NoKey = no_key db
+scope_here db (OneKey key) = one_key db key
+scope_here db (SomeKeys keys) = some_keys db keys
+scope_here db (TwoKeys key other) = two_keys db key db other
+
+abbrev pub scope : ℕ → WholeReach → Scope
+scope db (Here own) = scope_here db own
+scope db (Across key number other) = two_keys db key (number_or db number) other
+scope db AllKeys = all_keys db
+scope db Everything = everything
+
+-- ---- each command: one that only looks has no line
+
+-- the first words of pairs
+abbrev pub first_words : List (List ℕ × List ℕ) → List (List ℕ)
+first_words pairs = map (λ pair. pair.0) pairs
+
+abbrev pub string_reach : StringCommand → Reach
+string_reach (strings.Set key value options) = OneKey key
+string_reach (strings.SetNx key value) = OneKey key
+string_reach (strings.SetEx key n value) = OneKey key
+string_reach (strings.PSetEx key n value) = OneKey key
+string_reach (strings.GetEx key renewal) = NoKey
+string_reach (strings.GetSet key value) = OneKey key
+string_reach (strings.GetDel key) = NoKey
+string_reach (strings.MSet pairs) = SomeKeys (first_words pairs)
+string_reach (strings.MSetNx pairs) = SomeKeys (first_words pairs)
+string_reach (strings.Append key tail) = OneKey key
+string_reach (strings.SetRange key at piece) = OneKey key
+string_reach (strings.Incr key) = OneKey key
+string_reach (strings.Decr key) = OneKey key
+string_reach (strings.IncrBy key n) = OneKey key
+string_reach (strings.DecrBy key n) = OneKey key
+string_reach other = Nothing
+
+abbrev pub string_scope : ℕ → StringCommand → Scope
+string_scope db command = scope_here db (string_reach command)
+
+abbrev pub list_reach : ListCommand → Reach
+list_reach (lists.LPush key elements) = OneKey key
+list_reach (lists.RPush key elements) = OneKey key
+list_reach (lists.LPushX key elements) = OneKey key
+list_reach (lists.RPushX key elements) = OneKey key
+list_reach (lists.LPop key n) = OneKey key
+list_reach (lists.RPop key n) = OneKey key
+list_reach (lists.LSet key index element) = OneKey key
+list_reach (lists.LTrim key a b) = OneKey key
+list_reach (lists.LInsert key side pivot element) = OneKey key
+list_reach (lists.LRem key n element) = OneKey key
+list_reach (lists.LMove from to end other) = TwoKeys from to
+list_reach (lists.RPopLPush from to) = TwoKeys from to
+list_reach other = Nothing
+
+abbrev pub list_scope : ℕ → ListCommand → Scope
+list_scope db command = scope_here db (list_reach command)
+
+abbrev pub set_reach : SetCommand → Reach
+set_reach (sets.SAdd key others) = OneKey key
+set_reach (sets.SRem key others) = OneKey key
+set_reach (sets.SMove from to member) = TwoKeys from to
+set_reach (sets.SPop key n) = OneKey key
+set_reach (sets.SJoinStore how to keys) = OneKey to
+set_reach other = Nothing
+
+abbrev pub set_scope : ℕ → SetCommand → Scope
+set_scope db command = scope_here db (set_reach command)
+
+abbrev pub hash_reach : HashCommand → Reach
+hash_reach (hashes.HSet key pairs) = OneKey key
+hash_reach (hashes.HMSet key pairs) = OneKey key
+hash_reach (hashes.HSetNx key field value) = OneKey key
+hash_reach (hashes.HDel key others) = OneKey key
+hash_reach (hashes.HIncrBy key field n) = OneKey key
+hash_reach other = Nothing
+
+abbrev pub hash_scope : ℕ → HashCommand → Scope
+hash_scope db command = scope_here db (hash_reach command)
+
+abbrev pub zset_reach : ZsetCommand → Reach
+zset_reach (zsets.ZAdd key rules ch pairs) = OneKey key
+zset_reach (zsets.ZIncr key rules by member) = OneKey key
+zset_reach (zsets.ZRem key members) = OneKey key
+zset_reach (zsets.ZRemRangeByRank key a b) = OneKey key
+zset_reach (zsets.ZRemRangeByScore key min max) = OneKey key
+zset_reach (zsets.ZPop key from n) = OneKey key
+zset_reach (zsets.ZJoinStore join to keys how) = OneKey to
+zset_reach other = Nothing
+
+abbrev pub zset_scope : ℕ → ZsetCommand → Scope
+zset_scope db command = scope_here db (zset_reach command)
+
+-- the keys that are asked for
+abbrev pub asked_keys : List Asked → List (List ℕ)
+asked_keys asked = map (λ (one : Asked). one.0) asked
+
+abbrev pub stream_reach : StreamCommand → Reach
+stream_reach (streams.XAdd key options id pairs) = OneKey key
+stream_reach (streams.XDel key ids) = OneKey key
+stream_reach (streams.XTrim key trim) = OneKey key
+stream_reach (streams.XGroupCreate key name id make) = OneKey key
+stream_reach (streams.XGroupDestroy key name) = OneKey key
+stream_reach (streams.XReadGroup name consumer limit asked) = SomeKeys (asked_keys asked)
+stream_reach (streams.XAck key name ids) = OneKey key
+stream_reach other = Nothing
+
+abbrev pub stream_scope : ℕ → StreamCommand → Scope
+stream_scope db command = scope_here db (stream_reach command)
+
+abbrev pub key_reach : KeyCommand → WholeReach
+key_reach (keys.Del names) = Here NoKey
+key_reach (keys.Unlink names) = Here NoKey
+key_reach (keys.Expire key n options) = Here NoKey
+key_reach (keys.PExpire key n options) = Here NoKey
+key_reach (keys.ExpireAt key n options) = Here NoKey
+key_reach (keys.PExpireAt key n options) = Here NoKey
+key_reach (keys.Persist key) = Here NoKey
+key_reach (keys.Rename from to) = Here (TwoKeys from to)
+key_reach (keys.RenameNx from to) = Here (TwoKeys from to)
+key_reach (keys.Copy from to options) = Across from options.db to
+key_reach (keys.MoveKey key number) = Across key (Some number) key
+key_reach other = Here Nothing
 
 abbrev pub key_scope : ℕ → KeyCommand → Scope
-key_scope db command = scope (key_reach db command)
+key_scope db command = scope db (key_reach command)
 
-abbrev pub connection_reach : ℕ → ConnectionCommand → Reach
-connection_reach db (connection.Ping text) = Nothing
-connection_reach db (connection.Echo text) = Nothing
-connection_reach db connection.Quit = Nothing
-connection_reach db (connection.Select number) = Nothing
-connection_reach db connection.DbSize = NoKey db
-connection_reach db connection.FlushDb = AllKeys db
-connection_reach db connection.FlushAll = Everything
-connection_reach db connection.MemorySlabs = Nothing
-connection_reach db (connection.DebugRehash n) = Nothing
-connection_reach db (connection.DebugDefrag n) = Nothing
+abbrev pub connection_reach : ConnectionCommand → WholeReach
+connection_reach connection.DbSize = Here NoKey
+connection_reach connection.FlushDb = AllKeys
+connection_reach connection.FlushAll = Everything
+connection_reach other = Here Nothing
 
 abbrev pub connection_scope : ℕ → ConnectionCommand → Scope
-connection_scope db command = scope (connection_reach db command)
+connection_scope db command = scope db (connection_reach command)
 
--- What a command but DEBUG may change, where this database is selected. A key that it removes, or whose deadline it
--- changes, it doesn't write.
-abbrev pub reach_of : ℕ → Command → Reach
-reach_of db (Strings command) = string_reach db command
-reach_of db (Lists command) = list_reach db command
-reach_of db (Sets command) = set_reach db command
-reach_of db (Hashes command) = hash_reach db command
-reach_of db (Zsets command) = zset_reach db command
-reach_of db (Streams command) = stream_reach db command
-reach_of db (Keys command) = key_reach db command
-reach_of db (Connection command) = connection_reach db command
+-- What a command but DEBUG may change. A key that it removes, or whose deadline it changes, it doesn't write.
+abbrev pub reach_of : Command → WholeReach
+reach_of (Strings command) = Here (string_reach command)
+reach_of (Lists command) = Here (list_reach command)
+reach_of (Sets command) = Here (set_reach command)
+reach_of (Hashes command) = Here (hash_reach command)
+reach_of (Zsets command) = Here (zset_reach command)
+reach_of (Streams command) = Here (stream_reach command)
+reach_of (Keys command) = key_reach command
+reach_of (Connection command) = connection_reach command
 
 abbrev pub scope_of : ℕ → Command → Scope
-scope_of db command = scope (reach_of db command)
+scope_of db command = scope db (reach_of command)

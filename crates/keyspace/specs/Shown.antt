@@ -1,4 +1,4 @@
--- What a reply shows of the tables and values that stand, beside what the world fixes.
+-- What a reply shows of the tables and values that stand, beside what the world fixes, and what a command leaves of them.
 use Rattle.std.specs.Prelude.{◌≡◌, ◌<◌, ℕ, List, [], ◌∷◌, map, Bool, true, false, nat_lt, pos, None}
 use Rattle.std.specs.List.{filter, range_with_len}
 use Rattle.blocks.specs.Blocks.{Blocks}
@@ -32,6 +32,7 @@ use Rattle.keyspace.specs.Databases.{Bases, Keyspace, means, table_at}
 use Rattle.keyspace.specs.Values.{value_of, value_refs, IsEncodedAs}
 use Rattle.keyspace.specs.declared.value.Value.{Value}
 use Rattle.keyspace.specs.Pages.{IsValuePage}
+use Rattle.keyspace.specs.Insides.{SettlesAt}
 pub use Rattle.keyspace.specs.Sifted.{Sifted, end, keeps, drops}
 
 -- ---- SCAN
@@ -127,25 +128,38 @@ connection_shown blocks old new at connection.FlushDb reply = IsEmptied blocks o
 connection_shown blocks old new at connection.FlushAll reply = AreEmptied blocks old new at
 connection_shown blocks old new at other reply = Unit {0}
 
-abbrev pub set_shown : Bases → Blocks → Ctx → SetCommand → List Part → Type 0
-set_shown bases m at (sets.SScan key cursor options) reply = IsValuePage bases m at key cursor options false reply
-set_shown bases m at other reply = Unit {0}
+-- what takes elements out of a value leaves its tables settled
+abbrev pub set_shown : {S : Type 0} → (S → Blocks) → Keyspace S → Keyspace S → Ctx → SetCommand → List Part → Type 0
+set_shown blocks old new at (sets.SRem key others) reply = SettlesAt blocks old new at key
+set_shown blocks old new at (sets.SMove from to member) reply = SettlesAt blocks old new at from
+set_shown blocks old new at (sets.SPop key n) reply = SettlesAt blocks old new at key
+set_shown blocks old new at (sets.SScan key cursor options) reply =
+    IsValuePage old.bases (blocks old.store) at key cursor options false reply
+set_shown blocks old new at other reply = Unit {0}
 
-abbrev pub hash_shown : Bases → Blocks → Ctx → HashCommand → List Part → Type 0
-hash_shown bases m at (hashes.HScan key cursor options) reply = IsValuePage bases m at key cursor options true reply
-hash_shown bases m at other reply = Unit {0}
+abbrev pub hash_shown : {S : Type 0} → (S → Blocks) → Keyspace S → Keyspace S → Ctx → HashCommand → List Part → Type 0
+hash_shown blocks old new at (hashes.HDel key others) reply = SettlesAt blocks old new at key
+hash_shown blocks old new at (hashes.HScan key cursor options) reply =
+    IsValuePage old.bases (blocks old.store) at key cursor options true reply
+hash_shown blocks old new at other reply = Unit {0}
 
-abbrev pub zset_shown : Bases → Blocks → Ctx → ZsetCommand → List Part → Type 0
-zset_shown bases m at (zsets.ZScan key cursor options) reply = IsValuePage bases m at key cursor options true reply
-zset_shown bases m at other reply = Unit {0}
+abbrev pub zset_shown : {S : Type 0} → (S → Blocks) → Keyspace S → Keyspace S → Ctx → ZsetCommand → List Part → Type 0
+zset_shown blocks old new at (zsets.ZRem key members) reply = SettlesAt blocks old new at key
+zset_shown blocks old new at (zsets.ZRemRangeByRank key a b) reply = SettlesAt blocks old new at key
+zset_shown blocks old new at (zsets.ZRemRangeByScore key min max) reply = SettlesAt blocks old new at key
+zset_shown blocks old new at (zsets.ZPop key from n) reply = SettlesAt blocks old new at key
+zset_shown blocks old new at (zsets.ZScan key cursor options) reply =
+    IsValuePage old.bases (blocks old.store) at key cursor options true reply
+zset_shown blocks old new at other reply = Unit {0}
 
--- what the reply to a command shows of tables and values as they stand, and which keys it leaves, gone or not
+-- what the reply to a command shows of tables and values as they stand, which keys it leaves, gone or not, and which
+-- tables settled
 abbrev pub Shows : {S : Type 0} → (S → Blocks) → Keyspace S → Keyspace S → Ctx → Command → List Part → Type 0
 Shows blocks old new at (Strings command) reply = Unit {0}
 Shows blocks old new at (Lists command) reply = Unit {0}
-Shows blocks old new at (Sets command) reply = set_shown old.bases (blocks old.store) at command reply
-Shows blocks old new at (Hashes command) reply = hash_shown old.bases (blocks old.store) at command reply
-Shows blocks old new at (Zsets command) reply = zset_shown old.bases (blocks old.store) at command reply
+Shows blocks old new at (Sets command) reply = set_shown blocks old new at command reply
+Shows blocks old new at (Hashes command) reply = hash_shown blocks old new at command reply
+Shows blocks old new at (Zsets command) reply = zset_shown blocks old new at command reply
 Shows blocks old new at (Streams command) reply = Unit {0}
 Shows blocks old new at (Keys command) reply = key_shown old.bases (blocks old.store) at command reply
 Shows blocks old new at (Connection command) reply = connection_shown blocks old new at command reply

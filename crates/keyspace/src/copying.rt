@@ -4,7 +4,10 @@ ghost use Rattle.std.specs.Prelude.{◌≡◌, ℕ, [], IfOk, OnErr};
 ghost use Rattle.blocks.specs.Blocks.{Changes, Owned, Served};
 ghost use Rattle.object_codec.specs.Limits.{AreInRange};
 ghost use Rattle.object_codec.specs.declared.limits.Limits.{Limits};
-ghost use Rattle.keyspace.specs.Values.{value_of, value_refs, IsSound, IsLike};
+ghost use Rattle.rehash_dict.specs.Grown.{Grown};
+ghost use Rattle.rehash_dict.specs.Keyed.{hash_of};
+ghost use Rattle.stored.specs.Owning.{no_tables};
+ghost use Rattle.keyspace.specs.Values.{value_of, value_refs, value_tables, IsSound, IsLike};
 
 use crate::Value;
 use blocks::{BlockStore, Memory};
@@ -17,7 +20,8 @@ use stream_object::Stream;
 use zset_object::Scored;
 
 impl Value {
-    /// Another value that means the same, with the same encoding, in blocks of its own. `Memory` leaves all blocks.
+    /// Another value that means the same, with the same encoding, in blocks of its own; its tables come from none. `Memory` leaves all
+    /// blocks.
     ///
     /// The box that a large value stands in is made before any of its blocks.
     pub fn copy<B: BlockStore>(
@@ -32,6 +36,8 @@ impl Value {
         ensures sound { IfOk result (λ value. (limits : Limits) (seed : ℕ) → IsSound limits seed (B.blocks store.old) self.now → IsSound limits seed (B.blocks store.new) value) }
         ensures same { IfOk result (λ value. value_of (B.blocks store.new) value ≡ value_of (B.blocks store.old) self.now) }
         ensures encoding { IfOk result (λ value. IsLike self.now value) }
+        ensures grown { IfOk result (λ value. (limits : Limits) (seed : ℕ) → IsSound limits seed (B.blocks store.old) self.now
+            → Grown (hash_of seed) no_tables (value_tables (B.blocks store.new) value)) }
         ensures changes { IfOk result (λ value. Changes (B.blocks store.old) (B.blocks store.new) [] (value_refs (B.blocks store.new) value)) }
         ensures served { Served B.step store.old store.new }
         ensures err { OnErr result (B.blocks store.new ≡ B.blocks store.old) }

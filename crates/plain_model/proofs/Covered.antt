@@ -1,6 +1,6 @@
 -- Complete scans of a run cover what stayed.
 use Rattle.std.proofs.Common.{◌≡◌, ℕ, ◌<◌, ◌≤◌, ◌^◌, ◌-◌, List, [], ◌∷◌, ◌++◌, map, Bool, Result, Ok, Err, Option, Some, None, refl, sym, subst, ◌∙◌, arith, ◌⊎◌, inl, inr}
-use Rattle.std.specs.Prelude.{MatchResult, true, false, nat_lt}
+use Rattle.std.specs.Prelude.{true, false, nat_lt}
 use Rattle.std.proofs.Common.{ltb-true, ltb-false}
 use Rattle.digests.specs.Siphash.{sip}
 use Rattle.std.specs.List.{AllByRecursion, Contains}
@@ -21,6 +21,7 @@ use Rattle.plain_model.specs.Runs.{Turn, run}
 use Rattle.plain_model.specs.Scans.{Sought, Passes, is_in, place_of, Page, keys_sought, held_sought, listed, listed_with, paged_as, paged}
 use Rattle.plain_model.specs.OfType.{set_in, hash_in, zset_in, may_tell, may_tell_of}
 use Rattle.plain_model.proofs.Bulks.{bulks_same, followed, pairs_same}
+use Rattle.plain_model.proofs.Led.{Leads, led}
 use Rattle.plain_model.specs.Coverage.{ScanCall, key_scan, set_scan, hash_scan, zset_scan, scan_asked, TellsPage, Reports, Chain, between, more, last, IsReported}
 use Rattle.plain_model.specs.Laws.{RunsAreCovered}
 use Rattle.plain_model.specs.declared.command.Command.{Command}
@@ -134,12 +135,8 @@ zset_page seed world moment (zsets.ZScan key from options) reply new sought curs
     (record { cursor = from; sought = held_sought world.selected key options; pairs = true }) refl is.0 is.1 is.2 (_, is.3))
 zset_page seed world moment c reply new sought cursor next xs pairs may asked fits told = absurd (cc asked)
 
-abbrev leads : ℕ → World → ℕ → List Part → World → Result Command Refusal → Type 0
-leads seed old moment reply new m =
-    MatchResult m (λ command. may seed (live old moment) moment command reply new) (λ refusal. (reply ≡ Refused refusal ∷ []) × (new ≡ live old moment))
-
 meant_page : (seed : ℕ) (old : World) (moment : ℕ) (m : Result Command Refusal) (reply : List Part) (new : World) (sought : Sought) (cursor next : ℕ) (xs : List (List ℕ)) (pairs : Bool)
-    → leads seed old moment reply new m
+    → Leads seed (live old moment) moment reply new m
     → scan_asked old.selected m ≡ Some (record { cursor = cursor; sought = sought; pairs = pairs }) → next < 2 ^ 64 → TellsPage pairs next xs reply → Page seed (live old moment) sought cursor next xs
 meant_page seed old moment (Ok (Strings c)) reply new sought cursor next xs pairs l asked fits told = absurd (cc asked)
 meant_page seed old moment (Ok (Lists c)) reply new sought cursor next xs pairs l asked fits told = absurd (cc asked)
@@ -162,7 +159,8 @@ turn_paged seed sought old turn new seen done cursor next page r =
     let P : World → Type 0 = λ w. Page seed w sought cursor next page in
     let A : World → Type 0 = λ w. scan_asked w.selected (meant turn.call.words) ≡ Some (record { cursor = cursor; sought = sought; pairs = r.pairs }) in
     let asked = subst A seen r.asked in
-    subst P (sym seen) (meant_page seed old turn.call.moment (meant turn.call.words) turn.reply new sought cursor next page r.pairs done asked r.fits r.reply)
+    let answered = led seed (live old turn.call.moment) turn.call.moment (meant turn.call.words) turn.reply new done in
+    subst P (sym seen) (meant_page seed old turn.call.moment (meant turn.call.words) turn.reply new sought cursor next page r.pairs answered asked r.fits r.reply)
 
 run_paged : (seed : ℕ) (sought : Sought) (old : World) (turns : List Turn) (new : World) → run seed old turns new → AllByRecursion (IsPaged seed sought) turns
 run_paged seed sought old [] new r = tt

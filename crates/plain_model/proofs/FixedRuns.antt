@@ -1,6 +1,6 @@
 -- The bytes of a run's replies fix the run.
 use Rattle.std.proofs.Common.{◌≡◌, ℕ, ◌+◌, List, [], ◌∷◌, map, length, Bool, Option, Some, None, Result, Ok, Err, refl, sym, ap, subst, ◌∙◌, arith}
-use Rattle.std.specs.Prelude.{MatchResult, ℤ, min, is_some}
+use Rattle.std.specs.Prelude.{ℤ, min, is_some}
 use Rattle.std.proofs.lemmas.Grind.{common_steps}
 use Rattle.std.specs.FinMap.{get, len, same_map, slice_cmp-IsAntisymmetric, nat_cmp-IsAntisymmetric}
 use Rattle.std.specs.Cmp.Lexicographic.{nat_list_cmp_total}
@@ -17,6 +17,7 @@ use Rattle.plain_model.specs.ZsetSteps.{Scores, zsets_at, weights_of, store_scor
 use Rattle.plain_model.specs.Picks.{ArePicked, picks_told, as_number}
 use Rattle.plain_model.specs.Scans.{listed}
 use Rattle.plain_model.proofs.Bulks.{bulks_same}
+use Rattle.plain_model.proofs.Led.{Leads, led}
 use Rattle.plain_model.specs.declared.set_command.SetJoin.{SetJoin}
 use Rattle.plain_model.specs.declared.zset_command.ZsetCommand.{ZsetCommand}
 use Rattle.plain_model.specs.declared.zset_command.ZsetCommand.TheVariants as zsets
@@ -39,7 +40,7 @@ use Rattle.plain_model.specs.declared.command.Command.{Command}
 use Rattle.plain_model.specs.declared.command.Command.TheVariants.{Strings, Lists, Sets, Hashes, Zsets, Streams, Keys, Connection}
 use Rattle.plain_world.specs.declared.refusal.Refusal.{Refusal}
 use Rattle.plain_world.specs.declared.reply.Part.{Part}
-use Rattle.plain_world.specs.declared.reply.Part.TheVariants.{Bulk, Refused}
+use Rattle.plain_world.specs.declared.reply.Part.TheVariants.{Bulk}
 use Rattle.plain_world.proofs.Apart.{spellings_apart}
 
 -- the new world is fixed by the old one, the moment, the command and the reply
@@ -143,17 +144,13 @@ zsets_fixed seed old (zsets.ZJoinStore join to keys how) r new other a b =
 zsets_fixed seed old (zsets.ZScan key cursor options) r new other a b = told_fixed _ old (look old key) _ r new other a b
 zsets_fixed seed old c r new other a b = a.1 ∙ sym b.1
 
+-- the first line of this and of the next takes the commands apart: the last one is checked for each
 keys_fixed : (seed : ℕ) (old : World) (moment : ℕ) (c : KeyCommand) (r : List Part) (new other : World) → may_keys seed old moment c r new → may_keys seed old moment c r other → new ≡ other
 keys_fixed seed old moment keys.RandomKey r new other a b = a.1 ∙ sym b.1
-keys_fixed seed old moment (keys.ObjectEncoding key) r new other a b = a.1 ∙ sym b.1
-keys_fixed seed old moment (keys.KeysLike pattern) r new other a b = a.1 ∙ sym b.1
-keys_fixed seed old moment (keys.Scan cursor options) r new other a b = a.1 ∙ sym b.1
 keys_fixed seed old moment c r new other a b = a.1 ∙ sym b.1
 
 connection_fixed : (old : World) (moment : ℕ) (c : ConnectionCommand) (r : List Part) (new other : World) → may_connection old moment c r new → may_connection old moment c r other → new ≡ other
 connection_fixed old moment connection.MemorySlabs r new other a b = a.1 ∙ sym b.1
-connection_fixed old moment (connection.DebugRehash n) r new other a b = a.1 ∙ sym b.1
-connection_fixed old moment (connection.DebugDefrag n) r new other a b = a.1 ∙ sym b.1
 connection_fixed old moment c r new other a b = a.1 ∙ sym b.1
 
 may_fixed : (seed : ℕ) (old : World) (moment : ℕ) (c : Command) (r : List Part) (new other : World) → may seed old moment c r new → may seed old moment c r other → new ≡ other
@@ -166,16 +163,13 @@ may_fixed seed old moment (Streams c) r new other a b = a.1 ∙ sym b.1
 may_fixed seed old moment (Keys c) r new other a b = keys_fixed seed old moment c r new other a b
 may_fixed seed old moment (Connection c) r new other a b = connection_fixed old moment c r new other a b
 
-abbrev leads : ℕ → World → ℕ → List Part → World → Result Command Refusal → Type 0
-leads seed old moment reply new m =
-    MatchResult m (λ command. may seed (live old moment) moment command reply new) (λ refusal. (reply ≡ Refused refusal ∷ []) × (new ≡ live old moment))
-
-meant_fixed : (seed : ℕ) (old : World) (moment : ℕ) (m : Result Command Refusal) (r : List Part) (new other : World) → leads seed old moment r new m → leads seed old moment r other m → new ≡ other
-meant_fixed seed old moment (Ok c) r new other a b = may_fixed seed (live old moment) moment c r new other a b
+meant_fixed : (seed : ℕ) (old : World) (moment : ℕ) (m : Result Command Refusal) (r : List Part) (new other : World) → Leads seed old moment r new m → Leads seed old moment r other m → new ≡ other
+meant_fixed seed old moment (Ok c) r new other a b = may_fixed seed old moment c r new other a b
 meant_fixed seed old moment (Err e) r new other a b = a.1 ∙ sym b.1
 
 pub step_fixed : (seed : ℕ) (old : World) (moment : ℕ) (words : Words) (r : List Part) (new other : World) → step seed old moment words r new → step seed old moment words r other → new ≡ other
-step_fixed seed old moment words r new other a b = meant_fixed seed old moment (meant words) r new other a b
+step_fixed seed old moment words r new other a b =
+    meant_fixed seed (live old moment) moment (meant words) r new other (led seed (live old moment) moment (meant words) r new a) (led seed (live old moment) moment (meant words) r other b)
 
 same_turn : (x y : Turn) → x.call ≡ y.call → x.seen ≡ y.seen → x.reply ≡ y.reply → x ≡ y
 same_turn x y call seen reply =

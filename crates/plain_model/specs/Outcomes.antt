@@ -3,7 +3,7 @@ use Rattle.std.specs.Prelude.{◌≡◌, List, [], ◌∷◌}
 use Rattle.plain_world.specs.Worlds.{World}
 use Rattle.plain_world.specs.declared.refusal.Refusal.{Refusal}
 use Rattle.plain_world.specs.declared.reply.Part.{Part}
-use Rattle.plain_world.specs.declared.reply.Part.TheVariants.{Simple, Refused, Number, Bulk, Null, NullArray, Array}
+use Rattle.plain_world.specs.declared.reply.Part.TheVariants.{Refused}
 
 pub record Outcome : Type 0 where
   pub reply : List Part
@@ -26,11 +26,5 @@ IsOutcome outcome reply new = (reply ≡ outcome.reply) × (new ≡ outcome.worl
 
 -- the reply is an error
 abbrev pub IsRefusal : List Part → Type 0
-IsRefusal [] = ⊥
-IsRefusal (Simple line ∷ parts) = ⊥
 IsRefusal (Refused refusal ∷ parts) = Unit {0}
-IsRefusal (Number n ∷ parts) = ⊥
-IsRefusal (Bulk bytes ∷ parts) = ⊥
-IsRefusal (Null ∷ parts) = ⊥
-IsRefusal (NullArray ∷ parts) = ⊥
-IsRefusal (Array n ∷ parts) = ⊥
+IsRefusal other = ⊥

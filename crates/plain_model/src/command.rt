@@ -19,7 +19,7 @@ pub enum Command<'a> {
 }
 
 /// When SET writes.
-#[derive(Clone, Copy, Debug, PartialEq, Eq)]
+#[derive(Clone, Copy, Debug)]
 pub enum Condition {
     Always,
     /// `NX`: only where nothing stands at the key.
@@ -29,7 +29,7 @@ pub enum Condition {
 }
 
 /// What the options of SET say one by one.
-#[derive(Clone, Copy, Debug, PartialEq, Eq)]
+#[derive(Clone, Copy, Debug)]
 pub struct SetOptionsRead {
     pub nx: bool,
     pub xx: bool,
@@ -41,7 +41,7 @@ pub struct SetOptionsRead {
 }
 
 /// What the options of GETEX say one by one.
-#[derive(Clone, Copy, Debug, PartialEq, Eq)]
+#[derive(Clone, Copy, Debug)]
 pub struct GetExOptionsRead {
     /// What the last one says.
     pub renewal: Renewal,
@@ -50,7 +50,7 @@ pub struct GetExOptionsRead {
 }
 
 /// The options of SET.
-#[derive(Clone, Copy, Debug, PartialEq, Eq)]
+#[derive(Clone, Copy, Debug)]
 pub struct SetOptions {
     /// `NX` or `XX`.
     pub condition: Condition,

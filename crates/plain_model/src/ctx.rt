@@ -1,7 +1,7 @@
 //! Where and when a command runs.
 
 /// Where and when a command runs.
-#[derive(Clone, Copy, Debug, PartialEq, Eq)]
+#[derive(Clone, Copy, Debug)]
 pub struct Ctx {
     /// The database that is selected, by its number below 16.
     pub db: usize,

@@ -3,7 +3,7 @@
 use crate::{Word, WordList};
 
 /// The options of EXPIRE and its like.
-#[derive(Clone, Copy, Debug, PartialEq, Eq)]
+#[derive(Clone, Copy, Debug)]
 pub struct ExpireOptions {
     /// `NX`: only where the key has no deadline.
     pub nx: bool,
@@ -16,7 +16,7 @@ pub struct ExpireOptions {
 }
 
 /// The options of COPY.
-#[derive(Clone, Copy, Debug, PartialEq, Eq)]
+#[derive(Clone, Copy, Debug)]
 pub struct CopyOptions {
     /// `DB db`: the database that is copied to, by its number below 16; without it the selected one.
     pub db: Option<usize>,

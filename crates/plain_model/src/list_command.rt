@@ -3,7 +3,7 @@
 use crate::{Word, WordList};
 
 /// An end of a list.
-#[derive(Clone, Copy, Debug, PartialEq, Eq)]
+#[derive(Clone, Copy, Debug)]
 pub enum ListEnd {
     /// `LEFT`: where its first element stands.
     Head,
@@ -12,7 +12,7 @@ pub enum ListEnd {
 }
 
 /// A side of an element.
-#[derive(Clone, Copy, Debug, PartialEq, Eq)]
+#[derive(Clone, Copy, Debug)]
 pub enum Side {
     /// `BEFORE`
     Before,
@@ -21,7 +21,7 @@ pub enum Side {
 }
 
 /// The options of LPOS.
-#[derive(Clone, Copy, Debug, PartialEq, Eq)]
+#[derive(Clone, Copy, Debug)]
 pub struct PositionOptions {
     /// `RANK r`: from the r-th match on, from the tail where it is below 0; neither 0 nor -2^63.
     pub rank: i64,

@@ -3,7 +3,7 @@
 use crate::{ScanOptions, Word, WordList};
 
 /// How sets are joined to one.
-#[derive(Clone, Copy, Debug, PartialEq, Eq)]
+#[derive(Clone, Copy, Debug)]
 pub enum SetJoin {
     /// The members that all of them have.
     Inter,

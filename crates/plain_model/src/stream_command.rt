@@ -6,7 +6,7 @@ use crate::{Direction, IdList, PairList, ReadList, Word};
 pub type EntryId = (u64, u64);
 
 /// What goes from the front of a stream.
-#[derive(Clone, Copy, Debug, PartialEq, Eq)]
+#[derive(Clone, Copy, Debug)]
 pub enum Trim {
     /// `MAXLEN n`: all entries but the last `n`.
     MaxLen(u64),
@@ -15,7 +15,7 @@ pub enum Trim {
 }
 
 /// What the options of XADD say.
-#[derive(Clone, Copy, Debug, PartialEq, Eq)]
+#[derive(Clone, Copy, Debug)]
 pub struct AppendOptions {
     /// `NOMKSTREAM`: no stream is made.
     pub only_there: bool,
@@ -24,7 +24,7 @@ pub struct AppendOptions {
 }
 
 /// Which id a new entry gets.
-#[derive(Clone, Copy, Debug, PartialEq, Eq)]
+#[derive(Clone, Copy, Debug)]
 pub enum NewId {
     /// `*`: one of the moment, or else the one that follows the last id.
     Auto,

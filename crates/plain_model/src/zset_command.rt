@@ -3,7 +3,7 @@
 use crate::{ScanOptions, ScoreList, Word, WordList};
 
 /// The order in which members of a sorted set, or entries of a stream, are met.
-#[derive(Clone, Copy, Debug, PartialEq, Eq)]
+#[derive(Clone, Copy, Debug)]
 pub enum Direction {
     /// From the lowest score or id on.
     Rising,
@@ -12,7 +12,7 @@ pub enum Direction {
 }
 
 /// An end of a range of scores.
-#[derive(Clone, Copy, Debug, PartialEq, Eq)]
+#[derive(Clone, Copy, Debug)]
 pub enum ScoreBound {
     /// `-inf`: below all scores.
     Lowest,
@@ -25,7 +25,7 @@ pub enum ScoreBound {
 }
 
 /// Which scores ZADD writes.
-#[derive(Clone, Copy, Debug, PartialEq, Eq)]
+#[derive(Clone, Copy, Debug)]
 pub struct ScoreRules {
     /// `NX`: only those of members that aren't there.
     pub nx: bool,
@@ -38,7 +38,7 @@ pub struct ScoreRules {
 }
 
 /// What the options of ZADD say.
-#[derive(Clone, Copy, Debug, PartialEq, Eq)]
+#[derive(Clone, Copy, Debug)]
 pub struct AddOptions {
     pub rules: ScoreRules,
     /// `CH`: changed members are counted with the new ones.
@@ -48,7 +48,7 @@ pub struct AddOptions {
 }
 
 /// Which part of the members that were found is told.
-#[derive(Clone, Copy, Debug, PartialEq, Eq)]
+#[derive(Clone, Copy, Debug)]
 pub struct Limit {
     /// How many are passed over; below 0 all.
     pub offset: i64,
@@ -57,7 +57,7 @@ pub struct Limit {
 }
 
 /// What the options of ZRANGE and its like say.
-#[derive(Clone, Copy, Debug, PartialEq, Eq)]
+#[derive(Clone, Copy, Debug)]
 pub struct RangeOptions {
     /// `BYSCORE`: the range is one of scores, not of ranks.
     pub by_score: bool,
@@ -70,7 +70,7 @@ pub struct RangeOptions {
 }
 
 /// Whose members a join has.
-#[derive(Clone, Copy, Debug, PartialEq, Eq)]
+#[derive(Clone, Copy, Debug)]
 pub enum ScoreJoin {
     /// Those that all sources have.
     Inter,
@@ -79,7 +79,7 @@ pub enum ScoreJoin {
 }
 
 /// What a join makes of the scores of a member.
-#[derive(Clone, Copy, Debug, PartialEq, Eq)]
+#[derive(Clone, Copy, Debug)]
 pub enum Aggregate {
     /// `SUM`
     Sum,

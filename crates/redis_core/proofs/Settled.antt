@@ -27,13 +27,21 @@ use Rattle.keyspace.specs.Sound.{Sound}
 use Rattle.keyspace.specs.Scopes.{Scope, no_key, Within, AreSettled, scope_of}
 use Rattle.keyspace.specs.Commands.{visible, KeepsTo, Runs}
 use Rattle.keyspace.proofs.Forming.{formed_by_on}
-use Rattle.keyspace.proofs.Running.{held_then}
+use Rattle.keyspace.proofs.Running.{held_then, held_in_wider}
+use Rattle.keyspace.proofs.Settles.{settles_on}
 use Rattle.keyspace.proofs.Serving.{further}
 use Rattle.redis_core.specs.declared.settling.Touched.{Touched}
 use Rattle.redis_core.specs.declared.settling.Touched.TheVariants.{One, Two}
-use Rattle.keyspace.specs.Shown.{Shows, connection_shown}
+use Rattle.keyspace.specs.Insides.{size_at, SettlesAt}
+use Rattle.keyspace.specs.Shown.{Shows, set_shown, hash_shown, zset_shown, connection_shown}
 use Rattle.cmd_keys.specs.Found as found
 use Rattle.plain_model.specs.declared.command.Command.TheVariants.{Strings, Lists, Sets, Hashes, Zsets, Streams, Keys, Connection}
+use Rattle.plain_model.specs.declared.set_command.SetCommand.{SetCommand}
+use Rattle.plain_model.specs.declared.set_command.SetCommand.TheVariants as sets
+use Rattle.plain_model.specs.declared.hash_command.HashCommand.{HashCommand}
+use Rattle.plain_model.specs.declared.hash_command.HashCommand.TheVariants as hashes
+use Rattle.plain_model.specs.declared.zset_command.ZsetCommand.{ZsetCommand}
+use Rattle.plain_model.specs.declared.zset_command.ZsetCommand.TheVariants as zsets
 use Rattle.plain_model.specs.declared.connection.ConnectionCommand.{ConnectionCommand}
 use Rattle.plain_model.specs.declared.connection.ConnectionCommand.TheVariants as connection
 use Rattle.redis_core.specs.Touched.{covers, shrinking, touched_of, IsCommon, Lost, Settles}
@@ -104,28 +112,77 @@ module _ (scope : Scope) (touched : Touched) (fits : Fits scope touched) (old ne
 -- what a reply shows of the tables before it, it shows whatever follows
 connection_shows_on : {S : Type 0} (blocks : S → Blocks) (old mid new : Keyspace S) (at : Ctx) (same : means at.db new.bases (blocks new.store) ≡ means at.db mid.bases (blocks mid.store))
     (command : ConnectionCommand) → found.IsCommon command → (reply : List Part) → connection_shown blocks old mid at command reply → connection_shown blocks old new at command reply
-connection_shows_on blocks old mid new at same (connection.Ping text) none reply s = tt
-connection_shows_on blocks old mid new at same (connection.Echo text) none reply s = tt
-connection_shows_on blocks old mid new at same connection.Quit none reply s = tt
-connection_shows_on blocks old mid new at same (connection.Select number) none reply s = tt
 connection_shows_on blocks old mid new at same connection.DbSize none reply s = same ∙ s
 connection_shows_on blocks old mid new at same connection.FlushDb none reply s = same ∙ s
 connection_shows_on blocks old mid new at same connection.FlushAll none reply s = λ number below. ap (λ (w : World). w.bases number) same ∙ s number below
 connection_shows_on blocks old mid new at same connection.MemorySlabs none reply s = absurd none
 connection_shows_on blocks old mid new at same (connection.DebugRehash n) none reply s = absurd none
 connection_shows_on blocks old mid new at same (connection.DebugDefrag n) none reply s = absurd none
+connection_shows_on blocks old mid new at same other none reply s = tt
 
--- what the reply of a common command shows of the tables before it, it shows whatever follows
-shows_on : {S : Type 0} (blocks : S → Blocks) (old mid new : Keyspace S) (at : Ctx) (same : means at.db new.bases (blocks new.store) ≡ means at.db mid.bases (blocks mid.store))
-    (command : Command) → IsCommon command → (reply : List Part) → Shows blocks old mid at command reply → Shows blocks old new at command reply
-shows_on blocks old mid new at same (Strings command) none reply s = tt
-shows_on blocks old mid new at same (Lists command) none reply s = tt
-shows_on blocks old mid new at same (Sets command) none reply s = s
-shows_on blocks old mid new at same (Hashes command) none reply s = s
-shows_on blocks old mid new at same (Zsets command) none reply s = s
-shows_on blocks old mid new at same (Streams command) none reply s = tt
-shows_on blocks old mid new at same (Keys command) none reply s = s
-shows_on blocks old mid new at same (Connection command) none reply s = connection_shows_on blocks old mid new at same command none reply s
+-- what a command leaves settled stays so where that holds of each key
+module _ {S : Type 0} (blocks : S → Blocks) (old mid new : Keyspace S) (at : Ctx) (on : (key : List ℕ) → SettlesAt blocks old mid at key → SettlesAt blocks old new at key) where
+  set_shows_on : (command : SetCommand) (reply : List Part) → set_shown blocks old mid at command reply → set_shown blocks old new at command reply
+  set_shows_on (sets.SAdd key others) reply s = tt
+  set_shows_on (sets.SRem key others) reply s = on key s
+  set_shows_on (sets.SIsMember key member) reply s = tt
+  set_shows_on (sets.SMIsMember key others) reply s = tt
+  set_shows_on (sets.SMembers key) reply s = tt
+  set_shows_on (sets.SCard key) reply s = tt
+  set_shows_on (sets.SMove from to member) reply s = on from s
+  set_shows_on (sets.SPop key n) reply s = on key s
+  set_shows_on (sets.SRandMember key n) reply s = tt
+  set_shows_on (sets.SJoin how keys) reply s = tt
+  set_shows_on (sets.SJoinStore how to keys) reply s = tt
+  set_shows_on (sets.SInterCard keys limit) reply s = tt
+  set_shows_on (sets.SScan key cursor options) reply s = s
+
+  hash_shows_on : (command : HashCommand) (reply : List Part) → hash_shown blocks old mid at command reply → hash_shown blocks old new at command reply
+  hash_shows_on (hashes.HSet key pairs) reply s = tt
+  hash_shows_on (hashes.HMSet key pairs) reply s = tt
+  hash_shows_on (hashes.HSetNx key field value) reply s = tt
+  hash_shows_on (hashes.HGet key field) reply s = tt
+  hash_shows_on (hashes.HMGet key others) reply s = tt
+  hash_shows_on (hashes.HDel key others) reply s = on key s
+  hash_shows_on (hashes.HExists key field) reply s = tt
+  hash_shows_on (hashes.HLen key) reply s = tt
+  hash_shows_on (hashes.HStrLen key field) reply s = tt
+  hash_shows_on (hashes.HKeys key) reply s = tt
+  hash_shows_on (hashes.HVals key) reply s = tt
+  hash_shows_on (hashes.HGetAll key) reply s = tt
+  hash_shows_on (hashes.HIncrBy key field n) reply s = tt
+  hash_shows_on (hashes.HRandField key n with_values) reply s = tt
+  hash_shows_on (hashes.HScan key cursor options) reply s = s
+
+  zset_shows_on : (command : ZsetCommand) (reply : List Part) → zset_shown blocks old mid at command reply → zset_shown blocks old new at command reply
+  zset_shows_on (zsets.ZAdd key rules ch pairs) reply s = tt
+  zset_shows_on (zsets.ZIncr key rules by member) reply s = tt
+  zset_shows_on (zsets.ZRem key members) reply s = on key s
+  zset_shows_on (zsets.ZScore key member) reply s = tt
+  zset_shows_on (zsets.ZMScore key members) reply s = tt
+  zset_shows_on (zsets.ZCard key) reply s = tt
+  zset_shows_on (zsets.ZCount key min max) reply s = tt
+  zset_shows_on (zsets.ZRank key member from with_score) reply s = tt
+  zset_shows_on (zsets.ZRange key a b from with_scores) reply s = tt
+  zset_shows_on (zsets.ZRangeByScore key min max from limit with_scores) reply s = tt
+  zset_shows_on (zsets.ZRemRangeByRank key a b) reply s = on key s
+  zset_shows_on (zsets.ZRemRangeByScore key min max) reply s = on key s
+  zset_shows_on (zsets.ZPop key from n) reply s = on key s
+  zset_shows_on (zsets.ZRandMember key n with_scores) reply s = tt
+  zset_shows_on (zsets.ZJoinStore join to keys how) reply s = tt
+  zset_shows_on (zsets.ZScan key cursor options) reply s = s
+
+  -- what the reply of a common command shows of the tables before it, it shows whatever follows
+  shows_on : means at.db new.bases (blocks new.store) ≡ means at.db mid.bases (blocks mid.store) → (command : Command) → IsCommon command → (reply : List Part)
+      → Shows blocks old mid at command reply → Shows blocks old new at command reply
+  shows_on same (Strings command) none reply s = tt
+  shows_on same (Lists command) none reply s = tt
+  shows_on same (Sets command) none reply s = set_shows_on command reply s
+  shows_on same (Hashes command) none reply s = hash_shows_on command reply s
+  shows_on same (Zsets command) none reply s = zset_shows_on command reply s
+  shows_on same (Streams command) none reply s = tt
+  shows_on same (Keys command) none reply s = s
+  shows_on same (Connection command) none reply s = connection_shows_on blocks old mid new at same command none reply s
 
 -- ---- a command ran, and then its tables were settled
 
@@ -140,18 +197,16 @@ module _ {S E : Type 0} (blocks : S → Blocks) (step : S → S → Type 0) (old
   -- after a command and the settling of its tables the keyspace is sound, changed within the command's scope
   held_both : KeepsTo blocks step (scope_of at.db command) old new
   held_both = held_then blocks step (scope_of at.db command) old mid new ran.kept.held
-      (record {
-        sound = settled.sound;
-        served = settled.served;
-        settings = settled.settings;
-        within = within_wider value_refs (shrinking (touched_of at.db command)) (scope_of at.db command) (fits_of at.db command).into (λ number key no. absurd no) (λ number no. absurd no)
-            mid.bases new.bases (blocks mid.store) (blocks new.store) settled.within;
-      })
+      (held_in_wider blocks step (shrinking (touched_of at.db command)) (scope_of at.db command) mid new (fits_of at.db command).into (λ number key no. absurd no) (λ number no. absurd no)
+      settled)
 
   -- a common command with its tables settled behind it runs as it did, where the settling leaves the world
   pub settled_runs : IsCommon command → ((number : ℕ) → means number new.bases (blocks new.store) ≡ means number mid.bases (blocks mid.store)) → Runs {E = E} blocks step old new at command (Ok reply)
   settled_runs none world = record {
-    shows = shows_on blocks old mid new at (world at.db) command none reply ran.shows;
+    shows = shows_on blocks old mid new at
+        (λ key. settles_on blocks at key (shrinking (touched_of at.db command)) (λ no. no) old mid new ran.kept.held.sound.arranged settled.insides
+        (ap (λ w. size_at (live w at.moment) key) (world at.db)))
+        (world at.db) command none reply ran.shows;
     forms = formed_by_on blocks (shrinking (touched_of at.db command)) at.db (visible blocks old at) command reply old mid new (λ db key no. no) ran.forms settled.within;
     answers = subst (λ w. may old.bases.seed (visible blocks old at) at.moment command reply (live w at.moment)) (sym (world at.db)) ran.answers;
     kept = record { refusals = λ refused. absurd (calm refused); held = held_both };
@@ -176,13 +231,8 @@ module _ {S E : Type 0} (blocks : S → Blocks) (step : S → S → Type 0) (old
 module _ {S : Type 0} (blocks : S → Blocks) (step : S → S → Type 0) where
   -- those of one of these databases
   pub held_shrinks : (touched : Touched) (db : ℕ) → covers touched db → (old new : Keyspace S) → KeepsTo blocks step (no_key db) old new → KeepsTo blocks step (shrinking touched) old new
-  held_shrinks touched db here old new held = record {
-    sound = held.sound;
-    served = held.served;
-    settings = held.settings;
-    within = within_wider value_refs (no_key db) (shrinking touched) (λ number is. subst (covers touched) (sym is) here) (λ number key no. no.1) (λ number no. no) old.bases new.bases
-        (blocks old.store) (blocks new.store) held.within;
-  }
+  held_shrinks touched db here old new held =
+      held_in_wider blocks step (no_key db) (shrinking touched) old new (λ number is. subst (covers touched) (sym is) here) (λ number key no. no.1) (λ number no. no) held
 
   -- what is settled stays settled while another database's tables are
   pub settled_then : (mid new : Keyspace S) (db other : ℕ) → AreSettled mid.bases db → KeepsTo blocks step (no_key other) mid new → AreSettled new.bases other → AreSettled new.bases db

@@ -13,7 +13,7 @@ use Rattle.plain_model.specs.declared.connection.ConnectionCommand.TheVariants a
 use Rattle.blocks.specs.Slabs.{Heap}
 use Rattle.defrag.specs.declared.walk.Walk.{Walk}
 use Rattle.plain_world.proofs.Lives.{live_later}
-use Rattle.plain_model.specs.Steps.{step}
+use Rattle.plain_model.specs.Steps.{may_meant, step}
 use Rattle.plain_model.specs.declared.command.Command.{Command}
 use Rattle.plain_model.specs.declared.ctx.Ctx.{Ctx}
 use Rattle.plain_world.specs.declared.refusal.Refusal.{Refusal}
@@ -29,11 +29,12 @@ use Rattle.keyspace.specs.Sound.{Sound}
 use Rattle.keyspace.specs.Scopes.{Within, scope_of}
 use Rattle.keyspace.proofs.Running.{same_settings}
 use Rattle.keyspace.proofs.Serving.{unmoved}
+use Rattle.keyspace.proofs.Insides.{insides_none}
 use Rattle.keyspace.specs.Databases.{SameSettings}
 use Rattle.keyspace.specs.Shown.{IsRehashed}
 use Rattle.keyspace.specs.Scopes.{untouched}
 use Rattle.keyspace.specs.Shown.{ListsSlabs}
-use Rattle.redis_core.specs.Touched.{may_meant, scope_meant, IsCommon, Settles}
+use Rattle.redis_core.specs.Touched.{scope_meant, IsCommon, Settles}
 use Rattle.redis_core.specs.Walking.{connection_tends, Tends, IsDefragged}
 use Rattle.redis_core.proofs.Settled.{settles_none, settles_means}
 use Rattle.redis_core.proofs.Walks.{ends_once, table_of_slabs}
@@ -51,16 +52,9 @@ ok_told (Err e) line is told = tt
 -- a common command on the connection or the server leaves the walk that is open
 common_connection : {S : Type 0} (blocks : S → Blocks) (heap : S → Heap) (old new : Keyspace S) (walk : Option Walk) (command : ConnectionCommand) (reply : List Part)
     → IsCommon (Connection command) → connection_tends blocks heap old new walk walk command reply
-common_connection blocks heap old new walk (connection.Ping text) reply common = refl
-common_connection blocks heap old new walk (connection.Echo text) reply common = refl
-common_connection blocks heap old new walk connection.Quit reply common = refl
-common_connection blocks heap old new walk (connection.Select number) reply common = refl
-common_connection blocks heap old new walk connection.DbSize reply common = refl
-common_connection blocks heap old new walk connection.FlushDb reply common = refl
-common_connection blocks heap old new walk connection.FlushAll reply common = refl
 common_connection blocks heap old new walk connection.MemorySlabs reply common = absurd common
-common_connection blocks heap old new walk (connection.DebugRehash n) reply common = refl
 common_connection blocks heap old new walk (connection.DebugDefrag n) reply common = absurd common
+common_connection blocks heap old new walk other reply common = refl
 
 -- a common command of any family leaves the walk that is open
 common_tends : {S : Type 0} (blocks : S → Blocks) (heap : S → Heap) (old new : Keyspace S) (walk : Option Walk) (command : Command) (reply : List Part) → IsCommon command
@@ -83,10 +77,11 @@ module _ {S E : Type 0} (blocks : S → Blocks) (heap : S → Heap) (step_of : S
     served = λ none. r.kept.held.served;
     tends = common_tends blocks heap old new walk command reply common;
     within = λ none. r.kept.held.within;
+    insides = λ none. r.kept.held.insides;
     shows = r.shows;
     forms = λ none. r.forms;
     settles = settles;
-    answers = r.answers;
+    answers = (r.answers, λ refused. ap (λ (k : Keyspace S). visible blocks k at) (r.kept.refusals refused));
     quits = is;
     stands = record { within = within; refused = λ refused. (r.kept.refusals refused, refl); sound = r.kept.held.sound; settings = r.kept.held.settings };
   }
@@ -94,6 +89,7 @@ module _ {S E : Type 0} (blocks : S → Blocks) (heap : S → Heap) (step_of : S
     served = λ none. r.kept.held.served;
     tends = refl;
     within = λ none. r.kept.held.within;
+    insides = λ none. r.kept.held.insides;
     shows = tt;
     forms = tt;
     settles = tt;
@@ -114,6 +110,7 @@ module _ {S E : Type 0} (blocks : S → Blocks) (heap : S → Heap) (step_of : S
     served = λ none. no_step;
     tends = refl;
     within = λ none. unmoved (scope_meant at.db asked) keyspace.bases (blocks keyspace.store);
+    insides = λ none. insides_none (scope_meant at.db asked) keyspace.bases (blocks keyspace.store);
     shows = tt;
     forms = tt;
     settles = tt;
@@ -123,20 +120,22 @@ module _ {S E : Type 0} (blocks : S → Blocks) (heap : S → Heap) (step_of : S
   }
 
   -- the words of a request are refused
-  pub refused_answers : (keyspace : Keyspace S) (asked : Result Command Refusal) (refusal : Refusal) (reply : List Part) → Ready blocks keyspace at → asked ≡ Err refusal
-      → reply ≡ Refused refusal ∷ [] → Answers {E = E} blocks heap step_of keyspace keyspace walk walk at asked (Ok (record { reply = reply; selected = at.db; quit = false }))
-  refused_answers keyspace asked refusal reply ready is told =
+  pub refused_answers : (keyspace : Keyspace S) (asked : Result Command Refusal) (refusal : Refusal) (result : Result (List Part) E) → Ready blocks keyspace at → asked ≡ Err refusal
+      → IfOk result (λ reply. reply ≡ Refused refusal ∷ []) → Answers blocks heap step_of keyspace keyspace walk walk at asked (answered_with at.db false result)
+  refused_answers keyspace asked refusal (Ok reply) ready is told =
       subst (λ m. Answers {E = E} blocks heap step_of keyspace keyspace walk walk at m (Ok (record { reply = reply; selected = at.db; quit = false }))) (sym is) (record {
         served = λ none. no_step;
         tends = refl;
         within = λ none. unmoved untouched keyspace.bases (blocks keyspace.store);
+        insides = λ none. insides_none untouched keyspace.bases (blocks keyspace.store);
         shows = tt;
         forms = λ none. formed_none blocks Unwritten keyspace;
         settles = settles_none keyspace.bases (blocks keyspace.store);
-        answers = (told, refl);
+        answers = (told, λ r. refl);
         quits = refl;
         stands = stays keyspace (Ok (record { reply = reply; selected = at.db; quit = false })) ready.sound ready.db (λ r. refl);
       })
+  refused_answers keyspace asked refusal (Err e) ready is told = nothing_answers keyspace asked e ready
 
   -- a command that is known
   known_answers : {old new : Keyspace S} {after : Option Walk} {result : Result Executed E} (command same : Command) → command ≡ same
@@ -151,10 +150,11 @@ module _ {S E : Type 0} (blocks : S → Blocks) (heap : S → Heap) (step_of : S
     served = λ none. no_step;
     tends = refl;
     within = λ none. unmoved untouched keyspace.bases (blocks keyspace.store);
+    insides = λ none. insides_none untouched keyspace.bases (blocks keyspace.store);
     shows = tt;
     forms = λ none. formed_none blocks Unwritten keyspace;
     settles = settles_none keyspace.bases (blocks keyspace.store);
-    answers = (told, refl);
+    answers = ((told, refl), λ r. absurd (subst IsRefusal told r));
     quits = refl;
     stands = stays keyspace (Ok (record { reply = reply; selected = number; quit = false })) ready.sound (subst FitsCommand is (command_fits asked.words command asked.means))
         (λ r. absurd (subst IsRefusal told r));
@@ -169,10 +169,11 @@ module _ {S E : Type 0} (blocks : S → Blocks) (heap : S → Heap) (step_of : S
     served = λ none. no_step;
     tends = (refl, told);
     within = λ none. unmoved untouched keyspace.bases (blocks keyspace.store);
+    insides = λ none. insides_none untouched keyspace.bases (blocks keyspace.store);
     shows = tt;
     forms = λ none. formed_none blocks Unwritten keyspace;
     settles = settles_none keyspace.bases (blocks keyspace.store);
-    answers = (table_of_slabs (heap keyspace.store) reply told, refl);
+    answers = ((table_of_slabs (heap keyspace.store) reply told, refl), λ r. refl);
     quits = refl;
     stands = stays keyspace (Ok (record { reply = reply; selected = at.db; quit = false })) ready.sound ready.db (λ r. refl);
   })
@@ -188,10 +189,11 @@ module _ {S E : Type 0} (blocks : S → Blocks) (heap : S → Heap) (step_of : S
       served = λ none. subst (λ (s : S). Served step_of old.store s) (sym store) no_step;
       tends = refl;
       within = λ none. absurd none;
+      insides = λ none. absurd none;
       shows = shown;
       forms = λ none. formed_items blocks old new (keys_stay shown.tables) shown.store;
       settles = settles_means old.bases new.bases (blocks old.store) (blocks new.store) ready.sound.arranged sound.arranged world;
-      answers = ((shown.found, shown.tables.few, shown.is), ap (λ w. live w at.moment) (world at.db));
+      answers = (((shown.found, shown.tables.few, shown.is), ap (λ w. live w at.moment) (world at.db)), λ r. ap (λ w. live w at.moment) (world at.db));
       quits = refl;
       stands = record { within = ready.db; refused = λ r. absurd (subst IsRefusal shown.is r); sound = sound; settings = settings };
     })
@@ -199,6 +201,7 @@ module _ {S E : Type 0} (blocks : S → Blocks) (heap : S → Heap) (step_of : S
       served = λ none. subst (λ (s : S). Served step_of old.store s) (sym store) no_step;
       tends = refl;
       within = λ none. absurd none;
+      insides = λ none. absurd none;
       shows = tt;
       forms = tt;
       settles = tt;
@@ -215,10 +218,12 @@ module _ {S E : Type 0} (blocks : S → Blocks) (heap : S → Heap) (step_of : S
       served = λ none. absurd none;
       tends = shown;
       within = λ none. absurd none;
+      insides = λ none. absurd none;
       shows = tt;
       forms = λ moves. absurd moves;
       settles = settles_means old.bases new.bases (blocks old.store) (blocks new.store) ready.sound.arranged sound.arranged world;
-      answers = (let once = ends_once blocks heap steps old new walk after shown.ended shown.defrags in ((shown.ended, once.0, once.1, shown.is), ap (λ w. live w at.moment) (world at.db)));
+      answers = (let once = ends_once blocks heap steps old new walk after shown.ended shown.defrags in
+          (((shown.ended, once.0, once.1, shown.is), ap (λ w. live w at.moment) (world at.db)), λ r. ap (λ w. live w at.moment) (world at.db)));
       quits = refl;
       stands = record { within = ready.db; refused = λ r. absurd (subst IsRefusal shown.is r); sound = sound; settings = settings };
     })
@@ -226,6 +231,7 @@ module _ {S E : Type 0} (blocks : S → Blocks) (heap : S → Heap) (step_of : S
       served = λ moves. absurd moves;
       tends = none.1;
       within = λ none. absurd none;
+      insides = λ none. absurd none;
       shows = tt;
       forms = tt;
       settles = tt;
@@ -257,6 +263,7 @@ module _ {S : Type 0} (blocks : S → Blocks) (heap : S → Heap) (step_of : S �
     served = a.served;
     tends = a.tends;
     within = a.within;
+    insides = a.insides;
     shows = a.shows;
     forms = a.forms;
     settles = a.settles;

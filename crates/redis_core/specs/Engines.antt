@@ -8,6 +8,7 @@ use Rattle.plain_world.specs.Worlds.{World, live, new_world}
 use Rattle.plain_model.specs.Outcomes.{IsRefusal}
 use Rattle.plain_model.specs.Meant.{meant, asks_to_quit}
 use Rattle.plain_model.specs.Meant as meaning
+use Rattle.plain_model.specs.Steps.{may_meant}
 use Rattle.plain_model.specs.declared.command.Command.{Command}
 use Rattle.plain_model.specs.declared.connection.ConnectionCommand.{ConnectionCommand}
 use Rattle.plain_model.specs.declared.connection.ConnectionCommand.TheVariants as connection
@@ -20,8 +21,9 @@ use Rattle.keyspace.specs.Sound.{Sound}
 use Rattle.keyspace.specs.Databases.{Keyspace}
 use Rattle.keyspace.specs.Commands.{visible}
 use Rattle.keyspace.specs.Scopes.{Within, AreGrown}
+use Rattle.keyspace.specs.Insides.{Insides}
 use Rattle.keyspace.specs.Forms.{Formed}
-use Rattle.redis_core.specs.Touched.{may_meant, FormedMeant, scope_meant, AsksNoSteps, AsksNoMoves, ShowsMeant, Settles}
+use Rattle.redis_core.specs.Touched.{FormedMeant, scope_meant, AsksNoSteps, AsksNoMoves, ShowsMeant, Settles}
 use Rattle.redis_core.specs.Walking.{IsOpen, TendsMeant}
 use Rattle.redis_core.specs.declared.answering.Own.{Own}
 use Rattle.redis_core.specs.declared.answering.Own.TheVariants as own
@@ -124,7 +126,11 @@ pub record Answers {S E : Type 0} (blocks : S → Blocks) (heap : S → Heap) (s
   -- nothing changes outside what is written: tables grow from those before, and all other keys keep their blocks
   pub within : AsksNoSteps asked
       → Within (scope_meant at.db asked) old.bases new.bases (blocks old.store) (blocks new.store)
-  -- pages are those of the tables as they stand, encodings those of the values, and DEBUG REHASH makes its steps
+  -- the tables inside the values that are written come from none or from those of values that were there, all others stay
+  pub insides : AsksNoSteps asked
+      → Insides (scope_meant at.db asked) old.bases new.bases (blocks old.store) (blocks new.store)
+  -- pages are those of the tables as they stand, encodings those of the values, DEBUG REHASH makes its steps, and what
+  -- takes elements out of a value leaves its tables settled
   pub shows : IfOk result (λ answered. ShowsMeant blocks old new at asked answered.reply)
   -- what is written is encoded by the command's rule, and every other value stays as it was
   pub forms : IfOk result (λ answered. AsksNoMoves asked

@@ -1,5 +1,5 @@
 -- Which databases a command may change, and which tables it leaves settled.
-use Rattle.std.specs.Prelude.{◌≡◌, ◌⊎◌, ℕ, ◌<◌, List, [], ◌∷◌, Result, Ok, Err, MatchResult}
+use Rattle.std.specs.Prelude.{◌≡◌, ◌⊎◌, ℕ, ◌<◌, List, Result, Ok, Err}
 use Rattle.blocks.specs.Blocks.{Blocks}
 use Rattle.rehash_dict.specs.Tables.{IsSettled}
 use Rattle.rehash_dict.specs.Table.{Table, tables}
@@ -7,7 +7,6 @@ use Rattle.rehash_dict.specs.Keyed.{Stands, Lacks}
 use Rattle.held.specs.Databases.{table_at, deadlines_at}
 use Rattle.plain_world.specs.Worlds.{World}
 use Rattle.plain_world.specs.declared.refusal.Refusal.{Refusal}
-use Rattle.plain_model.specs.Steps.{may}
 use Rattle.plain_model.specs.declared.command.Command.{Command}
 use Rattle.plain_model.specs.declared.command.Command.TheVariants.{Strings, Lists, Sets, Hashes, Zsets, Streams, Keys, Connection}
 use Rattle.plain_model.specs.declared.connection.ConnectionCommand.TheVariants as connection
@@ -17,8 +16,7 @@ use Rattle.keyspace.specs.Forms.{Unwritten, Formed, FormedBy}
 use Rattle.cmd_keys.specs.Found as found
 use Rattle.plain_model.specs.declared.ctx.Ctx.{Ctx}
 use Rattle.plain_world.specs.declared.reply.Part.{Part}
-use Rattle.plain_world.specs.declared.reply.Part.TheVariants.{Refused}
-use Rattle.keyspace.specs.Scopes.{Scope, Reach, untouched, reach_of, scope_of}
+use Rattle.keyspace.specs.Scopes.{Scope, Reach, WholeReach, untouched, number_or, reach_of, scope_of}
 use Rattle.keyspace.specs.Scopes as reach
 use Rattle.redis_core.specs.declared.settling.Touched.{Touched}
 use Rattle.redis_core.specs.declared.settling.Touched.TheVariants.{Nothing, One, Two, All}
@@ -39,30 +37,26 @@ AreDatabases (One db) = db < 16
 AreDatabases (Two db other) = (db < 16) × (other < 16)
 AreDatabases All = Unit {0}
 
+-- the selected database, if a command may change something in it
+abbrev pub touched_here : ℕ → Reach → Touched
+touched_here db reach.Nothing = Nothing
+touched_here db other = One db
+
 -- the databases of what a command may change
-abbrev pub databases : Reach → Touched
-databases reach.Nothing = Nothing
-databases (reach.NoKey db) = One db
-databases (reach.OneKey db key) = One db
-databases (reach.SomeKeys db keys) = One db
-databases (reach.TwoKeys db key other_db other) = Two db other_db
-databases (reach.AllKeys db) = One db
-databases reach.Everything = All
+abbrev pub databases : ℕ → WholeReach → Touched
+databases db (reach.Here own) = touched_here db own
+databases db (reach.Across key number other) = Two db (number_or db number)
+databases db reach.AllKeys = One db
+databases db reach.Everything = All
 
 abbrev pub touched_of : ℕ → Command → Touched
-touched_of db command = databases (reach_of db command)
+touched_of db command = databases db (reach_of command)
 
 -- calls of `shrink` alone, in these databases
 abbrev pub shrinking : Touched → Scope
 shrinking touched = record { touches = covers touched; writes = λ number key. ⊥; empties = λ number. ⊥ }
 
 -- ---- what a request may change
-
--- what may be answered to what words mean, from a live world to a new one: a refusal changes nothing
-abbrev pub may_meant : ℕ → World → ℕ → Result Command Refusal → List Part → World → Type 0
-may_meant seed old moment asked reply new =
-    MatchResult asked (λ command. may seed old moment command reply new)
-    (λ refusal. (reply ≡ Refused refusal ∷ []) × (new ≡ old))
 
 -- what a request but DEBUG may change, where this database is selected; one that is refused changes nothing
 abbrev pub scope_meant : ℕ → Result Command Refusal → Scope

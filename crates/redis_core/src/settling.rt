@@ -5,7 +5,7 @@ ghost use Rattle.keyspace.specs.Databases.{means};
 ghost use Rattle.keyspace.specs.Sound.{Sound};
 ghost use Rattle.keyspace.specs.Scopes.{no_key, number_or, AreSettled, string_reach, list_reach, set_reach, hash_reach, zset_reach, stream_reach, key_reach, connection_reach};
 ghost use Rattle.keyspace.specs.Commands.{KeepsTo};
-ghost use Rattle.redis_core.specs.Touched.{covers, databases, shrinking, touched_of, AreDatabases};
+ghost use Rattle.redis_core.specs.Touched.{covers, databases, shrinking, touched_here, touched_of, AreDatabases};
 
 use blocks::BlockStore;
 use keyspace::Keyspace;
@@ -27,7 +27,7 @@ pub enum Touched {
 }
 
 fn touched_by_strings(command: &StringCommand<'_>, db: usize) -> Touched
-    ensures { result ≡ databases (string_reach db command.now) }
+    ensures { result ≡ touched_here db (string_reach command.now) }
 {
     match command {
         StringCommand::Get(_) => Touched::Nothing,
@@ -53,7 +53,7 @@ fn touched_by_strings(command: &StringCommand<'_>, db: usize) -> Touched
 }
 
 fn touched_by_lists(command: &ListCommand<'_>, db: usize) -> Touched
-    ensures { result ≡ databases (list_reach db command.now) }
+    ensures { result ≡ touched_here db (list_reach command.now) }
 {
     match command {
         ListCommand::LPush(_, _) => Touched::One(db),
@@ -70,13 +70,13 @@ fn touched_by_lists(command: &ListCommand<'_>, db: usize) -> Touched
         ListCommand::LInsert(_, _, _, _) => Touched::One(db),
         ListCommand::LRem(_, _, _) => Touched::One(db),
         ListCommand::LPos(_, _, _) => Touched::Nothing,
-        ListCommand::LMove(_, _, _, _) => Touched::Two(db, db),
-        ListCommand::RPopLPush(_, _) => Touched::Two(db, db),
+        ListCommand::LMove(_, _, _, _) => Touched::One(db),
+        ListCommand::RPopLPush(_, _) => Touched::One(db),
     }
 }
 
 fn touched_by_sets(command: &SetCommand<'_>, db: usize) -> Touched
-    ensures { result ≡ databases (set_reach db command.now) }
+    ensures { result ≡ touched_here db (set_reach command.now) }
 {
     match command {
         SetCommand::SAdd(_, _) => Touched::One(db),
@@ -85,7 +85,7 @@ fn touched_by_sets(command: &SetCommand<'_>, db: usize) -> Touched
         SetCommand::SMIsMember(_, _) => Touched::Nothing,
         SetCommand::SMembers(_) => Touched::Nothing,
         SetCommand::SCard(_) => Touched::Nothing,
-        SetCommand::SMove(_, _, _) => Touched::Two(db, db),
+        SetCommand::SMove(_, _, _) => Touched::One(db),
         SetCommand::SPop(_, _) => Touched::One(db),
         SetCommand::SRandMember(_, _) => Touched::Nothing,
         SetCommand::SJoin(_, _) => Touched::Nothing,
@@ -96,7 +96,7 @@ fn touched_by_sets(command: &SetCommand<'_>, db: usize) -> Touched
 }
 
 fn touched_by_hashes(command: &HashCommand<'_>, db: usize) -> Touched
-    ensures { result ≡ databases (hash_reach db command.now) }
+    ensures { result ≡ touched_here db (hash_reach command.now) }
 {
     match command {
         HashCommand::HSet(_, _) => Touched::One(db),
@@ -118,7 +118,7 @@ fn touched_by_hashes(command: &HashCommand<'_>, db: usize) -> Touched
 }
 
 fn touched_by_zsets(command: &ZsetCommand<'_>, db: usize) -> Touched
-    ensures { result ≡ databases (zset_reach db command.now) }
+    ensures { result ≡ touched_here db (zset_reach command.now) }
 {
     match command {
         ZsetCommand::ZAdd(_, _, _, _) => Touched::One(db),
@@ -151,7 +151,7 @@ fn number_of(db: usize, number: Option<usize>) -> usize
 }
 
 fn touched_by_streams(command: &StreamCommand<'_>, db: usize) -> Touched
-    ensures { result ≡ databases (stream_reach db command.now) }
+    ensures { result ≡ touched_here db (stream_reach command.now) }
 {
     match command {
         StreamCommand::XAdd(_, _, _, _) => Touched::One(db),
@@ -169,7 +169,7 @@ fn touched_by_streams(command: &StreamCommand<'_>, db: usize) -> Touched
 }
 
 fn touched_by_keys(command: &KeyCommand<'_>, db: usize) -> Touched
-    ensures { result ≡ databases (key_reach db command.now) }
+    ensures { result ≡ databases db (key_reach command.now) }
 {
     match command {
         KeyCommand::Del(_) => Touched::One(db),
@@ -186,8 +186,8 @@ fn touched_by_keys(command: &KeyCommand<'_>, db: usize) -> Touched
         KeyCommand::ExpireTime(_) => Touched::Nothing,
         KeyCommand::PExpireTime(_) => Touched::Nothing,
         KeyCommand::Persist(_) => Touched::One(db),
-        KeyCommand::Rename(_, _) => Touched::Two(db, db),
-        KeyCommand::RenameNx(_, _) => Touched::Two(db, db),
+        KeyCommand::Rename(_, _) => Touched::One(db),
+        KeyCommand::RenameNx(_, _) => Touched::One(db),
         KeyCommand::Copy(_, _, options) => Touched::Two(db, number_of(db, options.db)),
         KeyCommand::MoveKey(_, number) => Touched::Two(db, *number),
         KeyCommand::RandomKey => Touched::Nothing,
@@ -198,7 +198,7 @@ fn touched_by_keys(command: &KeyCommand<'_>, db: usize) -> Touched
 }
 
 fn touched_by_connection(command: &ConnectionCommand<'_>, db: usize) -> Touched
-    ensures { result ≡ databases (connection_reach db command.now) }
+    ensures { result ≡ databases db (connection_reach command.now) }
 {
     match command {
         ConnectionCommand::Ping(_) => Touched::Nothing,

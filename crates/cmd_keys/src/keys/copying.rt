@@ -5,10 +5,14 @@ ghost use Rattle.plain_world.specs.Worlds.{Entry, World, look, put_in};
 ghost use Rattle.plain_model.specs.KeySteps.{or_selected};
 ghost use Rattle.plain_model.specs.declared.keys.KeyCommand.TheVariants as commands;
 ghost use Rattle.blocks.specs.Blocks.{Served};
-ghost use Rattle.keyspace.specs.Values.{value_of, value_refs, IsSound};
+ghost use Rattle.rehash_dict.specs.Grown.{Grown};
+ghost use Rattle.rehash_dict.specs.Keyed.{hash_of};
+ghost use Rattle.stored.specs.Owning.{no_tables};
+ghost use Rattle.keyspace.specs.Values.{value_of, value_refs, value_tables, IsSound};
 ghost use Rattle.keyspace.specs.Databases.{means, SameSettings};
 ghost use Rattle.keyspace.specs.Sound.{Sound, SoundBeside};
 ghost use Rattle.keyspace.specs.Scopes.{one_key, two_keys, number_or, Within};
+ghost use Rattle.keyspace.specs.Insides.{Insides};
 ghost use Rattle.keyspace.specs.Forms.{AsAt, HasForm, Formed, key_form};
 ghost use Rattle.held.specs.Calls.{StandsAt, HasUntil, IsDeadline};
 ghost use Rattle.keyspace.specs.Commands.{Ready, KeepsTo, KeepsOrRefuses, visible};
@@ -35,6 +39,8 @@ fn copy_value<B: BlockStore>(
     ensures err { OnErr result (Sound keyspace.new.bases (B.blocks keyspace.new.store)) }
     ensures served { Served B.step keyspace.old.store keyspace.new.store }
     ensures within { Within (one_key at.now.db key.now) keyspace.old.bases keyspace.new.bases (B.blocks keyspace.old.store) (B.blocks keyspace.new.store) }
+    ensures insides { Insides (one_key at.now.db key.now) keyspace.old.bases keyspace.new.bases (B.blocks keyspace.old.store) (B.blocks keyspace.new.store) }
+    ensures grown { IfOk result (λ value. Grown (hash_of keyspace.new.bases.seed) no_tables (value_tables (B.blocks keyspace.new.store) value)) }
     ensures settings { SameSettings keyspace.old.bases keyspace.new.bases }
     ensures form { IfOk result (λ value. HasForm (AsAt at.now.db key.now) keyspace.old.bases (B.blocks keyspace.old.store) value) }
     ensures forms { IfOk result (λ value. Formed B.blocks (AsAt at.now.db key.now) keyspace.old keyspace.new) }

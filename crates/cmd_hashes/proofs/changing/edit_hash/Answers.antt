@@ -2,7 +2,7 @@ use Rattle.std.proofs.Common.{◌≡◌, [], ap, sym, subst, ◌∙◌, Some, No
 use Rattle.object_codec.specs.Forms.{IsLeast}
 use Rattle.object_codec.specs.Limits.{AreInRange}
 use Rattle.hash_object.specs.Maps.{FitsFields}
-use Rattle.hash_object.specs.Fields.{IsFields, fields, refs, form_of}
+use Rattle.hash_object.specs.Fields.{IsFields, fields, refs, form_of, tables}
 use Rattle.hash_object.specs.declared.fields.Fields.{Fields}
 use Rattle.std.specs.FinMap.{empty}
 use Rattle.plain_world.specs.Worlds.{HashOf, look}
@@ -10,6 +10,7 @@ use Rattle.keyspace.specs.declared.value.Value.TheVariants as kinds
 use Rattle.keyspace.specs.Commands.{visible}
 use Rattle.keyspace.specs.Scopes.{one_key}
 use Rattle.keyspace.proofs.Running.{same_held}
+use Rattle.keyspace.proofs.Settles.{settles_new}
 use Rattle.cmd_hashes.proofs.AtKeys.{form_in, takes_there, hash_new, hash_there}
 use Rattle.cmd_hashes.proofs.changing.edit_hash.Goals as goal
 
@@ -23,6 +24,12 @@ pub edit_new-requires-clause-blank : goal.edit_new-requires-clause-blank
 edit_new-requires-clause-blank g c =
     let same : c.in_ok-new-in-None.field-0.value ≡ c.new-hash.result = search rules in
     subst (λ (h : Fields). refs h ≡ []) (sym same) c.new-hash.ensures.refs
+
+pub edit_new-requires-clause-bare : goal.edit_new-requires-clause-bare
+edit_new-requires-clause-bare g c =
+    let m = g.B.BlockStore.blocks c.args.keyspace.now.store in
+    let same : c.in_ok-new-in-None.field-0.value ≡ c.new-hash.result = search rules in
+    ap (tables m) same ∙ c.new-hash.ensures.tables m
 
 pub edit_new-requires-clause-sound : goal.edit_new-requires-clause-sound
 edit_new-requires-clause-sound g c =
@@ -61,3 +68,11 @@ pub returns-in-Some-clause-edited : goal.returns-in-Some-clause-edited
 returns-in-Some-clause-edited g c =
     hash_there _ (g.E.HashEdit.makes c.args.on.now.edit c.edit_there.new.edit.edit) c.edit_there.new.edit.left c.args.on.now c.edit_there.new.edit g.B.BlockStore.blocks c.args.keyspace.now
     c.edit_there.new.keyspace c.args.at.now c.args.key.now (λ o n made. made) c.requires.ready.sound c.edit_there.result c.edit_there.ensures.edits
+
+pub returns-in_ok-new-in-None-clause-settles : goal.returns-in_ok-new-in-None-clause-settles
+returns-in_ok-new-in-None-clause-settles g c =
+    let none : look (visible g.B.BlockStore.blocks c.args.keyspace.now c.args.at.now) c.args.key.now ≡ None = rw c.in-None.is at c.requires.there in
+    settles_new g.B.BlockStore.blocks c.args.at.now c.args.key.now c.args.keyspace.now c.edit_new.new.keyspace none c.edit_new.result
+
+pub returns-in-Some-clause-settles : goal.returns-in-Some-clause-settles
+returns-in-Some-clause-settles g c = c.edit_there.ensures.settles

@@ -4,6 +4,7 @@ use Rattle.std.specs.FinMap.{remove}
 use Rattle.blocks.specs.Blocks.{Served}
 use Rattle.blocks.proofs.Change.{changes_same, changes_then}
 use Rattle.blocks.proofs.Serve.{served_then}
+use Rattle.keyspace.proofs.Insides.{grown_on}
 use Rattle.hash_object.specs.Fields.{fields}
 use Rattle.plain_model.specs.HashSteps.{unset_all}
 use Rattle.cmd_hashes.proofs.Rests.{settings_then, rest_from}
@@ -16,6 +17,8 @@ loop-name-init g c = record {
   is = refl;
   form = refl;
   changes = changes_same _ _ c.requires.owned;
+  grown = Served.no_step;
+  settles = λ most first. first;
   served = Served.no_step;
 }
 
@@ -31,6 +34,9 @@ returns-in_err-unset_one-clause-changes g c = changes_then _ _ _ _ _ _ c.loop-na
 pub returns-in_err-unset_one-clause-served : goal.returns-in_err-unset_one-clause-served
 returns-in_err-unset_one-clause-served g c = served_then _ _ _ c.loop-name.invariant.served c.unset_one.ensures.served
 
+pub returns-in_err-unset_one-clause-grown : goal.returns-in_err-unset_one-clause-grown
+returns-in_err-unset_one-clause-grown g c = grown_on c.args.hash.now.seed c.loop-name.hash.seed _ _ _ c.loop-name.invariant.settings.seed c.loop-name.invariant.grown c.unset_one.ensures.grown
+
 pub loop-name-preserved : goal.loop-name-preserved
 loop-name-preserved g c =
     let now = fields (g.B.BlockStore.blocks c.loop-name.store) c.loop-name.hash in
@@ -45,6 +51,8 @@ loop-name-preserved g c =
       is = ap (λ m. unset_all m others) is ∙ ap (unset_all now) (sym rest) ∙ c.loop-name.invariant.is;
       form = c.unset_one.ensures.form ∙ c.loop-name.invariant.form;
       changes = changes_then _ _ _ _ _ _ c.loop-name.invariant.changes c.unset_one.ensures.changes;
+      grown = grown_on c.args.hash.now.seed c.loop-name.hash.seed _ _ _ c.loop-name.invariant.settings.seed c.loop-name.invariant.grown c.unset_one.ensures.grown;
+      settles = λ most first. c.in_ok-unset_one.ensures.settles most (c.loop-name.invariant.settles most first);
       served = served_then _ _ _ c.loop-name.invariant.served c.unset_one.ensures.served;
     }
 
@@ -53,3 +61,9 @@ returns-clause-is g c =
     let now = fields (g.B.BlockStore.blocks c.loop-name.store) c.loop-name.hash in
     let none : drop c.loop-name.name-index c.args.names.now ≡ [] = drop_all c.loop-name.name-index c.args.names.now (omega (arith, c.loop-name-test.false)) in
     ap (unset_all now) (sym none) ∙ c.loop-name.invariant.is
+
+pub returns-clause-grown : goal.returns-clause-grown
+returns-clause-grown g c = c.loop-name.invariant.grown
+
+pub returns-clause-settles : goal.returns-clause-settles
+returns-clause-settles g c = c.loop-name.invariant.settles

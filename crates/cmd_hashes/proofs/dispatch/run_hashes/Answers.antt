@@ -46,7 +46,7 @@ pub returns-in-HDel : goal.returns-in-HDel
 returns-in-HDel g c = ran g.B.BlockStore.blocks g.B.BlockStore.step c.args.keyspace.now c.hdel.new.keyspace c.args.at.now (Hashes c.args.command.now)
     (Hashes (hashes.HDel c.as_slice-in-HDel.result.now c.as_slice-in-HDel-2.result.now)) c.hdel.result (ap Hashes (search rules))
     (told (hash_outcome (visible g.B.BlockStore.blocks c.args.keyspace.now c.args.at.now) (hashes.HDel c.as_slice-in-HDel.result.now c.as_slice-in-HDel-2.result.now))
-    (visible g.B.BlockStore.blocks c.hdel.new.keyspace c.args.at.now) c.hdel.result c.hdel.ensures.gives) c.hdel.ensures.kept (nothing_shown c.hdel.result) c.hdel.ensures.forms
+    (visible g.B.BlockStore.blocks c.hdel.new.keyspace c.args.at.now) c.hdel.result c.hdel.ensures.gives) c.hdel.ensures.kept c.hdel.ensures.settles c.hdel.ensures.forms
 
 pub returns-in-HExists : goal.returns-in-HExists
 returns-in-HExists g c = looked g.B.BlockStore.blocks g.B.BlockStore.step c.args.keyspace.now c.args.at.now (Hashes c.args.command.now)
@@ -76,7 +76,8 @@ returns-in-HVals g c = looked g.B.BlockStore.blocks g.B.BlockStore.step c.args.k
 
 pub returns-in-HGetAll : goal.returns-in-HGetAll
 returns-in-HGetAll g c = looked g.B.BlockStore.blocks g.B.BlockStore.step c.args.keyspace.now c.args.at.now (Hashes c.args.command.now)
-    (Hashes (hashes.HGetAll c.as_slice-in-HGetAll.result.now)) c.hgetall.result (ap Hashes (search rules)) c.hgetall.ensures.gives (nothing_shown c.hgetall.result) c.requires.ready Unwritten (λ reply. refl)
+    (Hashes (hashes.HGetAll c.as_slice-in-HGetAll.result.now)) c.hgetall.result (ap Hashes (search rules)) c.hgetall.ensures.gives (nothing_shown c.hgetall.result) c.requires.ready Unwritten
+    (λ reply. refl)
 
 pub returns-in-HIncrBy : goal.returns-in-HIncrBy
 returns-in-HIncrBy g c = ran g.B.BlockStore.blocks g.B.BlockStore.step c.args.keyspace.now c.hincrby.new.keyspace c.args.at.now (Hashes c.args.command.now)
@@ -97,4 +98,5 @@ hscan-requires-clause-count g c = asked_page c.args.command.now _ _ c.in-HScan.o
 
 pub returns-in-HScan : goal.returns-in-HScan
 returns-in-HScan g c = looked g.B.BlockStore.blocks g.B.BlockStore.step c.args.keyspace.now c.args.at.now (Hashes c.args.command.now)
-    (Hashes (hashes.HScan c.as_slice-in-HScan.result.now _ c.in-HScan.options)) c.hscan.result (ap Hashes (search rules)) c.hscan.ensures.gives c.hscan.ensures.shows c.requires.ready Unwritten (λ reply. refl)
+    (Hashes (hashes.HScan c.as_slice-in-HScan.result.now _ c.in-HScan.options)) c.hscan.result (ap Hashes (search rules)) c.hscan.ensures.gives c.hscan.ensures.shows c.requires.ready
+    Unwritten (λ reply. refl)

@@ -4,6 +4,7 @@ use Rattle.std.specs.FinMap.{insert}
 use Rattle.blocks.specs.Blocks.{Served}
 use Rattle.blocks.proofs.Change.{changes_same, changes_then}
 use Rattle.blocks.proofs.Serve.{served_then}
+use Rattle.keyspace.proofs.Insides.{grown_on}
 use Rattle.object_codec.specs.Forms.{IsLeastFrom}
 use Rattle.hash_object.specs.Maps.{FitsFields}
 use Rattle.hash_object.specs.Fields.{fields, form_of}
@@ -19,6 +20,7 @@ loop-pair-init g c = record {
   is = refl;
   risen = λ form p. p;
   changes = changes_same _ _ c.requires.owned;
+  grown = Served.no_step;
   served = Served.no_step;
 }
 
@@ -30,6 +32,9 @@ returns-in_err-set_one-clause-changes g c = changes_then _ _ _ _ _ _ c.loop-pair
 
 pub returns-in_err-set_one-clause-served : goal.returns-in_err-set_one-clause-served
 returns-in_err-set_one-clause-served g c = served_then _ _ _ c.loop-pair.invariant.served c.set_one.ensures.served
+
+pub returns-in_err-set_one-clause-grown : goal.returns-in_err-set_one-clause-grown
+returns-in_err-set_one-clause-grown g c = grown_on c.args.hash.now.seed c.loop-pair.hash.seed _ _ _ c.loop-pair.invariant.settings.seed c.loop-pair.invariant.grown c.set_one.ensures.grown
 
 pub loop-pair-preserved : goal.loop-pair-preserved
 loop-pair-preserved g c =
@@ -53,6 +58,7 @@ loop-pair-preserved g c =
             subst (λ m. RisesBy limits (form_of c.set_one.new.hash) m others form) is p,
           ));
       changes = changes_then _ _ _ _ _ _ c.loop-pair.invariant.changes c.set_one.ensures.changes;
+      grown = grown_on c.args.hash.now.seed c.loop-pair.hash.seed _ _ _ c.loop-pair.invariant.settings.seed c.loop-pair.invariant.grown c.set_one.ensures.grown;
       served = served_then _ _ _ c.loop-pair.invariant.served c.set_one.ensures.served;
     }
 
@@ -67,3 +73,6 @@ returns-clause-risen g c =
     let now = fields (g.B.BlockStore.blocks c.loop-pair.store) c.loop-pair.hash in
     let none : drop c.loop-pair.pair-index c.args.pairs.now ≡ [] = drop_all c.loop-pair.pair-index c.args.pairs.now (omega (arith, c.loop-pair-test.false)) in
     c.loop-pair.invariant.risen (form_of c.loop-pair.hash) (subst (λ l. RisesBy c.args.hash.now.limits (form_of c.loop-pair.hash) now l (form_of c.loop-pair.hash)) (sym none) refl)
+
+pub returns-clause-grown : goal.returns-clause-grown
+returns-clause-grown g c = c.loop-pair.invariant.grown

@@ -5,7 +5,7 @@ use Rattle.keyspace.specs.Values.{value_refs}
 use Rattle.keyspace.specs.Scopes.{all_keys, everything}
 use Rattle.keyspace.proofs.Calls.{settings_then}
 use Rattle.cmd_keys.proofs.Emptying.{one_emptied, all_emptied}
-use Rattle.keyspace.proofs.Running.{same_settings}
+use Rattle.keyspace.proofs.Running.{same_settings, held_unwritten}
 use Rattle.blocks.specs.Blocks.{no_step}
 use Rattle.cmd_keys.proofs.connection.clear_all.Goals as goal
 
@@ -36,3 +36,8 @@ loop-db-init g c =
 
 pub returns-clause-emptied : goal.returns-clause-emptied
 returns-clause-emptied g c number below = c.loop-db.invariant.empty number (omega (arith, below))
+
+pub returns-clause-held : goal.returns-clause-held
+returns-clause-held g c =
+    held_unwritten g.B.BlockStore.blocks g.B.BlockStore.step everything c.args.keyspace.now c.loop-db.keyspace (λ number key no. no) c.requires.ready.sound c.loop-db.invariant.sound
+    c.loop-db.invariant.served c.loop-db.invariant.settings c.loop-db.invariant.within

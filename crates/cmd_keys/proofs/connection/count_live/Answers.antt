@@ -1,5 +1,7 @@
 use Rattle.std.proofs.Common.{[], ◌∙◌}
+use Rattle.keyspace.specs.Scopes.{no_key}
 use Rattle.keyspace.proofs.Uses.{sound_is_intact}
+use Rattle.keyspace.proofs.Running.{held_unwritten}
 use Rattle.cmd_keys.proofs.Emptying.{selected_purged, purged_count}
 use Rattle.cmd_keys.proofs.connection.count_live.Goals as goal
 
@@ -13,9 +15,6 @@ pub returns-clause-world : goal.returns-clause-world
 returns-clause-world g c = selected_purged c.args.at.now c.args.keyspace.now.bases c.purge.new.self.bases _ _ c.purge.ensures.means
 
 pub returns-clause-held : goal.returns-clause-held
-returns-clause-held g c = record {
-  sound = c.purge.ensures.sound [] c.requires.ready.sound;
-  served = c.purge.ensures.served;
-  settings = c.purge.ensures.settings;
-  within = c.purge.ensures.within;
-}
+returns-clause-held g c =
+    held_unwritten g.B.BlockStore.blocks g.B.BlockStore.step (no_key c.args.at.now.db) c.args.keyspace.now c.purge.new.self (λ number key no. no.1) c.requires.ready.sound
+    (c.purge.ensures.sound [] c.requires.ready.sound) c.purge.ensures.served c.purge.ensures.settings c.purge.ensures.within

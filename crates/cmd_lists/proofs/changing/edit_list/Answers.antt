@@ -1,4 +1,4 @@
-use Rattle.std.proofs.Common.{◌≡◌, [], ap, sym, subst, ◌∙◌, Some, None, rules}
+use Rattle.std.proofs.Common.{◌≡◌, [], ap, refl, sym, subst, ◌∙◌, Some, None, rules}
 use Rattle.blocks.specs.Blocks.{no_blocks}
 use Rattle.object_codec.specs.Forms.{IsLeast, FitsList}
 use Rattle.quicklist.specs.Chain.{Chain, IsQuick, elements, refs}
@@ -17,6 +17,9 @@ pub edit_new-requires-clause-blank : goal.edit_new-requires-clause-blank
 edit_new-requires-clause-blank g c =
     let same : c.in_ok-new-in-None.field-0.value ≡ c.new.result = search rules in
     subst (λ (q : Chain). refs q ≡ []) (sym same) (refs_none _ (c.new.ensures.quick no_blocks).chain.owned)
+
+pub edit_new-requires-clause-bare : goal.edit_new-requires-clause-bare
+edit_new-requires-clause-bare g c = refl
 
 pub edit_new-requires-clause-sound : goal.edit_new-requires-clause-sound
 edit_new-requires-clause-sound g c =

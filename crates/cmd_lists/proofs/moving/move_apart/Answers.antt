@@ -1,12 +1,13 @@
 use Rattle.std.proofs.Common.{Some, refl}
-use Rattle.plain_model.specs.ListSteps.{from_end}
+use Rattle.plain_world.specs.declared.refusal.Refusal.TheVariants.{WrongType}
+use Rattle.plain_model.specs.declared.list_command.ListCommand.TheVariants as lists
 use Rattle.keyspace.specs.Scopes.{two_keys}
-use Rattle.keyspace.specs.Forms.{list_at, moved_to}
+use Rattle.keyspace.specs.Forms.{list_form, list_places}
 use Rattle.keyspace.specs.Commands.{visible}
 use Rattle.keyspace.proofs.Running.{unchanged}
-use Rattle.keyspace.proofs.Forming.{unformed}
+use Rattle.keyspace.proofs.Forming.{formed_refused, formed_between}
 use Rattle.cmd_lists.proofs.Telling.{popped_calm}
-use Rattle.cmd_lists.proofs.Between.{eq_apart, moves_refused, moves_on, form_apart, formed_moved}
+use Rattle.cmd_lists.proofs.Between.{eq_apart, moves_refused, moves_on, form_apart}
 use Rattle.cmd_lists.proofs.moving.move_apart.Goals as goal
 
 pub returns-then-is_other-clause-gives : goal.returns-then-is_other-clause-gives
@@ -32,7 +33,8 @@ returns-then-is_other-clause-forms g c =
     let step = g.B.BlockStore.step in
     let world = visible blocks c.args.keyspace.now c.args.at.now in
     let scope = two_keys c.args.at.now.db c.args.from.now c.args.at.now.db c.args.to.now in
-    unformed blocks (moved_to c.args.at.now.db world c.args.from.now c.args.to.now c.args.end c.args.other (from_end c.args.end (list_at world c.args.from.now))) c.args.keyspace.now c.refused.result
+    formed_refused blocks (list_form c.args.at.now.db world (lists.LMove c.args.from.now c.args.to.now c.args.end c.args.other))
+    (list_places c.args.at.now.db world (lists.LMove c.args.from.now c.args.to.now c.args.end c.args.other)) c.args.keyspace.now WrongType c.refused.result c.refused.ensures
 
 pub returns-clause-gives : goal.returns-clause-gives
 returns-clause-gives g c =
@@ -57,6 +59,7 @@ returns-clause-forms g c =
     let step = g.B.BlockStore.step in
     let world = visible blocks c.args.keyspace.now c.args.at.now in
     let scope = two_keys c.args.at.now.db c.args.from.now c.args.at.now.db c.args.to.now in
-    formed_moved blocks c.args.at.now c.args.from.now c.args.to.now c.args.keyspace.now c.pass_on.new.keyspace _ _ c.bulk.result
+    let form = list_form c.args.at.now.db world (lists.LMove c.args.from.now c.args.to.now c.args.end c.args.other) in
+    formed_between blocks c.args.at.now.db c.args.from.now c.args.to.now c.args.keyspace.now c.pass_on.new.keyspace form _ c.bulk.result
     (form_apart world c.args.from.now c.args.to.now c.args.end c.args.other c.args.element c.requires.first c.args.at.now.db (eq_apart c.args.from.now c.args.to.now c.requires.apart))
-    c.in_ok-pass_on.ensures.forms
+    c.in_ok-pass_on.ensures.forms c.in_ok-pass_on.ensures.placed

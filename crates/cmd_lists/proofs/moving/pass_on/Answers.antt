@@ -3,7 +3,7 @@ use Rattle.keyspace.specs.Scopes.{two_keys}
 use Rattle.keyspace.specs.Forms.{list_at}
 use Rattle.keyspace.specs.Commands.{visible}
 use Rattle.keyspace.proofs.Running.{held_then}
-use Rattle.cmd_lists.proofs.Between.{held_from, held_to, no_other_on, same_look, world_both, formed_both}
+use Rattle.cmd_lists.proofs.Between.{held_from, held_to, no_other_on, same_look, world_both, formed_both, placed_both}
 use Rattle.cmd_lists.proofs.moving.pass_on.Goals as goal
 
 pub returns-in_err-take_first-clause-held : goal.returns-in_err-take_first-clause-held
@@ -45,3 +45,14 @@ returns-clause-forms g c =
     formed_both blocks c.args.at.now c.args.from.now c.args.to.now c.args.keyspace.now c.take_first.new.keyspace c.put_one.new.keyspace c.args.other c.args.element.now c.put_one.result
     c.requires.apart
     (same_look old mid c.args.from.now c.args.to.now rest c.requires.apart c.in_ok-take_first.ensures.world) c.take_first.ensures.held.within c.in_ok-take_first.ensures.forms c.put_one.ensures.forms
+
+pub returns-clause-placed : goal.returns-clause-placed
+returns-clause-placed g c =
+    let blocks = g.B.BlockStore.blocks in
+    let old = visible blocks c.args.keyspace.now c.args.at.now in
+    let mid = visible blocks c.take_first.new.keyspace c.args.at.now in
+    let rest = without c.args.end 1 (list_at old c.args.from.now) in
+    placed_both blocks c.args.at.now c.args.from.now c.args.to.now c.args.keyspace.now c.take_first.new.keyspace c.put_one.new.keyspace c.args.other c.args.element.now c.put_one.result
+    c.requires.apart
+    (same_look old mid c.args.from.now c.args.to.now rest c.requires.apart c.in_ok-take_first.ensures.world) c.take_first.ensures.held.within c.put_one.ensures.held.within
+    c.in_ok-take_first.ensures.placed c.put_one.ensures.placed

@@ -11,4 +11,4 @@ returns g c =
     let xs = elements (g.B.BlockStore.blocks c.args.store.now) c.args.list.now in
     let list = take c.args.count (from_end c.args.end xs) in
     let size : c.args.count ≡ length list = sym (length-take-le c.args.count (from_end c.args.end xs) (omega (arith, c.requires.inside, met_length c.args.end xs))) in
-    listed_parts list c.args.count c.new-parts.result c.push.new.self c.push_met.new.parts c.new-parts.ensures size c.in_ok-push.ensures.ok c.in_ok-push_met.ensures
+    listed_parts list c.args.count _ c.push_met.new.parts size c.in_ok-parts.ensures c.in_ok-push_met.ensures

@@ -12,8 +12,8 @@ listed_here g c =
     let list = elements (g.B.BlockStore.blocks c.args.store.now) c.args.list.now in
     let size : length list ≡ c.len.result = omega (arith, c.len.ensures, c.requires.quick.counted) in
     let range = c.reach_of-first.ensures.range list size in
-    range_listed list c.args.a c.args.b c.reach_of-first.result.0 c.reach_of-first.result.1 c.new-reply.result c.push.new.self c.push_elements.new.parts
-    (omega (arith, c.reach_of-first.ensures.inside, size)) (rw (to_z-of_z w64 c.args.a c.ranges.a, to_z-of_z w64 c.args.b c.ranges.b) at range) c.new-reply.ensures c.in_ok-push.ensures.ok
+    range_listed list c.args.a c.args.b c.reach_of-first.result.0 c.reach_of-first.result.1 _ c.push_elements.new.parts
+    (omega (arith, c.reach_of-first.ensures.inside, size)) (rw (to_z-of_z w64 c.args.a c.ranges.a, to_z-of_z w64 c.args.b c.ranges.b) at range) c.in_ok-reply.ensures
     c.in_ok-push_elements.ensures
 
 pub into_reply-requires : goal.into_reply-requires

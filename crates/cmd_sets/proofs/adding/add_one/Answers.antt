@@ -40,3 +40,13 @@ pub returns-in-Err-clause-changes : goal.returns-in-Err-clause-changes
 returns-in-Err-clause-changes g c =
     (added_goes (g.B.BlockStore.blocks c.args.store.now) (g.B.BlockStore.blocks c.add.new.store) c.args.set.now c.add.new.self c.args.member.now c.add.result c.requires c.add.ensures.added
     c.add.ensures.same_set c.add.ensures.same_blocks).changes
+
+pub returns-in-Ok-clause-grown : goal.returns-in-Ok-clause-grown
+returns-in-Ok-clause-grown g c =
+    (added_goes (g.B.BlockStore.blocks c.args.store.now) (g.B.BlockStore.blocks c.add.new.store) c.args.set.now c.add.new.self c.args.member.now c.add.result c.requires c.add.ensures.added
+    c.add.ensures.same_set c.add.ensures.same_blocks).grown
+
+pub returns-in-Err-clause-grown : goal.returns-in-Err-clause-grown
+returns-in-Err-clause-grown g c =
+    (added_goes (g.B.BlockStore.blocks c.args.store.now) (g.B.BlockStore.blocks c.add.new.store) c.args.set.now c.add.new.self c.args.member.now c.add.result c.requires c.add.ensures.added
+    c.add.ensures.same_set c.add.ensures.same_blocks).grown

@@ -4,6 +4,7 @@ use Rattle.std.specs.FinMap.{insert}
 use Rattle.blocks.specs.Blocks.{Served}
 use Rattle.blocks.proofs.Change.{changes_same, changes_then}
 use Rattle.blocks.proofs.Serve.{served_then}
+use Rattle.keyspace.proofs.Insides.{grown_on}
 use Rattle.set_object.specs.Members.{members, form_of}
 use Rattle.plain_model.specs.SetSteps.{add_all}
 use Rattle.keyspace.specs.Forms.{RisesTo, RisesWith}
@@ -17,11 +18,16 @@ loop-word-init g c = record {
   is = refl;
   risen = λ form rises. rises;
   changes = changes_same _ _ c.requires.owned;
+  grown = Served.no_step;
   served = Served.no_step;
 }
 
 pub returns-in_err-add_one-clause-served : goal.returns-in_err-add_one-clause-served
 returns-in_err-add_one-clause-served g c = served_then _ _ _ c.loop-word.invariant.served c.add_one.ensures.served
+
+pub returns-in_err-add_one-clause-grown : goal.returns-in_err-add_one-clause-grown
+returns-in_err-add_one-clause-grown g c =
+    grown_on c.args.set.now.seed c.loop-word.set.seed _ _ _ c.loop-word.invariant.settings.seed c.loop-word.invariant.grown c.add_one.ensures.grown
 
 pub loop-word-preserved : goal.loop-word-preserved
 loop-word-preserved g c =
@@ -46,6 +52,7 @@ loop-word-preserved g c =
         subst (λ s. RisesWith limits form s others last) one rises,
       ));
       changes = changes_then _ _ _ _ _ _ inv.changes c.add_one.ensures.changes;
+      grown = grown_on c.args.set.now.seed c.loop-word.set.seed _ _ _ inv.settings.seed inv.grown c.add_one.ensures.grown;
       served = served_then _ _ _ inv.served c.add_one.ensures.served;
     }
 
@@ -60,3 +67,6 @@ returns-clause-form g c =
     c.loop-word.invariant.risen (form_of c.loop-word.set)
     (subst (λ l. RisesWith c.args.set.now.limits (form_of c.loop-word.set) (members (g.B.BlockStore.blocks c.loop-word.store) c.loop-word.set) l (form_of c.loop-word.set)) (sym none)
     refl)
+
+pub returns-clause-grown : goal.returns-clause-grown
+returns-clause-grown g c = c.loop-word.invariant.grown

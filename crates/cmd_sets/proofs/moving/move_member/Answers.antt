@@ -1,10 +1,13 @@
-use Rattle.std.proofs.Common.{◌≡◌, [], ◌∷◌, Some, Ok, subst}
+use Rattle.std.proofs.Common.{◌≡◌, [], ◌∷◌, Some, Ok, sym, ap, subst}
 use Rattle.plain_world.specs.Worlds.{look}
 use Rattle.plain_model.specs.SetSteps.{or_no_members}
 use Rattle.keyspace.specs.Forms.{RisesWith}
+use Rattle.keyspace.specs.Scopes.{one_key}
+use Rattle.keyspace.specs.Insides.{size_of}
 use Rattle.keyspace.specs.Commands.{visible}
-use Rattle.cmd_sets.proofs.Telling.{before_is, formed_as, formed_risen}
-use Rattle.cmd_sets.proofs.Going.{differ, look_kept, before_stays, sought_item, held_from, held_both, moved_is, formed_both}
+use Rattle.keyspace.proofs.Settles.{settles_on}
+use Rattle.cmd_sets.proofs.Telling.{before_is, formed_as, formed_risen, like_placed, risen_placed}
+use Rattle.cmd_sets.proofs.Going.{differ, look_kept, before_stays, sought_item, held_from, held_both, moved_is, formed_both, placed_both}
 use Rattle.cmd_sets.proofs.moving.move_member.Goals as goal
 
 pub change_set-requires-clause-there : goal.change_set-requires-clause-there
@@ -62,3 +65,37 @@ returns-clause-forms g c =
     p.made.form_is {A = Unit {0}} {X = Unit {0}} (Ok tt))
     (formed_risen _ blocks step c.change_set.new.keyspace c.change_set-2.new.keyspace at to q c.change_set-2.ensures.held (c.args.member.now ∷ [])
     (subst (λ w. RisesWith c.change_set.new.keyspace.bases.limits q.from (or_no_members q.before) (w ∷ []) q.form) c.new.ensures q.made.risen) {A = Unit {0}} {X = Unit {0}} (Ok tt))
+
+pub returns-clause-placed : goal.returns-clause-placed
+returns-clause-placed g c =
+    let blocks = g.B.BlockStore.blocks in
+    let step = g.B.BlockStore.step in
+    let move = c.requires.moves in
+    let at = c.args.at.now in
+    let from = c.args.from.now in
+    let to = c.args.to.now in
+    let old = visible blocks c.args.keyspace.now at in
+    let mid = visible blocks c.change_set.new.keyspace at in
+    let p = c.in_ok-change_set.ensures.changed in
+    let q = c.in_ok-change_set-2.ensures.changed in
+    let apart = differ from to move.apart in
+    placed_both blocks step c.args.keyspace.now c.change_set.new.keyspace c.change_set-2.new.keyspace at from to c.args.member.now c.change_set.ensures.held c.change_set-2.ensures.held
+    apart (look_kept old mid from to p.now apart p.world) move.apart
+    (like_placed _ blocks step c.args.keyspace.now c.change_set.new.keyspace at from p c.change_set.ensures.held move.members (before_is old from p.before move.members p.stands move.stands)
+    p.made.form_is)
+    (risen_placed _ blocks step c.change_set.new.keyspace c.change_set-2.new.keyspace at to q c.change_set-2.ensures.held (c.args.member.now ∷ [])
+    (subst (λ w. RisesWith c.change_set.new.keyspace.bases.limits q.from (or_no_members q.before) (w ∷ []) q.form) c.new.ensures q.made.risen))
+
+pub returns-clause-settles : goal.returns-clause-settles
+returns-clause-settles g c =
+    let blocks = g.B.BlockStore.blocks in
+    let at = c.args.at.now in
+    let from = c.args.from.now in
+    let to = c.args.to.now in
+    let mid = visible blocks c.change_set.new.keyspace at in
+    let new = visible blocks c.change_set-2.new.keyspace at in
+    let q = c.in_ok-change_set-2.ensures.changed in
+    let apart = differ from to c.requires.moves.apart in
+    settles_on blocks at from (one_key at.db to) (λ named. apart (sym named.1)) c.args.keyspace.now c.change_set.new.keyspace c.change_set-2.new.keyspace
+    c.change_set.ensures.held.sound.arranged c.change_set-2.ensures.held.insides (ap size_of (look_kept mid new to from q.now (λ same. apart (sym same)) q.world))
+    c.in_ok-change_set.ensures.settles

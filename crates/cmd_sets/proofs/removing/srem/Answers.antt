@@ -1,6 +1,7 @@
 use Rattle.keyspace.specs.Scopes.{one_key}
 use Rattle.keyspace.specs.Commands.{visible}
 use Rattle.keyspace.proofs.Running.{unchanged, calm}
+use Rattle.keyspace.proofs.Settles.{settles_none, settles_ok}
 use Rattle.cmd_sets.proofs.Telling.{number_calm, before_is, dropped_reply, dropped_none, formed_as}
 use Rattle.cmd_sets.proofs.removing.srem.Goals as goal
 
@@ -37,3 +38,19 @@ returns-clause-forms g c =
     let item = rw c.in-There.is at c.set_sought.ensures in
     formed_as _ blocks g.B.BlockStore.step c.args.keyspace.now c.change_set.new.keyspace c.args.at.now c.args.key.now p c.change_set.ensures.held item.members
     (before_is world c.args.key.now p.before item.members p.stands item.has) p.made.form_is c.count_reply-2.result
+
+pub returns-in-Other-clause-settles : goal.returns-in-Other-clause-settles
+returns-in-Other-clause-settles g c =
+    let blocks = g.B.BlockStore.blocks in
+    let keyspace = c.args.keyspace.now in
+    settles_ok blocks c.args.at.now c.args.key.now keyspace keyspace c.refused.result (settles_none blocks c.args.at.now c.args.key.now keyspace)
+
+pub returns-in-Missing-clause-settles : goal.returns-in-Missing-clause-settles
+returns-in-Missing-clause-settles g c =
+    let blocks = g.B.BlockStore.blocks in
+    let keyspace = c.args.keyspace.now in
+    settles_ok blocks c.args.at.now c.args.key.now keyspace keyspace c.count_reply.result (settles_none blocks c.args.at.now c.args.key.now keyspace)
+
+pub returns-clause-settles : goal.returns-clause-settles
+returns-clause-settles g c =
+    settles_ok g.B.BlockStore.blocks c.args.at.now c.args.key.now c.args.keyspace.now c.change_set.new.keyspace c.count_reply-2.result c.in_ok-edit.ensures.settles

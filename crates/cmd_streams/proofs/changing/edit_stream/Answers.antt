@@ -1,4 +1,4 @@
-use Rattle.std.proofs.Common.{◌≡◌, [], ap, sym, subst, ◌∙◌, Some, None, rules}
+use Rattle.std.proofs.Common.{◌≡◌, [], ap, refl, sym, subst, ◌∙◌, Some, None, rules}
 use Rattle.stream_object.specs.Streams.{IsStream, stream_of, refs}
 use Rattle.stream_object.specs.declared.stream.Stream.{Stream}
 use Rattle.plain_world.specs.Worlds.{StreamOf, look}
@@ -17,6 +17,9 @@ edit_new-requires-clause-blank g c =
     let m = g.B.BlockStore.blocks c.args.keyspace.now.store in
     let same : c.in_ok-new-in-None.field-0.value ≡ c.new.result = search rules in
     subst (λ (h : Stream). refs m h ≡ []) (sym same) (c.new.ensures.refs m)
+
+pub edit_new-requires-clause-bare : goal.edit_new-requires-clause-bare
+edit_new-requires-clause-bare g c = refl
 
 pub edit_new-requires-clause-sound : goal.edit_new-requires-clause-sound
 edit_new-requires-clause-sound g c =

@@ -5,6 +5,7 @@ use Rattle.std.proofs.lemmas.List.{drop_all}
 use Rattle.blocks.specs.Blocks.{Served}
 use Rattle.blocks.proofs.Change.{changes_same, changes_then}
 use Rattle.blocks.proofs.Serve.{served_then}
+use Rattle.keyspace.proofs.Insides.{grown_on}
 use Rattle.zset_object.specs.Scored.{scores, form_of}
 use Rattle.plain_model.specs.ZsetSteps.{permits, differs, write_score, write_scores}
 use Rattle.plain_model.specs.ZsetSteps as model
@@ -22,6 +23,7 @@ loop-pair-init g c = record {
   counted = omega arith;
   risen = λ form p. p;
   changes = changes_same _ _ c.requires.owned;
+  grown = Served.no_step;
   served = Served.no_step;
 }
 
@@ -33,6 +35,9 @@ returns-in_err-other-clause-changes g c = changes_then _ _ _ _ _ _ c.loop-pair.i
 
 pub returns-in_err-other-clause-served : goal.returns-in_err-other-clause-served
 returns-in_err-other-clause-served g c = served_then _ _ _ c.loop-pair.invariant.served c.write_one.ensures.served
+
+pub returns-in_err-other-clause-grown : goal.returns-in_err-other-clause-grown
+returns-in_err-other-clause-grown g c = grown_on c.args.zset.now.seed c.loop-pair.zset.seed _ _ _ c.loop-pair.invariant.settings.seed c.loop-pair.invariant.grown c.write_one.ensures.grown
 
 pub loop-pair-preserved : goal.loop-pair-preserved
 loop-pair-preserved g c =
@@ -62,6 +67,7 @@ loop-pair-preserved g c =
             subst (λ m. RisesUnder score_rules limits (form_of c.write_one.new.zset) m others form) is p,
           ));
       changes = changes_then _ _ _ _ _ _ c.loop-pair.invariant.changes c.write_one.ensures.changes;
+      grown = grown_on c.args.zset.now.seed c.loop-pair.zset.seed _ _ _ c.loop-pair.invariant.settings.seed c.loop-pair.invariant.grown c.write_one.ensures.grown;
       served = served_then _ _ _ c.loop-pair.invariant.served c.write_one.ensures.served;
     }
 
@@ -83,3 +89,6 @@ returns-clause-risen g c =
     let now = scores (g.B.BlockStore.blocks c.loop-pair.store) c.loop-pair.zset in
     let none : drop c.loop-pair.pair-index c.args.pairs.now ≡ [] = drop_all c.loop-pair.pair-index c.args.pairs.now (omega (arith, c.loop-pair-test.false)) in
     c.loop-pair.invariant.risen (form_of c.loop-pair.zset) (subst (λ l. RisesUnder c.args.rules c.args.zset.now.limits (form_of c.loop-pair.zset) now l (form_of c.loop-pair.zset)) (sym none) refl)
+
+pub returns-clause-grown : goal.returns-clause-grown
+returns-clause-grown g c = c.loop-pair.invariant.grown

@@ -1,7 +1,9 @@
 use Rattle.std.proofs.Common.{◌≡◌, ◌+◌, ◌≤◌, drop}
 use Rattle.blocks.specs.Blocks.{Changes, Served}
 use Rattle.object_codec.specs.declared.form.Form.{Form}
-use Rattle.zset_object.specs.Scored.{IsScored, KeepsSettings, scores, form_of, refs}
+use Rattle.rehash_dict.specs.Grown.{Grown}
+use Rattle.rehash_dict.specs.Keyed.{hash_of}
+use Rattle.zset_object.specs.Scored.{IsScored, KeepsSettings, scores, form_of, refs, tables}
 use Rattle.plain_model.specs.ZsetSteps.{write_scores}
 use Rattle.plain_model.specs.ZsetSteps as model
 use Rattle.keyspace.specs.Forms.{RisesUnder}
@@ -20,5 +22,6 @@ invariant-loop-pair g l =
       counted : l.changed + model.changes l.rules now (drop l.pair-index l.pairs) ≡ model.changes l.rules before l.pairs;
       risen : (form : Form) → RisesUnder l.rules l.fn.zset.limits (form_of l.zset) now (drop l.pair-index l.pairs) form → RisesUnder l.rules l.fn.zset.limits (form_of l.fn.zset) before l.pairs form;
       changes : Changes (blocks l.fn.store) (blocks l.store) (refs l.fn.zset) (refs l.zset);
+      grown : Grown (hash_of l.fn.zset.seed) (tables (blocks l.fn.store) l.fn.zset) (tables (blocks l.store) l.zset);
       served : Served g.B.BlockStore.step l.fn.store l.store;
     }

@@ -1,4 +1,5 @@
 use Rattle.std.proofs.Common.{arith}
+use Rattle.keyspace.proofs.Settles.{settles_gone}
 use Rattle.cmd_zsets.proofs.AtKeys.{zset_kept, zset_gone, held_gone}
 use Rattle.cmd_zsets.proofs.changing.change_zset.Goals as goal
 
@@ -16,3 +17,10 @@ pub returns-clause-held : goal.returns-clause-held
 returns-clause-held g c =
     held_gone g.B.BlockStore.blocks g.B.BlockStore.step c.args.at.now.db c.args.key.now c.args.keyspace.now c.edit_zset.new.keyspace c.drop_sought.new.keyspace c.edit_zset.ensures.held
     c.drop_sought.ensures.held
+
+pub returns-then-left-gt0-clause-settles : goal.returns-then-left-gt0-clause-settles
+returns-then-left-gt0-clause-settles g c = c.in_ok-edit_zset.ensures.settles
+
+pub returns-clause-settles : goal.returns-clause-settles
+returns-clause-settles g c =
+    settles_gone g.B.BlockStore.blocks c.args.at.now c.args.key.now c.args.keyspace.now c.drop_sought.new.keyspace c.drop_sought.ensures.gone

@@ -81,7 +81,7 @@ pub returns-in-ZRem : goal.returns-in-ZRem
 returns-in-ZRem g c = ran g.B.BlockStore.blocks g.B.BlockStore.step c.args.keyspace.now c.zrem.new.keyspace c.args.at.now (Zsets c.args.command.now)
     (Zsets (zsets.ZRem c.as_slice-in-ZRem.result.now c.as_slice-in-ZRem-2.result.now)) c.zrem.result (ap Zsets (search rules))
     (told (zset_outcome (visible g.B.BlockStore.blocks c.args.keyspace.now c.args.at.now) (zsets.ZRem c.as_slice-in-ZRem.result.now c.as_slice-in-ZRem-2.result.now))
-    (visible g.B.BlockStore.blocks c.zrem.new.keyspace c.args.at.now) c.zrem.result c.zrem.ensures.gives) c.zrem.ensures.kept (nothing_shown c.zrem.result) c.zrem.ensures.forms
+    (visible g.B.BlockStore.blocks c.zrem.new.keyspace c.args.at.now) c.zrem.result c.zrem.ensures.gives) c.zrem.ensures.kept c.zrem.ensures.settles c.zrem.ensures.forms
 
 pub returns-in-ZRemRangeByRank : goal.returns-in-ZRemRangeByRank
 returns-in-ZRemRangeByRank g c = ran g.B.BlockStore.blocks g.B.BlockStore.step c.args.keyspace.now c.zremrangebyrank.new.keyspace c.args.at.now (Zsets c.args.command.now)
@@ -91,7 +91,7 @@ returns-in-ZRemRangeByRank g c = ran g.B.BlockStore.blocks g.B.BlockStore.step c
     (zset_outcome (visible g.B.BlockStore.blocks c.args.keyspace.now c.args.at.now)
     (zsets.ZRemRangeByRank c.as_slice-in-ZRemRangeByRank.result.now (to_z w64 (of_z w64 c.in-ZRemRangeByRank.a)) (to_z w64 (of_z w64 c.in-ZRemRangeByRank.b))))
     (visible g.B.BlockStore.blocks c.zremrangebyrank.new.keyspace c.args.at.now) c.zremrangebyrank.result c.zremrangebyrank.ensures.gives) c.zremrangebyrank.ensures.kept
-    (nothing_shown c.zremrangebyrank.result) c.zremrangebyrank.ensures.forms
+    c.zremrangebyrank.ensures.settles c.zremrangebyrank.ensures.forms
 
 pub returns-in-ZRemRangeByScore : goal.returns-in-ZRemRangeByScore
 returns-in-ZRemRangeByScore g c = ran g.B.BlockStore.blocks g.B.BlockStore.step c.args.keyspace.now c.zremrangebyscore.new.keyspace c.args.at.now (Zsets c.args.command.now)
@@ -100,13 +100,13 @@ returns-in-ZRemRangeByScore g c = ran g.B.BlockStore.blocks g.B.BlockStore.step 
     (zset_outcome (visible g.B.BlockStore.blocks c.args.keyspace.now c.args.at.now)
     (zsets.ZRemRangeByScore c.as_slice-in-ZRemRangeByScore.result.now c.in-ZRemRangeByScore.min c.in-ZRemRangeByScore.max))
     (visible g.B.BlockStore.blocks c.zremrangebyscore.new.keyspace c.args.at.now) c.zremrangebyscore.result c.zremrangebyscore.ensures.gives) c.zremrangebyscore.ensures.kept
-    (nothing_shown c.zremrangebyscore.result) c.zremrangebyscore.ensures.forms
+    c.zremrangebyscore.ensures.settles c.zremrangebyscore.ensures.forms
 
 pub returns-in-ZPop : goal.returns-in-ZPop
 returns-in-ZPop g c = ran g.B.BlockStore.blocks g.B.BlockStore.step c.args.keyspace.now c.zpop.new.keyspace c.args.at.now (Zsets c.args.command.now)
     (Zsets (zsets.ZPop c.as_slice-in-ZPop.result.now c.in-ZPop.from c.in-ZPop.most)) c.zpop.result (ap Zsets (search rules))
     (told (zset_outcome (visible g.B.BlockStore.blocks c.args.keyspace.now c.args.at.now) (zsets.ZPop c.as_slice-in-ZPop.result.now c.in-ZPop.from c.in-ZPop.most))
-    (visible g.B.BlockStore.blocks c.zpop.new.keyspace c.args.at.now) c.zpop.result c.zpop.ensures.gives) c.zpop.ensures.kept (nothing_shown c.zpop.result) c.zpop.ensures.forms
+    (visible g.B.BlockStore.blocks c.zpop.new.keyspace c.args.at.now) c.zpop.result c.zpop.ensures.gives) c.zpop.ensures.kept c.zpop.ensures.settles c.zpop.ensures.forms
 
 pub returns-in-ZRandMember : goal.returns-in-ZRandMember
 returns-in-ZRandMember g c = looked g.B.BlockStore.blocks g.B.BlockStore.step c.args.keyspace.now c.args.at.now (Zsets c.args.command.now)
@@ -123,4 +123,5 @@ zscan-requires-clause-count g c = asked_page c.args.command.now _ _ c.in-ZScan.o
 
 pub returns-in-ZScan : goal.returns-in-ZScan
 returns-in-ZScan g c = looked g.B.BlockStore.blocks g.B.BlockStore.step c.args.keyspace.now c.args.at.now (Zsets c.args.command.now)
-    (Zsets (zsets.ZScan c.as_slice-in-ZScan.result.now _ c.in-ZScan.options)) c.zscan.result (ap Zsets (search rules)) c.zscan.ensures.gives c.zscan.ensures.shows c.requires.ready Unwritten (λ reply. refl)
+    (Zsets (zsets.ZScan c.as_slice-in-ZScan.result.now _ c.in-ZScan.options)) c.zscan.result (ap Zsets (search rules)) c.zscan.ensures.gives c.zscan.ensures.shows c.requires.ready Unwritten
+    (λ reply. refl)

@@ -1,12 +1,14 @@
-use Rattle.std.proofs.Common.{◌≡◌, ◌+◌, refl, sym, ap, ◌∙◌, arith, length, take, drop}
+use Rattle.std.proofs.Common.{◌≡◌, ◌+◌, ◌≤◌, ℕ, refl, sym, ap, ◌∙◌, arith, length, take, drop}
 use Rattle.std.specs.Prelude.{slice_range}
 use Rattle.std.specs.FinMap.{len}
 use Rattle.blocks.specs.Blocks.{no_step}
 use Rattle.blocks.proofs.Change.{changes_same}
 use Rattle.score_table.specs.Ranking.{without_each}
-use Rattle.zset_object.specs.Scored.{scores, ranked}
+use Rattle.zset_object.specs.Scored.{scores, ranked, tables}
+use Rattle.keyspace.proofs.Settles.{settled_below}
 use Rattle.zset_object.proofs.Depends.{scored_laws_hold}
 use Rattle.plain_model.specs.ZsetSteps.{members_of, met, without_members}
+use Rattle.plain_model.specs.declared.zset_command.Direction.{Direction}
 use Rattle.cmd_zsets.specs.Spans.{start_of}
 use Rattle.cmd_zsets.proofs.Dropping.{takes_none, span_gone}
 use Rattle.cmd_zsets.proofs.Reaches.{start_inside}
@@ -35,60 +37,51 @@ overflow_add-high g c = omega (arith, c.len-len.ensures (g.B.BlockStore.blocks c
 pub start_met-low-requires : goal.start_met-low-requires
 start_met-low-requires g c = omega (arith, c.len-len.ensures (g.B.BlockStore.blocks c.args.store.now) c.requires.sound, c.requires.inside)
 
+-- the members of a span have their ranks among all
+end_inside : (from : Direction) (len many start count low : ℕ) → len ≡ many → start + count ≤ many → low ≡ start_of from len start (start + count) → low + count ≤ len
+end_inside from len many start count low is inside behind = omega (arith, start_inside from len start (start + count) low (omega arith) (omega (arith, is, inside)) behind)
+
 pub overflow_add-end : goal.overflow_add-end
 overflow_add-end g c =
     let span = c.args.span in
     let many = c.len-len.ensures (g.B.BlockStore.blocks c.args.store.now) c.requires.sound in
-    omega (
-      arith,
-      many,
-      c.requires.inside,
-      start_inside span.from c.len-len.result span.start (span.start + span.count) c.start_met-low.result (omega arith) (omega (arith, many, c.requires.inside)) c.start_met-low.ensures,
-    )
+    omega (arith, end_inside span.from c.len-len.result _ span.start span.count c.start_met-low.result many c.requires.inside c.start_met-low.ensures)
 
 pub remove_range-requires-clause-inside : goal.remove_range-requires-clause-inside
 remove_range-requires-clause-inside g c =
     let span = c.args.span in
     let many = c.len-len.ensures (g.B.BlockStore.blocks c.args.store.now) c.requires.sound in
-    omega (
-      arith,
-      many,
-      c.requires.inside,
-      start_inside span.from c.len-len.result span.start (span.start + span.count) c.start_met-low.result (omega arith) (omega (arith, many, c.requires.inside)) c.start_met-low.ensures,
-    )
+    omega (arith, many, end_inside span.from c.len-len.result _ span.start span.count c.start_met-low.result many c.requires.inside c.start_met-low.ensures)
 
-pub returns-clause-sound : goal.returns-clause-sound
-returns-clause-sound g c =
-    let blocks = g.B.BlockStore.blocks in
-    let e = c.remove_range.ensures in
-    (range_keeps (blocks c.args.store.now) (blocks c.remove_range.new.store) c.args.zset.now c.remove_range.new.self c.requires.sound _ c.remove_range.result e.removed e.err_scored e.err_blocks
-    e.err_removed).sound
+pub returns-then-span-eq0-clause-grown : goal.returns-then-span-eq0-clause-grown
+returns-then-span-eq0-clause-grown g c = no_step
 
-pub returns-clause-settings : goal.returns-clause-settings
-returns-clause-settings g c =
-    let blocks = g.B.BlockStore.blocks in
-    let e = c.remove_range.ensures in
-    (range_keeps (blocks c.args.store.now) (blocks c.remove_range.new.store) c.args.zset.now c.remove_range.new.self c.requires.sound _ c.remove_range.result e.removed e.err_scored e.err_blocks
-    e.err_removed).settings
+pub returns-then-span-eq0-clause-settled : goal.returns-then-span-eq0-clause-settled
+returns-then-span-eq0-clause-settled g c fewer = absurd (omega (arith, fewer))
 
-pub returns-clause-changes : goal.returns-clause-changes
-returns-clause-changes g c =
-    let blocks = g.B.BlockStore.blocks in
-    let e = c.remove_range.ensures in
-    (range_keeps (blocks c.args.store.now) (blocks c.remove_range.new.store) c.args.zset.now c.remove_range.new.self c.requires.sound _ c.remove_range.result e.removed e.err_scored e.err_blocks
-    e.err_removed).changes
-
-pub returns-clause-is : goal.returns-clause-is
-returns-clause-is g c =
+pub returns : goal.returns
+returns g c =
     let m = g.B.BlockStore.blocks c.args.store.now in
     let n = g.B.BlockStore.blocks c.remove_range.new.store in
     let span = c.args.span in
     let zset = c.args.zset.now in
+    let new = c.remove_range.new.self in
+    let e = c.remove_range.ensures in
+    let keeps = range_keeps m n zset new c.requires.sound _ c.remove_range.result e.removed e.err_scored e.err_blocks e.err_removed in
     let list = ranked m zset in
     let counted : length list ≡ len (scores m zset) = scored_laws_hold.counted m zset c.requires.sound in
     let size : c.len-len.result ≡ length list = c.len-len.ensures m c.requires.sound ∙ sym counted in
     let end = c.start_met-low.result + span.count in
-    range_is m n zset c.remove_range.new.self c.requires.sound (without_each (scores m zset) (slice_range list c.start_met-low.result end)) c.remove_range.result _
-    (span_gone (scores m zset) span.from list span.start span.count c.start_met-low.result end (omega (arith, counted, c.requires.inside))
-    (c.start_met-low.ensures ∙ ap (λ n. start_of span.from n span.start (span.start + span.count)) size) refl)
-    c.remove_range.ensures.removed
+    record {
+      sound = keeps.sound;
+      settings = keeps.settings;
+      grown = keeps.grown;
+      settled = settled_below c.remove_range.result (len (scores m zset)) (len (scores n new)) (tables n new) e.settled;
+      is = range_is m n zset new c.requires.sound (without_each (scores m zset) (slice_range list c.start_met-low.result end)) c.remove_range.result _
+          (span_gone (scores m zset) span.from list span.start span.count c.start_met-low.result end (omega (arith, counted, c.requires.inside))
+          (c.start_met-low.ensures ∙ ap (λ n. start_of span.from n span.start (span.start + span.count)) size) refl)
+          e.removed;
+      form = e.form;
+      changes = keeps.changes;
+      served = e.served;
+    }

@@ -3,6 +3,7 @@ use Rattle.std.specs.Prelude.{IsSome}
 use Rattle.keyspace.specs.Scopes.{one_key}
 use Rattle.keyspace.specs.Commands.{visible}
 use Rattle.keyspace.proofs.Running.{unchanged}
+use Rattle.keyspace.proofs.Settles.{settles_none, settles_ok}
 use Rattle.cmd_zsets.proofs.Telling.{before_is, formed_as, if_ok, none_popped, popped_told, popped_calm, or_one_is}
 use Rattle.cmd_zsets.proofs.popping.zpop.Goals as goal
 
@@ -40,3 +41,19 @@ returns-clause-forms g c =
 
 pub reply_of-requires : goal.reply_of-requires
 reply_of-requires g c = subst (λ o. IsSome o) (sym c.in_ok-pop.ensures.changed.made.told_is) refl
+
+pub returns-in-Other-clause-settles : goal.returns-in-Other-clause-settles
+returns-in-Other-clause-settles g c =
+    let blocks = g.B.BlockStore.blocks in
+    let keyspace = c.args.keyspace.now in
+    settles_ok blocks c.args.at.now c.args.key.now keyspace keyspace c.refused.result (settles_none blocks c.args.at.now c.args.key.now keyspace)
+
+pub returns-in-Missing-clause-settles : goal.returns-in-Missing-clause-settles
+returns-in-Missing-clause-settles g c =
+    let blocks = g.B.BlockStore.blocks in
+    let keyspace = c.args.keyspace.now in
+    settles_ok blocks c.args.at.now c.args.key.now keyspace keyspace c.empty_array.result (settles_none blocks c.args.at.now c.args.key.now keyspace)
+
+pub returns-clause-settles : goal.returns-clause-settles
+returns-clause-settles g c =
+    settles_ok g.B.BlockStore.blocks c.args.at.now c.args.key.now c.args.keyspace.now c.change_zset.new.keyspace c.reply_of.result c.in_ok-pop.ensures.settles

@@ -12,13 +12,11 @@ into_reply-requires g c =
     let f : ℕ → Option Scored = λ at. pair_at (g.B.BlockStore.blocks c.args.store.now) c.args.zset.now at in
     let all = pairs_of f c.args.items.now in
     let told : c.push_items.new.parts ≡ listed c.args.with_scores all =
-    span_listed c.args.with_scores all _ c.in_ok-told_size.field-0 c.new-parts.result c.push.new.self c.push_items.new.parts
-    (pairs_long f c.args.items.now) c.in_ok-told_size.ensures c.new-parts.ensures c.in_ok-push.ensures.ok c.in_ok-push_items.ensures in
+    span_listed c.args.with_scores all _ _ c.push_items.new.parts (pairs_long f c.args.items.now) c.in_ok-parts.ensures c.in_ok-push_items.ensures in
     subst IsReply (sym told) (listed_reply c.args.with_scores all)
 
 pub returns : goal.returns
 returns g c =
     let f : ℕ → Option Scored = λ at. pair_at (g.B.BlockStore.blocks c.args.store.now) c.args.zset.now at in
     c.into_reply.ensures
-    ∙ span_listed c.args.with_scores (pairs_of f c.args.items.now) _ c.in_ok-told_size.field-0 c.new-parts.result c.push.new.self c.push_items.new.parts
-    (pairs_long f c.args.items.now) c.in_ok-told_size.ensures c.new-parts.ensures c.in_ok-push.ensures.ok c.in_ok-push_items.ensures
+    ∙ span_listed c.args.with_scores (pairs_of f c.args.items.now) _ _ c.push_items.new.parts (pairs_long f c.args.items.now) c.in_ok-parts.ensures c.in_ok-push_items.ensures

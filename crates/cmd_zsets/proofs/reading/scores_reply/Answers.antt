@@ -4,8 +4,8 @@ use Rattle.cmd_zsets.proofs.Told.{scores_parts, scores_reply}
 use Rattle.cmd_zsets.proofs.reading.scores_reply.Goals as goal
 
 pub into_reply-requires : goal.into_reply-requires
-into_reply-requires g c = scores_reply (scores_in (g.B.BlockStore.blocks c.args.store.now) c.args.zset) c.args.members.now _ _ _ c.new-parts.ensures c.in_ok-push.ensures.ok c.in_ok-push_scores.ensures
+into_reply-requires g c = scores_reply (scores_in (g.B.BlockStore.blocks c.args.store.now) c.args.zset) c.args.members.now _ _ c.in_ok-parts.ensures c.in_ok-push_scores.ensures
 
 pub returns : goal.returns
-returns g c = c.into_reply.ensures ∙ scores_parts (scores_in (g.B.BlockStore.blocks c.args.store.now) c.args.zset) c.args.members.now _ _ _ c.new-parts.ensures c.in_ok-push.ensures.ok
+returns g c = c.into_reply.ensures ∙ scores_parts (scores_in (g.B.BlockStore.blocks c.args.store.now) c.args.zset) c.args.members.now _ _ c.in_ok-parts.ensures
     c.in_ok-push_scores.ensures

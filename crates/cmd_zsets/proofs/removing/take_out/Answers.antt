@@ -1,6 +1,6 @@
 use Rattle.std.specs.FinMap.{remove}
 use Rattle.zset_object.specs.Scored.{scores}
-use Rattle.cmd_zsets.proofs.Removed.{removed_keeps, removed_is}
+use Rattle.cmd_zsets.proofs.Removed.{removed_keeps, removed_is, removed_settled}
 use Rattle.cmd_zsets.proofs.removing.take_out.Goals as goal
 
 pub returns-in_err-remove-clause-sound : goal.returns-in_err-remove-clause-sound
@@ -43,3 +43,20 @@ pub returns-clause-is : goal.returns-clause-is
 returns-clause-is g c =
     removed_is (g.B.BlockStore.blocks c.args.store.now) (g.B.BlockStore.blocks c.remove.new.store) c.args.zset.now c.remove.new.self c.args.member.now c.in_ok-remove.field-0
     c.remove.result c.in_ok-remove.was c.in_ok-remove.ensures.there c.remove.ensures.removed c.remove.ensures.same_scored c.remove.ensures.same_blocks
+
+pub returns-in_err-remove-clause-grown : goal.returns-in_err-remove-clause-grown
+returns-in_err-remove-clause-grown g c =
+    (removed_keeps (g.B.BlockStore.blocks c.args.store.now) (g.B.BlockStore.blocks c.remove.new.store) c.args.zset.now c.remove.new.self c.requires
+    (remove (scores (g.B.BlockStore.blocks c.args.store.now) c.args.zset.now) c.args.member.now) c.remove.result c.remove.ensures.removed c.remove.ensures.same_scored
+    c.remove.ensures.same_blocks c.remove.ensures.err_scored c.remove.ensures.err_blocks c.remove.ensures.err_removed).grown
+
+pub returns-clause-grown : goal.returns-clause-grown
+returns-clause-grown g c =
+    (removed_keeps (g.B.BlockStore.blocks c.args.store.now) (g.B.BlockStore.blocks c.remove.new.store) c.args.zset.now c.remove.new.self c.requires
+    (remove (scores (g.B.BlockStore.blocks c.args.store.now) c.args.zset.now) c.args.member.now) c.remove.result c.remove.ensures.removed c.remove.ensures.same_scored
+    c.remove.ensures.same_blocks c.remove.ensures.err_scored c.remove.ensures.err_blocks c.remove.ensures.err_removed).grown
+
+pub returns-clause-settles : goal.returns-clause-settles
+returns-clause-settles g c =
+    removed_settled (g.B.BlockStore.blocks c.args.store.now) (g.B.BlockStore.blocks c.remove.new.store) c.args.zset.now c.remove.new.self c.remove.result c.remove.ensures.settled
+    c.remove.ensures.same_scored c.remove.ensures.same_blocks c.in_ok-remove.field-0 c.in_ok-remove.was

@@ -13,8 +13,8 @@ listed_here g c =
     let s = c.args.zset.now in
     let list = ranked (scores m s) in
     let long = ranked_counted m s c.requires.sound in
-    span_listed c.args.with_scores (in_span c.args.span list) c.args.span.count c.in_ok-told_size.field-0 c.new-parts.result c.push.new.self c.push_span.new.parts
-    (span_long c.args.span list (omega (arith, long, c.requires.inside))) c.in_ok-told_size.ensures c.new-parts.ensures c.in_ok-push.ensures.ok c.in_ok-push_span.ensures
+    span_listed c.args.with_scores (in_span c.args.span list) c.args.span.count _ c.push_span.new.parts (span_long c.args.span list (omega (arith, long, c.requires.inside)))
+    c.in_ok-parts.ensures c.in_ok-push_span.ensures
 
 pub into_reply-requires : goal.into_reply-requires
 into_reply-requires g c = subst IsReply (sym (listed_here g c)) (listed_reply c.args.with_scores (in_span c.args.span (ranked (scores (g.B.BlockStore.blocks c.args.store.now) c.args.zset.now))))

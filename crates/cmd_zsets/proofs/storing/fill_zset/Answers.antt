@@ -1,11 +1,13 @@
-use Rattle.std.proofs.Common.{◌≡◌, refl, sym, ap, subst, ◌∙◌, true, map, length, rules, FitsSigned, to_z, of_z}
+use Rattle.std.proofs.Common.{◌≡◌, refl, sym, ap, subst, ◌∙◌, true, map, length, rules, arith, FitsSigned, to_z, of_z}
 use Rattle.std.specs.Int.{w64, w128}
 use Rattle.std.proofs.lemmas.Int.{to_z-of_z}
-use Rattle.std.specs.FinMap.{get, insert}
+use Rattle.std.specs.FinMap.{get, insert, len}
 use Rattle.std.proofs.lemmas.Bool.{and_parts}
 use Rattle.blocks.specs.Blocks.{Served}
 use Rattle.blocks.proofs.Change.{changes_same, changes_then}
 use Rattle.blocks.proofs.Serve.{served_then}
+use Rattle.keyspace.proofs.Insides.{grown_on}
+use Rattle.keyspace.proofs.Settles.{one_more}
 use Rattle.object_codec.specs.Forms.{IsLeast}
 use Rattle.zset_object.specs.Orders.{FitsScored, IsRisen}
 use Rattle.zset_object.specs.Scored.{scores, form_of}
@@ -24,6 +26,8 @@ members-init g c = record {
   is = λ q. refl;
   least = λ h. h;
   changes = changes_same _ _ c.requires.sound.owned;
+  grown = Served.no_step;
+  more = omega arith;
   served = Served.no_step;
 }
 
@@ -42,6 +46,9 @@ returns-in_err-give_score-clause-changes g c = changes_then _ _ _ _ _ _ c.member
 
 pub returns-in_err-give_score-clause-served : goal.returns-in_err-give_score-clause-served
 returns-in_err-give_score-clause-served g c = served_then _ _ _ c.members.invariant.served c.give_score.ensures.served
+
+pub returns-in_err-give_score-clause-grown : goal.returns-in_err-give_score-clause-grown
+returns-in_err-give_score-clause-grown g c = grown_on c.args.zset.now.seed c.members.zset.seed _ _ _ c.members.invariant.settings.seed c.members.invariant.grown c.give_score.ensures.grown
 
 pub members-preserved : goal.members-preserved
 members-preserved g c =
@@ -70,6 +77,8 @@ members-preserved g c =
           ∙ one_over c.members.sums c.pop_first.new.self name sum zset c.in-Some.ensures.removal c.in-Some.ensures.updates.1 q ∙ inv.is q;
       least = λ h. subst (λ s. IsLeast (FitsScored limits s) form) (sym one) (least_more limits zset name.items sum from form (inv.least h) risen);
       changes = changes_then _ _ _ _ _ _ inv.changes c.give_score.ensures.changes;
+      grown = grown_on c.args.zset.now.seed c.members.zset.seed _ _ _ c.members.invariant.settings.seed c.members.invariant.grown c.give_score.ensures.grown;
+      more = omega (arith, inv.more, ap len one, one_more zset name.items sum);
       served = served_then _ _ _ inv.served c.give_score.ensures.served;
     }
 
@@ -81,3 +90,9 @@ returns-clause-fills g c =
       is = λ q. sym (none_over c.members.sums zset (none_left c.members.sums.entries none) q) ∙ c.members.invariant.is q;
       least = c.members.invariant.least;
     }
+
+pub returns-clause-grown : goal.returns-clause-grown
+returns-clause-grown g c = c.members.invariant.grown
+
+pub returns-clause-more : goal.returns-clause-more
+returns-clause-more g c = c.members.invariant.more

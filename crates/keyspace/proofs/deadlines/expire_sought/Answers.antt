@@ -1,7 +1,7 @@
 use Rattle.std.proofs.Common.{[], rules}
 use Rattle.keyspace.specs.Databases.{means}
 use Rattle.keyspace.specs.Scopes.{no_key}
-use Rattle.keyspace.proofs.Running.{same_held}
+use Rattle.keyspace.proofs.Running.{same_held, held_unwritten}
 use Rattle.keyspace.proofs.Seen.{expire_now}
 use Rattle.keyspace.proofs.deadlines.expire_sought.Goals as goal
 
@@ -15,10 +15,6 @@ returns-else-from-clause-world g c =
     (rw c.in-Some.is at c.requires.sees.until).stands (search rules) c.drop_hashed.ensures.means
 
 pub returns-else-from-clause-held : goal.returns-else-from-clause-held
-returns-else-from-clause-held g c = record {
-  sound = c.drop_hashed.ensures.sound [] c.requires.ready.sound;
-  served = c.drop_hashed.ensures.served;
-  settings = c.drop_hashed.ensures.settings;
-  within =
-      c.drop_hashed.ensures.within;
-}
+returns-else-from-clause-held g c =
+    held_unwritten g.B.BlockStore.blocks g.B.BlockStore.step (no_key c.args.at.now.db) c.args.keyspace.now c.drop_hashed.new.self (λ number key no. no.1) c.requires.ready.sound
+    (c.drop_hashed.ensures.sound [] c.requires.ready.sound) c.drop_hashed.ensures.served c.drop_hashed.ensures.settings c.drop_hashed.ensures.within

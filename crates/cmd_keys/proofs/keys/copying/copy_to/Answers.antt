@@ -3,7 +3,9 @@ use Rattle.blocks.proofs.Serve.{served_then}
 use Rattle.plain_world.specs.Worlds.{deadline_of}
 use Rattle.keyspace.specs.Values.{value_refs}
 use Rattle.keyspace.proofs.Calls.{settings_then}
-use Rattle.cmd_keys.proofs.Copying.{copied_put, copied_within, first_within, on_ok_so}
+use Rattle.keyspace.proofs.Insides.{insides_put_out}
+use Rattle.keyspace.proofs.Uses.{sound_is_intact}
+use Rattle.cmd_keys.proofs.Copying.{copied_put, copied_within, copied_insides, first_within, first_insides, on_ok_so}
 use Rattle.keyspace.specs.Forms.{AsAt}
 use Rattle.keyspace.proofs.Forming.{formed_copied}
 use Rattle.cmd_keys.proofs.keys.copying.copy_to.Goals as goal
@@ -25,6 +27,16 @@ returns-in-Ok-clause-held g c = record {
   within = copied_within c.args.at.now.db c.args.from.now c.args.number c.args.to.now c.args.keyspace.now.bases c.copy_value.new.keyspace.bases c.put.new.self.bases
       (g.B.BlockStore.blocks c.args.keyspace.now.store) (g.B.BlockStore.blocks c.copy_value.new.keyspace.store) (g.B.BlockStore.blocks c.put.new.self.store) c.copy_value.ensures.within
       c.put.ensures.within;
+  insides =
+      let own = g.B.BlockStore.blocks c.copy_value.new.keyspace.store in
+      let later = g.B.BlockStore.blocks c.put.new.self.store in
+      let mid = c.copy_value.new.keyspace.bases in
+      let new = c.put.new.self.bases in
+      copied_insides c.args.at.now.db c.args.from.now c.args.number c.args.to.now c.args.keyspace.now.bases mid new (g.B.BlockStore.blocks c.args.keyspace.now.store) own later
+      c.copy_value.ensures.settings.seed c.copy_value.ensures.insides
+      (insides_put_out c.args.number c.args.to.now c.in-Ok.value mid new own later (sound_is_intact mid own (value_refs own c.in-Ok.value) c.in-Ok.ensures.sound) c.in-Ok.ensures.kind
+      c.in-Ok.ensures.grown (c.put.ensures.sound (value_refs own c.in-Ok.value) [] c.in-Ok.ensures.sound (λ r. omega arith)).arranged c.put.ensures.within c.put.result c.put.ensures.has
+      c.put.ensures.value_blocks c.put.ensures.err_keys c.put.ensures.err_blocks);
 }
 
 pub returns-in-Err-clause-held : goal.returns-in-Err-clause-held
@@ -34,6 +46,8 @@ returns-in-Err-clause-held g c = record {
   settings = c.copy_value.ensures.settings;
   within = first_within c.args.at.now.db c.args.from.now c.args.number c.args.to.now c.args.keyspace.now.bases c.copy_value.new.keyspace.bases
       (g.B.BlockStore.blocks c.args.keyspace.now.store) (g.B.BlockStore.blocks c.copy_value.new.keyspace.store) c.copy_value.ensures.within;
+  insides = first_insides c.args.at.now.db c.args.from.now c.args.number c.args.to.now c.args.keyspace.now.bases c.copy_value.new.keyspace.bases
+      (g.B.BlockStore.blocks c.args.keyspace.now.store) (g.B.BlockStore.blocks c.copy_value.new.keyspace.store) c.copy_value.ensures.insides;
 }
 
 pub returns-in-Ok-clause-forms : goal.returns-in-Ok-clause-forms

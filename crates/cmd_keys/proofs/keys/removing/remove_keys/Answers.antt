@@ -1,5 +1,5 @@
 use Rattle.std.proofs.Common.{◌≡◌, ℕ, suc, ◌+◌, ◌<◌, List, ◌∷◌, length, drop, drop-cons, length-drop, add-one, refl, sym, ap, arith, rules}
-use Rattle.keyspace.proofs.Running.{same_settings}
+use Rattle.keyspace.proofs.Running.{same_settings, held_unwritten}
 use Rattle.keyspace.specs.Scopes.{no_key}
 use Rattle.keyspace.proofs.Serving.{unmoved, further}
 use Rattle.keyspace.proofs.Calls.{settings_then}
@@ -40,3 +40,8 @@ loop-key-preserved g c =
       settings =
           settings_then _ _ _ c.loop-key.invariant.settings c.remove_key.ensures.held.settings;
     }
+
+pub returns-clause-held : goal.returns-clause-held
+returns-clause-held g c =
+    held_unwritten g.B.BlockStore.blocks g.B.BlockStore.step (no_key c.args.at.now.db) c.args.keyspace.now c.loop-key.keyspace (λ number key no. no.1) c.requires.ready.sound
+    c.loop-key.invariant.sound c.loop-key.invariant.served c.loop-key.invariant.settings c.loop-key.invariant.within

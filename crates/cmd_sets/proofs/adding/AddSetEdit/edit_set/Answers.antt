@@ -23,3 +23,8 @@ returns-clause-makes g c =
       counted = omega (arith, before, after);
       risen = c.in_ok-add_words.ensures.form;
     }
+
+pub returns-clause-settled : goal.returns-clause-settled
+returns-clause-settled g c fewer =
+    let old = members (g.B.BlockStore.blocks c.args.store.now) c.args.set.now in
+    absurd (omega (arith, fewer, ap len c.in_ok-add_words.ensures.members, len_more old c.args.self.now.words.now))

@@ -1,4 +1,4 @@
-use Rattle.std.proofs.Common.{rules, ◌≡◌, List, ℕ, sym, ap, ◌∙◌, subst}
+use Rattle.std.proofs.Common.{rules, ◌≡◌, List, ℕ, sym, ap, ◌∙◌, subst, arith}
 use Rattle.std.specs.FinMap.{len}
 use Rattle.std.specs.Prelude.{unwrap_or}
 use Rattle.blocks.specs.Blocks.{Served}
@@ -30,3 +30,13 @@ returns-clause-makes g c =
       is = c.in_ok-drop_names.ensures.members ∙ ap (drop_all (members m set)) c.deref-2.ensures.value;
       form_is = c.in_ok-drop_names.ensures.form;
     }
+
+pub returns-in_err-items-clause-grown : goal.returns-in_err-items-clause-grown
+returns-in_err-items-clause-grown g c = Served.no_step
+
+pub returns-in_err-gone-clause-grown : goal.returns-in_err-gone-clause-grown
+returns-in_err-gone-clause-grown g c = Served.no_step
+
+pub returns-clause-settled : goal.returns-clause-settled
+returns-clause-settled g c =
+    c.in_ok-drop_names.ensures.settles (len (members (g.B.BlockStore.blocks c.args.store.now) c.args.set.now)) (λ less. absurd (omega (arith, less)))

@@ -22,3 +22,7 @@ returns-clause-makes g c =
       counted = omega (arith, before, after);
       form_is = c.in_ok-drop_words.ensures.form;
     }
+
+pub returns-clause-settled : goal.returns-clause-settled
+returns-clause-settled g c =
+    c.in_ok-drop_words.ensures.settles (len (members (g.B.BlockStore.blocks c.args.store.now) c.args.set.now)) (λ less. absurd (omega (arith, less)))

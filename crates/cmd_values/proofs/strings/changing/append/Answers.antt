@@ -35,12 +35,14 @@ returns-in-Other-clause-kept g c =
 pub returns-then-tail-gt-LONGEST-clause-forms : goal.returns-then-tail-gt-LONGEST-clause-forms
 returns-then-tail-gt-LONGEST-clause-forms g c =
     formed_refused g.B.BlockStore.blocks (if is_some (look (visible g.B.BlockStore.blocks c.args.keyspace.now c.args.at.now) c.args.key.now) then Raw else Whole)
-    (placed_at c.args.at.now.db c.args.key.now (if is_some (look (visible g.B.BlockStore.blocks c.args.keyspace.now c.args.at.now) c.args.key.now) then Raw else Whole)) c.args.keyspace.now ValueOutOfRange _ c.refused-then-tail-gt-LONGEST.ensures
+    (placed_at c.args.at.now.db c.args.key.now (if is_some (look (visible g.B.BlockStore.blocks c.args.keyspace.now c.args.at.now) c.args.key.now) then Raw else Whole)) c.args.keyspace.now
+    ValueOutOfRange _ c.refused-then-tail-gt-LONGEST.ensures
 
 pub returns-then-length-gt-LONGEST-clause-forms : goal.returns-then-length-gt-LONGEST-clause-forms
 returns-then-length-gt-LONGEST-clause-forms g c =
     formed_refused g.B.BlockStore.blocks (if is_some (look (visible g.B.BlockStore.blocks c.args.keyspace.now c.args.at.now) c.args.key.now) then Raw else Whole)
-    (placed_at c.args.at.now.db c.args.key.now (if is_some (look (visible g.B.BlockStore.blocks c.args.keyspace.now c.args.at.now) c.args.key.now) then Raw else Whole)) c.args.keyspace.now ValueOutOfRange _ c.refused-then-length-gt-LONGEST.ensures
+    (placed_at c.args.at.now.db c.args.key.now (if is_some (look (visible g.B.BlockStore.blocks c.args.keyspace.now c.args.at.now) c.args.key.now) then Raw else Whole)) c.args.keyspace.now
+    ValueOutOfRange _ c.refused-then-length-gt-LONGEST.ensures
 
 pub returns-in_ok-put_string-in-Missing-clause-forms : goal.returns-in_ok-put_string-in-Missing-clause-forms
 returns-in_ok-put_string-in-Missing-clause-forms g c =
@@ -54,11 +56,13 @@ returns-in_ok-change_there-in-There-clause-forms g c =
     let held = c.change_there.ensures.held in
     let raw = c.in_ok-change_there-in-There.ensures.raw in
     subst (λ (o : Option Entry). IfOk c.length_reply-in-There.result (λ reply. Formed g.B.BlockStore.blocks (if is_some o then Raw else Whole) c.args.keyspace.now c.change_there.new.keyspace
-    × Placed g.B.BlockStore.blocks (placed_at c.args.at.now.db c.args.key.now (if is_some o then Raw else Whole)) reply c.args.keyspace.now c.change_there.new.keyspace)) (sym c.in-There.ensures.1.stands)
+    × Placed g.B.BlockStore.blocks (placed_at c.args.at.now.db c.args.key.now (if is_some o then Raw else Whole)) reply c.args.keyspace.now c.change_there.new.keyspace))
+    (sym c.in-There.ensures.1.stands)
     (wrote_raw c.args.at.now.db c.args.key.now g.B.BlockStore.blocks c.args.keyspace.now c.change_there.new.keyspace c.length_reply-in-There.result
     (formed_key Raw c.args.at.now.db c.args.key.now c.args.keyspace.now.bases c.change_there.new.keyspace.bases _ _ held.within held.sound.arranged raw) raw)
 
 pub returns-in-Other-clause-forms : goal.returns-in-Other-clause-forms
 returns-in-Other-clause-forms g c =
     formed_refused g.B.BlockStore.blocks (if is_some (look (visible g.B.BlockStore.blocks c.args.keyspace.now c.args.at.now) c.args.key.now) then Raw else Whole)
-    (placed_at c.args.at.now.db c.args.key.now (if is_some (look (visible g.B.BlockStore.blocks c.args.keyspace.now c.args.at.now) c.args.key.now) then Raw else Whole)) c.args.keyspace.now WrongType _ c.refused.ensures
+    (placed_at c.args.at.now.db c.args.key.now (if is_some (look (visible g.B.BlockStore.blocks c.args.keyspace.now c.args.at.now) c.args.key.now) then Raw else Whole)) c.args.keyspace.now
+    WrongType _ c.refused.ensures

@@ -83,4 +83,5 @@ returns-in_ok-change_there-in-There-clause-forms g c =
 
 pub returns-in-Other-clause-forms : goal.returns-in-Other-clause-forms
 returns-in-Other-clause-forms g c =
-    formed_refused g.B.BlockStore.blocks (if length c.args.piece.now == 0 then Unwritten else Raw) (placed_at c.args.at.now.db c.args.key.now (if length c.args.piece.now == 0 then Unwritten else Raw)) c.args.keyspace.now WrongType _ c.refused.ensures
+    formed_refused g.B.BlockStore.blocks (if length c.args.piece.now == 0 then Unwritten else Raw)
+    (placed_at c.args.at.now.db c.args.key.now (if length c.args.piece.now == 0 then Unwritten else Raw)) c.args.keyspace.now WrongType _ c.refused.ensures

@@ -53,10 +53,12 @@ returns-in-Other-clause-kept g c =
     unchanged g.B.BlockStore.blocks g.B.BlockStore.step (one_key c.args.at.now.db c.args.key.now) c.args.keyspace.now _ c.requires.ready.sound
 
 pub returns-in-NoNumber-clause-forms : goal.returns-in-NoNumber-clause-forms
-returns-in-NoNumber-clause-forms g c = formed_refused g.B.BlockStore.blocks Whole (placed_at c.args.at.now.db c.args.key.now Whole) c.args.keyspace.now NotAnInteger c.refused-in-NoNumber.result c.refused-in-NoNumber.ensures
+returns-in-NoNumber-clause-forms g c = formed_refused g.B.BlockStore.blocks Whole (placed_at c.args.at.now.db c.args.key.now Whole) c.args.keyspace.now NotAnInteger
+    c.refused-in-NoNumber.result c.refused-in-NoNumber.ensures
 
 pub returns-in-None-clause-forms : goal.returns-in-None-clause-forms
-returns-in-None-clause-forms g c = formed_refused g.B.BlockStore.blocks Whole (placed_at c.args.at.now.db c.args.key.now Whole) c.args.keyspace.now Overflow c.refused-in-None.result c.refused-in-None.ensures
+returns-in-None-clause-forms g c = formed_refused g.B.BlockStore.blocks Whole (placed_at c.args.at.now.db c.args.key.now Whole) c.args.keyspace.now Overflow c.refused-in-None.result
+    c.refused-in-None.ensures
 
 pub returns-in-Other-clause-forms : goal.returns-in-Other-clause-forms
 returns-in-Other-clause-forms g c = formed_refused g.B.BlockStore.blocks Whole (placed_at c.args.at.now.db c.args.key.now Whole) c.args.keyspace.now WrongType c.refused.result c.refused.ensures

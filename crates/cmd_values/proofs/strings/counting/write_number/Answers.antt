@@ -1,6 +1,11 @@
 use Rattle.keyspace.specs.Values.{OfText}
 use Rattle.cmd_values.proofs.Lowering.{lifted_string}
-use Rattle.std.proofs.Common.{rules, [], Some, ap, subst, ◌∙◌}
+use Rattle.std.proofs.Common.{rules, [], Some, refl, ap, subst, ◌∙◌}
+use Rattle.held.specs.Calls.{HasOnly}
+use Rattle.keyspace.specs.declared.value.Value.TheVariants as values
+use Rattle.keyspace.specs.Sound.{Sound}
+use Rattle.keyspace.specs.Scopes.{one_key, Within}
+use Rattle.keyspace.proofs.Insides.{insides_bare}
 use Rattle.keyspace.specs.Values.{value_of}
 use Rattle.std.specs.Int.{w64}
 use Rattle.std.proofs.lemmas.Int.{to_z-of_z}
@@ -24,22 +29,41 @@ lower-requires-clause-intact g c =
     (c.lift_at-lifted.ensures.sound c.args.key.now c.args.at.now.moment (rw c.in-Some.is at c.requires.sees.there) [] c.requires.ready.sound) c.set_number.ensures.changes
 
 pub returns-in-Some-clause-held : goal.returns-in-Some-clause-held
-returns-in-Some-clause-held g c = record {
-  sound =
-      text_sound c.args.at.now _ _ _ _ _ c.args.key.now c.lift_at-lifted.result c.into_text-text.result c.set_number.new.self c.into_text-text.ensures
-      (ap g.B.BlockStore.blocks c.lift_at-lifted.ensures.store)
-      (c.lift_at-lifted.ensures.lifts c.args.key.now c.args.at.now.moment (rw c.in-Some.is at c.requires.sees.there))
-      (c.lift_at-lifted.ensures.sound c.args.key.now c.args.at.now.moment (rw c.in-Some.is at c.requires.sees.there) [] c.requires.ready.sound) c.set_number.ensures.changes _ _
-      (ap g.B.BlockStore.blocks c.lower.ensures.store) c.lower.ensures.sound;
-  served = search rules;
-  settings = search rules;
-  within = text_within c.args.at.now c.args.keyspace.now.bases c.lift_at-lifted.new.self.bases _ _ _ c.args.key.now c.lift_at-lifted.result c.into_text-text.result c.set_number.new.self
-      c.into_text-text.ensures (ap g.B.BlockStore.blocks c.lift_at-lifted.ensures.store)
-      (c.lift_at-lifted.ensures.lifts c.args.key.now c.args.at.now.moment (rw c.in-Some.is at c.requires.sees.there))
-      (c.lift_at-lifted.ensures.sound c.args.key.now c.args.at.now.moment (rw c.in-Some.is at c.requires.sees.there) [] c.requires.ready.sound) c.set_number.ensures.changes
-      c.lower.new.self.bases _ (ap g.B.BlockStore.blocks c.lower.ensures.store)
-      (c.lift_at-lifted.ensures.within c.args.key.now c.args.at.now.moment (rw c.in-Some.is at c.requires.sees.there)) c.lower.ensures.within;
-}
+returns-in-Some-clause-held g c =
+    let blocks = g.B.BlockStore.blocks in
+    let db = c.args.at.now.db in
+    let key = c.args.key.now in
+    let bases = c.args.keyspace.now.bases in
+    let new = c.lower.new.self.bases in
+    let m = blocks c.args.keyspace.now.store in
+    let later = blocks c.lower.new.self.store in
+    let text = c.set_number.new.self in
+    let sound : Sound new later =
+    text_sound c.args.at.now _ _ _ _ _ c.args.key.now c.lift_at-lifted.result c.into_text-text.result c.set_number.new.self c.into_text-text.ensures
+    (ap g.B.BlockStore.blocks c.lift_at-lifted.ensures.store)
+    (c.lift_at-lifted.ensures.lifts c.args.key.now c.args.at.now.moment (rw c.in-Some.is at c.requires.sees.there))
+    (c.lift_at-lifted.ensures.sound c.args.key.now c.args.at.now.moment (rw c.in-Some.is at c.requires.sees.there) [] c.requires.ready.sound) c.set_number.ensures.changes _ _
+    (ap g.B.BlockStore.blocks c.lower.ensures.store) c.lower.ensures.sound in
+    let within : Within (one_key db key) bases new m later =
+    text_within c.args.at.now c.args.keyspace.now.bases c.lift_at-lifted.new.self.bases _ _ _ c.args.key.now c.lift_at-lifted.result c.into_text-text.result c.set_number.new.self
+    c.into_text-text.ensures (ap g.B.BlockStore.blocks c.lift_at-lifted.ensures.store)
+    (c.lift_at-lifted.ensures.lifts c.args.key.now c.args.at.now.moment (rw c.in-Some.is at c.requires.sees.there))
+    (c.lift_at-lifted.ensures.sound c.args.key.now c.args.at.now.moment (rw c.in-Some.is at c.requires.sees.there) [] c.requires.ready.sound) c.set_number.ensures.changes
+    c.lower.new.self.bases _ (ap g.B.BlockStore.blocks c.lower.ensures.store)
+    (c.lift_at-lifted.ensures.within c.args.key.now c.args.at.now.moment (rw c.in-Some.is at c.requires.sees.there)) c.lower.ensures.within in
+    let only : HasOnly new later db key (values.Text text) =
+    text_has c.args.at.now c.args.keyspace.now.bases c.lift_at-lifted.new.self.bases _ _ _ c.args.key.now c.lift_at-lifted.result c.into_text-text.result c.set_number.new.self
+    c.into_text-text.ensures (ap g.B.BlockStore.blocks c.lift_at-lifted.ensures.store)
+    (c.lift_at-lifted.ensures.lifts c.args.key.now c.args.at.now.moment (rw c.in-Some.is at c.requires.sees.there))
+    (c.lift_at-lifted.ensures.sound c.args.key.now c.args.at.now.moment (rw c.in-Some.is at c.requires.sees.there) [] c.requires.ready.sound) c.set_number.ensures.changes
+    c.lower.new.self.bases _ (ap g.B.BlockStore.blocks c.lower.ensures.store) c.lower.ensures.has in
+    record {
+      sound = sound;
+      served = search rules;
+      settings = search rules;
+      within = within;
+      insides = insides_bare db key (values.Text text) bases new m later c.requires.ready.sound.arranged sound.arranged within only refl;
+    }
 
 pub returns-in-Some-clause-world : goal.returns-in-Some-clause-world
 returns-in-Some-clause-world g c =
@@ -71,7 +95,8 @@ returns-in-Some-clause-forms g c =
     (c.lift_at-lifted.ensures.lifts c.args.key.now c.args.at.now.moment (rw c.in-Some.is at c.requires.sees.there))
     (c.lift_at-lifted.ensures.sound c.args.key.now c.args.at.now.moment (rw c.in-Some.is at c.requires.sees.there) [] c.requires.ready.sound) c.set_number.ensures.changes
     c.lower.new.self.bases _ (ap g.B.BlockStore.blocks c.lower.ensures.store) c.lower.ensures.has in
-    let whole : AllAt IsWrittenWhole c.lower.new.self.bases (g.B.BlockStore.blocks c.lower.new.self.store) c.args.at.now.db c.args.key.now = λ i e found bytes. subst IsWrittenWhole (sym (has i e found bytes)) (ap OfText c.set_number.ensures.whole) in
+    let whole : AllAt IsWrittenWhole c.lower.new.self.bases (g.B.BlockStore.blocks c.lower.new.self.store) c.args.at.now.db c.args.key.now = λ i e found bytes. subst IsWrittenWhole
+    (sym (has i e found bytes)) (ap OfText c.set_number.ensures.whole) in
     wrote_whole c.args.at.now.db c.args.key.now g.B.BlockStore.blocks c.args.keyspace.now c.lower.new.self c.number-in-Some.result
     (formed_key Whole c.args.at.now.db c.args.key.now c.args.keyspace.now.bases c.lower.new.self.bases _ _ held.within held.sound.arranged whole) whole
 

@@ -1,6 +1,6 @@
 use Rattle.std.proofs.Common.{[], rules}
 use Rattle.cmd_values.proofs.StringLemmas.{removed}
-use Rattle.keyspace.proofs.Running.{unchanged}
+use Rattle.keyspace.proofs.Running.{unchanged, held_unwritten}
 use Rattle.keyspace.specs.Scopes.{no_key}
 use Rattle.cmd_values.proofs.strings.writing.getdel.Goals as goal
 
@@ -11,12 +11,8 @@ returns-in-Some-clause-gives g c = removed c.args.at.now c.args.keyspace.now.bas
 pub returns-in-Some-clause-kept : goal.returns-in-Some-clause-kept
 returns-in-Some-clause-kept g c = record {
   refusals = search rules;
-  held = record {
-    sound = c.drop_hashed.ensures.sound [] c.requires.ready.sound;
-    served = c.drop_hashed.ensures.served;
-    settings = c.drop_hashed.ensures.settings;
-    within = c.drop_hashed.ensures.within;
-  };
+  held = held_unwritten g.B.BlockStore.blocks g.B.BlockStore.step (no_key c.args.at.now.db) c.args.keyspace.now c.drop_hashed.new.self (λ number key no. no.1) c.requires.ready.sound
+      (c.drop_hashed.ensures.sound [] c.requires.ready.sound) c.drop_hashed.ensures.served c.drop_hashed.ensures.settings c.drop_hashed.ensures.within;
 }
 
 pub returns-in_err-sought_value-clause-kept : goal.returns-in_err-sought_value-clause-kept

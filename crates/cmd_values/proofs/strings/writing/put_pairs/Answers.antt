@@ -3,13 +3,15 @@ use Rattle.std.proofs.lemmas.List.{drop_all}
 use Rattle.std.specs.Prelude.{◌∷◌}
 use Rattle.blocks.specs.Blocks.{no_step}
 use Rattle.blocks.proofs.Serve.{served_then}
-use Rattle.keyspace.specs.Scopes.{some_keys, first_words}
+use Rattle.keyspace.specs.Scopes.{one_key, some_keys, first_words}
+use Rattle.keyspace.specs.Insides.{Insides}
+use Rattle.keyspace.proofs.Insides.{insides_none, insides_then}
 use Rattle.keyspace.proofs.Calls.{settings_then}
 use Rattle.keyspace.proofs.Running.{same_settings}
 use Rattle.keyspace.proofs.Serving.{unmoved, further}
 use Rattle.keyspace.specs.Forms.{Whole}
 use Rattle.keyspace.proofs.Forming.{formed_none, formed_then}
-use Rattle.cmd_values.proofs.Pairs.{rest_from, ArePart, first_part, rest_part, within_pairs}
+use Rattle.cmd_values.proofs.Pairs.{rest_from, ArePart, first_part, rest_part, within_pairs, insides_pairs}
 use Rattle.cmd_values.proofs.strings.writing.put_pairs.Goals as goal
 use Rattle.std.specs.Prelude.{take}
 use Rattle.held.specs.Calls.{AllAt}
@@ -24,6 +26,7 @@ loop-pair-init g c = record {
   served = no_step;
   part = λ key there. there;
   within = unmoved (some_keys c.args.at.now.db (first_words c.args.pairs.now)) c.args.keyspace.now.bases (g.B.BlockStore.blocks c.args.keyspace.now.store);
+  insides = insides_none (some_keys c.args.at.now.db (first_words c.args.pairs.now)) c.args.keyspace.now.bases (g.B.BlockStore.blocks c.args.keyspace.now.store);
   settings = same_settings c.args.keyspace.now.bases;
   forms = formed_none g.B.BlockStore.blocks Whole c.args.keyspace.now;
   whole = tt;
@@ -37,6 +40,7 @@ returns-in_err-put_string-clause-held g c =
     let others = drop (c.loop-pair.pair-index + 1) c.args.pairs.now in
     let is : drop c.loop-pair.pair-index c.args.pairs.now ≡ pair ∷ others = rest_from c.args.pairs.now c.loop-pair.pair-index pair (search rules) c.pair-item.is in
     let part : ArePart (pair ∷ others) c.args.pairs.now = subst (λ l. ArePart l c.args.pairs.now) is c.loop-pair.invariant.part in
+    let named : c.as_slice.result.now ≡ pair.0 = search rules in
     record {
       sound = held.sound;
       served = served_then _ _ _ c.loop-pair.invariant.served held.served;
@@ -45,6 +49,12 @@ returns-in_err-put_string-clause-held g c =
           (blocks c.args.keyspace.now.store) (blocks c.loop-pair.keyspace.store) (blocks c.put_string.new.keyspace.store) c.loop-pair.invariant.within
           (within_pairs c.args.at.now.db pair.0 c.args.pairs.now (first_part pair others c.args.pairs.now part) c.loop-pair.keyspace.bases c.put_string.new.keyspace.bases
           (blocks c.loop-pair.keyspace.store) (blocks c.put_string.new.keyspace.store) (search rules));
+      insides = insides_then (some_keys c.args.at.now.db (first_words c.args.pairs.now)) c.args.keyspace.now.bases c.loop-pair.keyspace.bases (blocks c.args.keyspace.now.store)
+          (blocks c.loop-pair.keyspace.store) c.loop-pair.invariant.settings.seed c.loop-pair.invariant.insides c.put_string.new.keyspace.bases (blocks c.put_string.new.keyspace.store)
+          (insides_pairs c.args.at.now.db pair.0 c.args.pairs.now (first_part pair others c.args.pairs.now part) c.loop-pair.keyspace.bases c.put_string.new.keyspace.bases
+          (blocks c.loop-pair.keyspace.store) (blocks c.put_string.new.keyspace.store)
+          (subst (λ k. Insides (one_key c.args.at.now.db k) c.loop-pair.keyspace.bases c.put_string.new.keyspace.bases (blocks c.loop-pair.keyspace.store)
+          (blocks c.put_string.new.keyspace.store)) named held.insides));
     }
 
 pub loop-pair-preserved : goal.loop-pair-preserved
@@ -55,6 +65,7 @@ loop-pair-preserved g c =
     let others = drop (c.loop-pair.pair-index + 1) c.args.pairs.now in
     let is : drop c.loop-pair.pair-index c.args.pairs.now ≡ pair ∷ others = rest_from c.args.pairs.now c.loop-pair.pair-index pair (search rules) c.pair-item.is in
     let part : ArePart (pair ∷ others) c.args.pairs.now = subst (λ l. ArePart l c.args.pairs.now) is c.loop-pair.invariant.part in
+    let named : c.as_slice.result.now ≡ pair.0 = search rules in
     let now = c.put_string.new.keyspace.bases in
     let later = blocks c.put_string.new.keyspace.store in
     let key : c.as_slice.result.now ≡ pair.0 = search rules in
@@ -76,6 +87,12 @@ loop-pair-preserved g c =
           (blocks c.args.keyspace.now.store) (blocks c.loop-pair.keyspace.store) (blocks c.put_string.new.keyspace.store) c.loop-pair.invariant.within
           (within_pairs c.args.at.now.db pair.0 c.args.pairs.now (first_part pair others c.args.pairs.now part) c.loop-pair.keyspace.bases c.put_string.new.keyspace.bases
           (blocks c.loop-pair.keyspace.store) (blocks c.put_string.new.keyspace.store) (search rules));
+      insides = insides_then (some_keys c.args.at.now.db (first_words c.args.pairs.now)) c.args.keyspace.now.bases c.loop-pair.keyspace.bases (blocks c.args.keyspace.now.store)
+          (blocks c.loop-pair.keyspace.store) c.loop-pair.invariant.settings.seed c.loop-pair.invariant.insides c.put_string.new.keyspace.bases (blocks c.put_string.new.keyspace.store)
+          (insides_pairs c.args.at.now.db pair.0 c.args.pairs.now (first_part pair others c.args.pairs.now part) c.loop-pair.keyspace.bases c.put_string.new.keyspace.bases
+          (blocks c.loop-pair.keyspace.store) (blocks c.put_string.new.keyspace.store)
+          (subst (λ k. Insides (one_key c.args.at.now.db k) c.loop-pair.keyspace.bases c.put_string.new.keyspace.bases (blocks c.loop-pair.keyspace.store)
+          (blocks c.put_string.new.keyspace.store)) named held.insides));
     }
 
 pub returns-clause-whole : goal.returns-clause-whole
@@ -83,3 +100,12 @@ returns-clause-whole g c =
     let blocks = g.B.BlockStore.blocks in
     subst (λ l. ArePlaced (places_whole c.args.at.now.db l) c.args.keyspace.now.bases c.loop-pair.keyspace.bases (blocks c.args.keyspace.now.store) (blocks c.loop-pair.keyspace.store))
     (take_whole c.args.pairs.now c.loop-pair.pair-index (drop_all c.loop-pair.pair-index c.args.pairs.now (omega (arith, c.loop-pair-test.false)))) c.loop-pair.invariant.whole
+
+pub returns-clause-held : goal.returns-clause-held
+returns-clause-held g c = record {
+  sound = c.loop-pair.invariant.sound;
+  served = c.loop-pair.invariant.served;
+  settings = c.loop-pair.invariant.settings;
+  within = c.loop-pair.invariant.within;
+  insides = c.loop-pair.invariant.insides;
+}

@@ -15,7 +15,8 @@ returns-then-is_seen-clause-kept g c =
 
 pub returns-then-is_seen-clause-forms : goal.returns-then-is_seen-clause-forms
 returns-then-is_seen-clause-forms g c =
-    not_written c.args.at.now.db c.args.key.now g.B.BlockStore.blocks c.args.keyspace.now (is_some (look (visible g.B.BlockStore.blocks c.args.keyspace.now c.args.at.now) c.args.key.now)) c.number.result
+    not_written c.args.at.now.db c.args.key.now g.B.BlockStore.blocks c.args.keyspace.now (is_some (look (visible g.B.BlockStore.blocks c.args.keyspace.now c.args.at.now) c.args.key.now))
+    c.number.result
     (sym c.is_seen.ensures ∙ c.if-is_seen.true)
 
 pub returns-clause-forms : goal.returns-clause-forms

@@ -20,3 +20,6 @@ returns-clause-makes g c =
 
 pub returns-in_err-span_reply-clause-served : goal.returns-in_err-span_reply-clause-served
 returns-in_err-span_reply-clause-served g c = no_step
+
+pub returns-in_err-span_reply-clause-grown : goal.returns-in_err-span_reply-clause-grown
+returns-in_err-span_reply-clause-grown g c = no_step

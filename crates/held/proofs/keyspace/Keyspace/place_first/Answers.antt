@@ -1,5 +1,5 @@
 use Rattle.blocks.proofs.Serve.{served_next}
-use Rattle.held.proofs.Calls.{placed_bytes, placed_intact, placed_lacks, new_means, new_only, new_arranged, new_changes, back_means, back_arranged, back_blocks, back_keys, back_owned}
+use Rattle.held.proofs.Calls.{placed_blocks, placed_bytes, placed_intact, placed_lacks, new_means, new_only, new_arranged, new_changes, back_means, back_arranged, back_blocks, back_keys, back_owned}
 use Rattle.held.proofs.Calls.{new_within, back_within}
 use Rattle.held.specs.Scopes.{one_key}
 use Rattle.held.proofs.Within.{within_same}
@@ -118,3 +118,10 @@ returns-in-Ok-insert_hashed-clause-has g c =
     let mid = g.B.BlockStore.blocks c.put_block.new.store in
     new_only g.V.Stored.refs_of g.V.Stored.value_of g.met.V.Stored.reads_own c.args.self.now.bases m mid c.in-Ok.at c.args.key.now c.args.value c.requires.intact c.in-Ok.ensures.placed
     c.in-Ok.ensures.changes c.insert_hashed.new.self c.args.db c.args.deadline c.in-Ok-insert_hashed.ensures.joins
+
+pub returns-in-Ok-insert_hashed-clause-value_blocks : goal.returns-in-Ok-insert_hashed-clause-value_blocks
+returns-in-Ok-insert_hashed-clause-value_blocks g c =
+    let m = g.B.BlockStore.blocks c.args.self.now.store in
+    let mid = g.B.BlockStore.blocks c.put_block.new.store in
+    placed_blocks g.V.Stored.refs_of g.V.Stored.value_of g.met.V.Stored.reads_own c.args.self.now.bases m mid c.in-Ok.at c.args.key.now c.args.value c.requires.intact
+    c.in-Ok.ensures.placed c.in-Ok.ensures.changes

@@ -1,6 +1,6 @@
 use Rattle.std.proofs.Common.{[], sym, ap, subst}
 use Rattle.blocks.specs.Blocks.{Blocks, Changes, Owned, Served, no_step}
-use Rattle.held.proofs.Calls.{put_owned, put_was, put_over, put_only, put_arranged, put_changes}
+use Rattle.held.proofs.Calls.{put_owned, put_was, put_over, put_only, put_blocks, put_arranged, put_changes}
 use Rattle.held.proofs.Calls.{put_within}
 use Rattle.held.specs.Scopes.{one_key, Within}
 use Rattle.held.proofs.Within.{within_keys}
@@ -87,6 +87,16 @@ returns-in_default-clause-has g c =
     let m = g.B.BlockStore.blocks c.args.self.now.store in
     let after = g.B.BlockStore.blocks c.release.new.store in
     put_only g.V.Stored.refs_of g.V.Stored.value_of g.met.V.Stored.reads_own c.args.self.now.bases c.retime.new.self.bases c.swap_value-was.new.self c.args.db m after c.in-Some.at
+    c.args.key.now c.swap_value-was.result c.args.value c.args.deadline c.requires.intact c.retime.ensures.changes c.retime.ensures.arranged c.in_default.ensures.times
+    (rw c.in-Some.is at c.requires.seeks.stands) c.swap_value-was.ensures.changes c.swap_value-was.ensures.swaps
+    (c.swap_value-was.ensures.keyed m (c.retime.ensures.arranged.keyed c.args.db))
+    (subst (λ (b : Blocks). Changes b after (g.V.Stored.refs_of b c.swap_value-was.result) []) (ap g.B.BlockStore.blocks c.retime.ensures.store) c.release.ensures.changes)
+
+pub returns-in_default-clause-value_blocks : goal.returns-in_default-clause-value_blocks
+returns-in_default-clause-value_blocks g c =
+    let m = g.B.BlockStore.blocks c.args.self.now.store in
+    let after = g.B.BlockStore.blocks c.release.new.store in
+    put_blocks g.V.Stored.refs_of g.V.Stored.value_of g.met.V.Stored.reads_own c.args.self.now.bases c.retime.new.self.bases c.swap_value-was.new.self c.args.db m after c.in-Some.at
     c.args.key.now c.swap_value-was.result c.args.value c.args.deadline c.requires.intact c.retime.ensures.changes c.retime.ensures.arranged c.in_default.ensures.times
     (rw c.in-Some.is at c.requires.seeks.stands) c.swap_value-was.ensures.changes c.swap_value-was.ensures.swaps
     (c.swap_value-was.ensures.keyed m (c.retime.ensures.arranged.keyed c.args.db))

@@ -5,9 +5,9 @@ use Rattle.blocks.proofs.Serve.{served_then}
 use Rattle.blocks.proofs.Change.{changes_then}
 use Rattle.held.proofs.Timing.{some_none}
 use Rattle.held.proofs.Calls.{look_lacks, look_stands, deadline_seen}
-use Rattle.held.proofs.Renaming.{deadline_late, moved_writes, out_with, out_look, moved_means, moved_sound, moved_changes, refused_world, refused_sound, refused_same, refused_owns}
+use Rattle.held.proofs.Renaming.{deadline_late, moved_writes, back_items, out_with, out_look, moved_means, moved_sound, moved_changes, refused_world, refused_sound, refused_same, refused_owns}
 use Rattle.held.specs.Scopes.{two_keys}
-use Rattle.held.specs.Calls.{HasValue}
+use Rattle.held.specs.Written.{Carried}
 use Rattle.held.proofs.Within.{within_none, within_then}
 use Rattle.held.proofs.SoughtKeys.{kept_sought}
 use Rattle.held.proofs.Written.{written_none}
@@ -214,11 +214,13 @@ returns-in-Err-clause-within g c =
     (c.swap_value-zero.ensures.tables (g.B.BlockStore.blocks c.place_sought.new.self.store)) c.args.to.now)
 
 pub returns-in_default-clause-writes : goal.returns-in_default-clause-writes
-returns-in_default-clause-writes g c out sound = written_none g.V.Stored.refs_of (HasValue c.args.self.now.bases (g.B.BlockStore.blocks c.args.self.now.store) c.args.db c.args.from.now)
+returns-in_default-clause-writes g c out sound = written_none g.V.Stored.refs_of
+    (Carried g.V.Stored.refs_of c.args.self.now.bases (g.B.BlockStore.blocks c.args.self.now.store) (g.B.BlockStore.blocks c.args.self.now.store) c.args.db c.args.from.now)
     c.args.self.now.bases (g.B.BlockStore.blocks c.args.self.now.store)
 
 pub returns-then-eq-clause-writes : goal.returns-then-eq-clause-writes
-returns-then-eq-clause-writes g c out sound = written_none g.V.Stored.refs_of (HasValue c.args.self.now.bases (g.B.BlockStore.blocks c.args.self.now.store) c.args.db c.args.from.now)
+returns-then-eq-clause-writes g c out sound = written_none g.V.Stored.refs_of
+    (Carried g.V.Stored.refs_of c.args.self.now.bases (g.B.BlockStore.blocks c.args.self.now.store) (g.B.BlockStore.blocks c.args.self.now.store) c.args.db c.args.from.now)
     c.args.self.now.bases (g.B.BlockStore.blocks c.args.self.now.store)
 
 pub returns-in-Ok-clause-writes : goal.returns-in-Ok-clause-writes
@@ -230,12 +232,25 @@ returns-in-Ok-clause-writes g c out sound =
     (subst (IsBlank g.V.Stored.refs_of g.V.Stored.IsSound) (sym c.zero.ensures) g.met.V.Stored.is_blank) c.swap_value-value.ensures.swaps
     (c.swap_value-value.ensures.keyed (g.B.BlockStore.blocks c.args.self.now.store) (c.requires.intact.arranged.keyed c.args.db))
     c.args.to_db c.args.to.now c.place_sought.new.self.bases c.drop_hashed-there.new.self.bases (g.B.BlockStore.blocks c.place_sought.new.self.store)
-    (g.B.BlockStore.blocks c.drop_hashed-there.new.self.store) c.in-Ok.ensures.has c.drop_hashed-there.ensures.within c.drop_hashed-there.ensures.means
+    (g.B.BlockStore.blocks c.drop_hashed-there.new.self.store) c.in-Ok.ensures.has c.in-Ok.ensures.value_blocks c.drop_hashed-there.ensures.within c.drop_hashed-there.ensures.means
     (returns-in-Ok-clause-within g c) (returns-in-Ok-clause-sound g c out sound).arranged
 
 pub returns-in-Err-clause-err_owned : goal.returns-in-Err-clause-err_owned
 returns-in-Err-clause-err_owned g c =
     refused_owns g.V.Stored.refs_of g.V.Stored.value_of g.met.V.Stored.reads_own c.args.self.now.bases c.swap_value-value.new.self c.args.db (g.B.BlockStore.blocks c.args.self.now.store)
+    c.requires.intact c.args.from.now c.in-Some.at (rw c.in-Some.is at c.requires.seeks.stands) c.args.found.deadline
+    (deadline_seen g.V.Stored.refs_of g.V.Stored.value_of g.met.V.Stored.reads_own c.args.self.now.bases c.args.db (g.B.BlockStore.blocks c.args.self.now.store)
+    c.requires.intact.arranged c.args.from.now ∙ sym c.requires.lasts) c.swap_value-value.ensures.changes c.swap_value-value.result c.zero.result
+    (subst (IsBlank g.V.Stored.refs_of g.V.Stored.IsSound) (sym c.zero.ensures) g.met.V.Stored.is_blank) c.swap_value-value.ensures.swaps
+    (c.swap_value-value.ensures.keyed (g.B.BlockStore.blocks c.args.self.now.store) (c.requires.intact.arranged.keyed c.args.db))
+    c.args.to_db c.place_sought.new.self.bases (g.B.BlockStore.blocks c.place_sought.new.self.store) c.in-Err.ensures.err_blocks c.in-Err.ensures.err_keys c.in-Err.ensures.err_owned
+    c.in-Err.ensures.arranged c.in-Err.ensures.kept c.swap_value-zero.new.self c.in-Err.value c.in-Err.ensures.value_returned c.place_sought.ensures.settings
+    c.swap_value-zero.ensures.changes c.swap_value-zero.result c.swap_value-zero.ensures.swaps
+    (c.swap_value-zero.ensures.keyed (g.B.BlockStore.blocks c.place_sought.new.self.store) (c.in-Err.ensures.arranged.keyed c.args.db))
+
+pub returns-in-Err-clause-err_items : goal.returns-in-Err-clause-err_items
+returns-in-Err-clause-err_items g c =
+    back_items g.V.Stored.refs_of g.V.Stored.value_of g.met.V.Stored.reads_own c.args.self.now.bases c.swap_value-value.new.self c.args.db (g.B.BlockStore.blocks c.args.self.now.store)
     c.requires.intact c.args.from.now c.in-Some.at (rw c.in-Some.is at c.requires.seeks.stands) c.args.found.deadline
     (deadline_seen g.V.Stored.refs_of g.V.Stored.value_of g.met.V.Stored.reads_own c.args.self.now.bases c.args.db (g.B.BlockStore.blocks c.args.self.now.store)
     c.requires.intact.arranged c.args.from.now ∙ sym c.requires.lasts) c.swap_value-value.ensures.changes c.swap_value-value.result c.zero.result
