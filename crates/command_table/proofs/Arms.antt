@@ -11,9 +11,9 @@ use Rattle.plain_model.specs.declared.keys.KeyCommand.{KeyCommand}
 use Rattle.plain_model.specs.declared.keys.ExpireOptions.{ExpireOptions}
 use Rattle.plain_world.specs.declared.refusal.Refusal.{Refusal}
 use Rattle.plain_world.specs.declared.refusal.Refusal.TheVariants.{WrongNumberOfArguments, Syntax}
-use Rattle.command_table.specs.declared.fault.ReadingFault.{ReadingFault}
-use Rattle.command_table.specs.declared.fault.ReadingFault.TheVariants.{Refused, Memory}
-use Rattle.command_table.specs.Readings.{Tells, TellsAs, Gathers, just, and_options, one_and_amount, expire_parts, keeps_list, ReadsAs}
+use Rattle.command_words.specs.declared.fault.ReadingFault.{ReadingFault}
+use Rattle.command_words.specs.declared.fault.ReadingFault.TheVariants.{Refused, Memory}
+use Rattle.command_words.specs.Readings.{Tells, TellsAs, Gathers, just, and_options, one_and_amount, expire_parts, keeps_list, ReadsAs}
 
 -- what a row makes is made of what its words tell
 
@@ -215,18 +215,3 @@ module _ {C : Type 0} (family : C → Command) (make : List ℕ → Option ℕ �
   popped_made words first answer h m =
       subst (λ r. ReadsAs family (and_then r (λ c. Ok (family c))) answer) (sym (pop_then (drop 1 words)))
       (made family (λ (a : List ℕ × Option ℕ). a) popping (λ a. make a.0 a.1) (λ a. refl) (one_and_amount (drop 1 words)) first answer h m)
-
--- a command that its own reader made of the words
-pub lifted : {C : Type 0} (family : C → Command) (means : Result C Refusal) (answer : Result C ReadingFault) → Tells means answer
-    → ReadsAs family (and_then means (λ command. Ok (family command))) answer
-lifted family means (Ok command) h = ap (λ r. and_then r (λ command. Ok (family command))) h
-lifted family means (Err (Refused refusal)) h = ap (λ r. and_then r (λ command. Ok (family command))) h
-lifted family means (Err Memory) h = absurd h
-
--- a family's command among all commands
-pub of_family : {C : Type 0} (family : C → Command) (means : Result Command Refusal) (first : Result C ReadingFault) (answer : Result Command ReadingFault) → ReadsAs family means first
-    → MatchResult first (λ a. IsOkAnd answer (λ b. b ≡ family a)) (λ e. answer ≡ Err e) → ReadsAs (λ command. command) means answer
-of_family family means (Ok c) (Ok command) h m = h ∙ ap Ok (sym m)
-of_family family means (Ok c) (Err fault) h m = absurd m
-of_family family means (Err (Refused refusal)) answer h m = subst (ReadsAs (λ command. command) means) (sym m) h
-of_family family means (Err Memory) answer h m = subst (ReadsAs (λ command. command) means) (sym m) h

@@ -6,8 +6,8 @@ use Rattle.plain_world.specs.Words.{Words}
 use Rattle.plain_model.specs.Shapes.{Plain, Picks, told, AllTold, and_then, with_options, with_picks, with_picked}
 use Rattle.plain_model.specs.declared.command.Command.{Command}
 use Rattle.plain_world.specs.declared.refusal.Refusal.{Refusal}
-use Rattle.command_table.specs.declared.fault.ReadingFault.{ReadingFault}
-use Rattle.command_table.specs.Readings.{Tells, ReadsAs, flag, one_and_picks, one_and_picked}
+use Rattle.command_words.specs.declared.fault.ReadingFault.{ReadingFault}
+use Rattle.command_words.specs.Readings.{Tells, ReadsAs, flag, one_and_picks, one_and_picked}
 use Rattle.command_table.proofs.Arms.{made, options_then}
 
 -- a key, and a number of picks or none

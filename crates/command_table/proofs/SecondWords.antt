@@ -9,11 +9,11 @@ use Rattle.plain_model.specs.declared.connection.ConnectionCommand.{ConnectionCo
 use Rattle.plain_model.specs.declared.connection.ConnectionCommand.TheVariants as connection
 use Rattle.plain_world.specs.declared.refusal.Refusal.{Refusal}
 use Rattle.plain_world.specs.declared.refusal.Refusal.TheVariants.{WrongNumberOfArguments, Syntax}
-use Rattle.command_table.specs.declared.fault.ReadingFault.{ReadingFault}
-use Rattle.command_table.specs.declared.fault.ReadingFault.TheVariants.{Refused, Memory}
-use Rattle.command_table.specs.Readings.{word_at, Tells, TellsAs}
+use Rattle.command_words.specs.declared.fault.ReadingFault.{ReadingFault}
+use Rattle.command_words.specs.declared.fault.ReadingFault.TheVariants.{Refused, Memory}
+use Rattle.command_words.specs.Readings.{word_at, Tells, TellsAs}
 use Rattle.command_table.proofs.Arms.{fixed_then}
-use Rattle.command_table.proofs.Shapes.{from_place}
+use Rattle.command_words.proofs.Shapes.{from_place}
 
 abbrev rehash : AllTold (Steps ∷ []) → Result ConnectionCommand Refusal
 rehash a = Ok (connection.DebugRehash a.0)

@@ -13,6 +13,7 @@ use Rattle.plain_model.specs.declared.command.Command.{Command}
 use Rattle.plain_world.specs.declared.refusal.Refusal.TheVariants.{UnknownCommand}
 use Rattle.command_table.specs.declared.table.Row.{Row}
 use Rattle.command_table.specs.declared.table.Name.{Name}
+use Rattle.command_words.proofs.Told.{both}
 use Rattle.command_table.specs.Rows.{names, is_among, covered, IsTable, name_of, found_in, Finds}
 
 -- no name is the word
@@ -23,10 +24,6 @@ IsNone lower ns = AllByRecursion (λ n. bytes_eq lower n ≡ false) ns
 unknown : (rows : List (Definition Command)) (lower : List ℕ) (words : Words) → IsNone lower (map (λ row. row.name) rows) → read_by rows lower words ≡ Err UnknownCommand
 unknown [] lower words h = refl
 unknown (row ∷ rows) lower words h = ap (λ b. if b then row.read words else read_by rows lower words) h.0 ∙ unknown rows lower words h.1
-
-pub both : (a b : Bool) → (a && b) ≡ true → (a ≡ true) × (b ≡ true)
-both true b e = (refl, e)
-both false b e = cc
 
 among_none : (lower n : List ℕ) (others : List (List ℕ)) → IsNone lower others → is_among others n ≡ true → bytes_eq lower n ≡ false
 among_none lower n [] h e = cc

@@ -1,3 +1,2 @@
-pub mod Joins
-pub mod Readings
+pub mod Families
 pub mod Rows

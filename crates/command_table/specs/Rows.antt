@@ -1,8 +1,11 @@
 -- The names of commands, and the code's table of them.
 use Rattle.std.specs.Prelude.{◌≡◌, ℕ, ◌==◌, List, [], ◌∷◌, length, map, Bool, true, false, ◌||◌, ◌&&◌}
-use Rattle.std.specs.Prelude.{if◌then◌else◌, bytes_eq, Option, Some, None, codes, Err}
+use Rattle.std.specs.Prelude.{if◌then◌else◌, bytes_eq, Option, Some, None, Result, codes, Err}
 use Rattle.plain_world.specs.Words.{Words, in_lower_case}
-use Rattle.plain_model.specs.Meant.{rows, meant}
+use Rattle.plain_model.specs.Shapes.{Row as Definition}
+use Rattle.plain_model.specs.Meant.{of_family, read_by, rows, meant}
+use Rattle.plain_model.specs.declared.command.Command.{Command}
+use Rattle.plain_world.specs.declared.refusal.Refusal.{Refusal}
 use Rattle.plain_world.specs.declared.refusal.Refusal.TheVariants.{UnknownCommand}
 use Rattle.command_table.specs.declared.table.StringName.{StringName}
 use Rattle.command_table.specs.declared.table.StringName.TheVariants as string
@@ -180,6 +183,10 @@ name_of (Zsets name) = zset_name name
 name_of (Streams name) = stream_name name
 name_of (Keys name) = key_name name
 name_of (Connection name) = connection_name name
+
+-- what the words behind a name mean by the rows of its family alone
+abbrev pub by_own : {A : Type 0} → (A → Command) → List (Definition A) → List ℕ → Words → Result Command Refusal
+by_own family own name words = read_by (map (of_family family) own) name words
 
 -- the names that the definition knows
 abbrev pub names : List (List ℕ)

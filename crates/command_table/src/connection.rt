@@ -1,19 +1,18 @@
 //! The words of commands on the connection and the server.
 
 ghost use Rattle.std.specs.Prelude.{◌≡◌, ◌<◌, ◌∷◌, [], length, drop, Ok};
-ghost use Rattle.plain_model.specs.Meant.{meant};
 ghost use Rattle.plain_model.specs.Shapes.{Database, Steps, by_second, fixed};
-ghost use Rattle.plain_model.specs.ConnectionWords.{ping_words, flush_words, memory_rows, debug_rows};
+ghost use Rattle.plain_model.specs.ConnectionWords.{ping_words, flush_words, memory_rows, debug_rows, connection_rows};
 ghost use Rattle.plain_model.specs.declared.command.Command.TheVariants as commands;
 ghost use Rattle.plain_model.specs.declared.connection.ConnectionCommand.{ConnectionCommand};
-ghost use Rattle.command_table.specs.Readings.{Tells, TellsAs, ReadsAs};
-ghost use Rattle.command_table.specs.Rows.{connection_name};
+ghost use Rattle.command_words.specs.Readings.{Tells, TellsAs, ReadsAs};
+ghost use Rattle.command_table.specs.Rows.{by_own, connection_name};
 
-use crate::ReadingFault;
-use crate::kinds::{WRONG_NUMBER, alone, one};
-use crate::options::read_options;
 use crate::table::ConnectionName;
-use crate::words::{database, is_word, plain, steps};
+use command_words::ReadingFault;
+use command_words::kinds::{WRONG_NUMBER, alone, one};
+use command_words::options::read_options;
+use command_words::words::{database, is_word, plain, steps};
 use plain_model::{ConnectionCommand, Refusal};
 use resp_frames::Request;
 
@@ -101,13 +100,13 @@ fn debug<'r>(request: &'r Request<'_>) -> Result<ConnectionCommand<'r>, ReadingF
 }
 
 /// Turns the words behind the name of a command on the connection or the server into it.
-#[tactic(auto, using(crate::proofs::Arms::fixed_made, crate::proofs::Arms::lifted))]
+#[tactic(auto, using(crate::proofs::Arms::fixed_made, command_words::proofs::Lifted::lifted))]
 pub fn read_connection<'r>(
     name: ConnectionName,
     request: &'r Request<'_>,
 ) -> Result<ConnectionCommand<'r>, ReadingFault>
     requires { 0 < length request.now }
-    ensures { ReadsAs commands.Connection (meant (connection_name name ∷ drop 1 request.now)) result }
+    ensures { ReadsAs commands.Connection (by_own commands.Connection connection_rows (connection_name name) (drop 1 request.now)) result }
 {
     match name {
         ConnectionName::Ping => ping(request),

@@ -1,18 +1,19 @@
 //! The words of commands on hashes.
 
 ghost use Rattle.std.specs.Prelude.{◌<◌, ◌∷◌, length, drop};
-ghost use Rattle.plain_model.specs.Meant.{meant};
 ghost use Rattle.plain_model.specs.KeyWords.{page_words};
+ghost use Rattle.plain_model.specs.HashWords.{hash_rows};
 ghost use Rattle.plain_model.specs.declared.command.Command.TheVariants as commands;
 ghost use Rattle.plain_model.specs.declared.hash_command.HashCommand.TheVariants as hash_commands;
-ghost use Rattle.command_table.specs.Readings.{ReadsAs, Tells};
-ghost use Rattle.command_table.specs.Rows.{hash_name};
+ghost use Rattle.command_words.specs.Readings.{ReadsAs, Tells};
+ghost use Rattle.command_table.specs.Rows.{by_own, hash_name};
 
-use crate::ReadingFault;
-use crate::kinds::{one, one_and_pairs, one_and_words, three, two, two_and_number};
-use crate::pages::page;
-use crate::picks::{WithValues, one_and_picked};
+use crate::making::{of_three, of_two};
 use crate::table::HashName;
+use command_words::ReadingFault;
+use command_words::kinds::{one, one_and_pairs, one_and_words, three, two, two_and_number};
+use command_words::pages::page;
+use command_words::picks::{WithValues, one_and_picked};
 use plain_model::HashCommand;
 use resp_frames::Request;
 use std::alloc::Global;
@@ -34,34 +35,22 @@ pub fn read_hash<'r>(
     request: &'r Request<'_>,
 ) -> Result<HashCommand<'r>, ReadingFault>
     requires { 0 < length request.now }
-    ensures { ReadsAs commands.Hashes (meant (hash_name name ∷ drop 1 request.now)) result }
+    ensures { ReadsAs commands.Hashes (by_own commands.Hashes hash_rows (hash_name name) (drop 1 request.now)) result }
 {
     match name {
-        HashName::HSet => one_and_pairs(alloc, request).map(|(key, own)| HashCommand::HSet(
-            key, own,
-        )),
-        HashName::HMSet => one_and_pairs(alloc, request).map(|(key, own)| HashCommand::HMSet(
-            key, own,
-        )),
-        HashName::HSetNx => three(request).map(|(key, field, value)| HashCommand::HSetNx(
-            key, field, value,
-        )),
-        HashName::HGet => two(request).map(|(key, field)| HashCommand::HGet(key, field)),
-        HashName::HMGet => one_and_words(alloc, request).map(|(key, own)| HashCommand::HMGet(
-            key, own,
-        )),
-        HashName::HDel => one_and_words(alloc, request).map(|(key, own)| HashCommand::HDel(
-            key, own,
-        )),
-        HashName::HExists => two(request).map(|(key, field)| HashCommand::HExists(key, field)),
+        HashName::HSet => of_two(one_and_pairs(alloc, request), HashCommand::HSet),
+        HashName::HMSet => of_two(one_and_pairs(alloc, request), HashCommand::HMSet),
+        HashName::HSetNx => of_three(three(request), HashCommand::HSetNx),
+        HashName::HGet => of_two(two(request), HashCommand::HGet),
+        HashName::HMGet => of_two(one_and_words(alloc, request), HashCommand::HMGet),
+        HashName::HDel => of_two(one_and_words(alloc, request), HashCommand::HDel),
+        HashName::HExists => of_two(two(request), HashCommand::HExists),
         HashName::HLen => one(request).map(HashCommand::HLen),
-        HashName::HStrLen => two(request).map(|(key, field)| HashCommand::HStrLen(key, field)),
+        HashName::HStrLen => of_two(two(request), HashCommand::HStrLen),
         HashName::HKeys => one(request).map(HashCommand::HKeys),
         HashName::HVals => one(request).map(HashCommand::HVals),
         HashName::HGetAll => one(request).map(HashCommand::HGetAll),
-        HashName::HIncrBy => two_and_number(request).map(|(key, field, n)| HashCommand::HIncrBy(
-            key, field, n,
-        )),
+        HashName::HIncrBy => of_three(two_and_number(request), HashCommand::HIncrBy),
         HashName::HRandField => one_and_picked(request, WithValues(false)).map(|(
             key,
             n,

@@ -1,20 +1,22 @@
 //! The words of commands on keys.
 
 ghost use Rattle.std.specs.Prelude.{◌≡◌, ◌<◌, [], ◌∷◌, length, drop, Ok};
-ghost use Rattle.plain_model.specs.Meant.{meant};
 ghost use Rattle.plain_model.specs.Shapes.{Cursor, by_second, with_options};
-ghost use Rattle.plain_model.specs.KeyWords.{scan_options, no_scan_options, object_rows};
+ghost use Rattle.plain_model.specs.KeyWords.{scan_options, no_scan_options, object_rows, key_rows};
 ghost use Rattle.plain_model.specs.declared.command.Command.TheVariants as commands;
 ghost use Rattle.plain_model.specs.declared.keys.KeyCommand.{KeyCommand};
-ghost use Rattle.command_table.specs.Readings.{Tells, TellsAs, ReadsAs, expire_parts};
-ghost use Rattle.command_table.specs.Rows.{key_name};
+ghost use Rattle.command_words.specs.Readings.{Tells, TellsAs, ReadsAs, expire_parts};
+ghost use Rattle.command_table.specs.Rows.{by_own, key_name};
 
-use crate::ReadingFault;
-use crate::key_options::{clash, no_copy_options, no_expire_options, no_scan_options};
-use crate::kinds::{WRONG_NUMBER, alone, one, one_and_database, two, two_and_options, words};
-use crate::options::read_options;
+use crate::making::{of_three, of_two};
 use crate::table::KeyName;
-use crate::words::{cursor, is_word, number, plain};
+use command_words::ReadingFault;
+use command_words::key_options::{clash, no_copy_options, no_expire_options, no_scan_options};
+use command_words::kinds::{
+    WRONG_NUMBER, alone, one, one_and_database, two, two_and_options, words,
+};
+use command_words::options::read_options;
+use command_words::words::{cursor, is_word, number, plain};
 use plain_model::{ExpireOptions, KeyCommand, Refusal, Word};
 use resp_frames::Request;
 use std::alloc::Global;
@@ -66,14 +68,14 @@ fn scan<'r>(request: &'r Request<'_>) -> Result<KeyCommand<'r>, ReadingFault>
 }
 
 /// Turns the words behind the name of a command on keys into it.
-#[tactic(auto, using(crate::proofs::Arms::fixed_made, crate::proofs::Arms::options_made, crate::proofs::Arms::gathered, crate::proofs::Arms::lifted))]
+#[tactic(auto, using(crate::proofs::Arms::fixed_made, crate::proofs::Arms::options_made, crate::proofs::Arms::gathered, command_words::proofs::Lifted::lifted))]
 pub fn read_key<'r>(
     alloc: Global,
     name: KeyName,
     request: &'r Request<'_>,
 ) -> Result<KeyCommand<'r>, ReadingFault>
     requires { 0 < length request.now }
-    ensures { ReadsAs commands.Keys (meant (key_name name ∷ drop 1 request.now)) result }
+    ensures { ReadsAs commands.Keys (by_own commands.Keys key_rows (key_name name) (drop 1 request.now)) result }
 {
     match name {
         KeyName::Del => words(alloc, request).map(KeyCommand::Del),
@@ -81,31 +83,22 @@ pub fn read_key<'r>(
         KeyName::Exists => words(alloc, request).map(KeyCommand::Exists),
         KeyName::Touch => words(alloc, request).map(KeyCommand::Touch),
         KeyName::TypeOf => one(request).map(KeyCommand::TypeOf),
-        KeyName::Expire => {
-            expire(request).map(|(key, n, options)| KeyCommand::Expire(key, n, options))
-        }
-        KeyName::PExpire => {
-            expire(request).map(|(key, n, options)| KeyCommand::PExpire(key, n, options))
-        }
-        KeyName::ExpireAt => {
-            expire(request).map(|(key, n, options)| KeyCommand::ExpireAt(key, n, options))
-        }
-        KeyName::PExpireAt => {
-            expire(request).map(|(key, n, options)| KeyCommand::PExpireAt(key, n, options))
-        }
+        KeyName::Expire => { of_three(expire(request), KeyCommand::Expire) }
+        KeyName::PExpire => { of_three(expire(request), KeyCommand::PExpire) }
+        KeyName::ExpireAt => { of_three(expire(request), KeyCommand::ExpireAt) }
+        KeyName::PExpireAt => { of_three(expire(request), KeyCommand::PExpireAt) }
         KeyName::Ttl => one(request).map(KeyCommand::Ttl),
         KeyName::PTtl => one(request).map(KeyCommand::PTtl),
         KeyName::ExpireTime => one(request).map(KeyCommand::ExpireTime),
         KeyName::PExpireTime => one(request).map(KeyCommand::PExpireTime),
         KeyName::Persist => one(request).map(KeyCommand::Persist),
-        KeyName::Rename => two(request).map(|(from, to)| KeyCommand::Rename(from, to)),
-        KeyName::RenameNx => two(request).map(|(from, to)| KeyCommand::RenameNx(from, to)),
-        KeyName::CopyKey => two_and_options(request, no_copy_options()).map(|(
-            from,
-            to,
-            options,
-        )| KeyCommand::Copy(from, to, options)),
-        KeyName::MoveKey => one_and_database(request).map(|(key, db)| KeyCommand::MoveKey(key, db)),
+        KeyName::Rename => of_two(two(request), KeyCommand::Rename),
+        KeyName::RenameNx => of_two(two(request), KeyCommand::RenameNx),
+        KeyName::CopyKey => of_three(
+            two_and_options(request, no_copy_options()),
+            KeyCommand::Copy,
+        ),
+        KeyName::MoveKey => of_two(one_and_database(request), KeyCommand::MoveKey),
         KeyName::RandomKey => alone(request, KeyCommand::RandomKey),
         KeyName::Object => object(request),
         KeyName::KeysLike => one(request).map(KeyCommand::KeysLike),

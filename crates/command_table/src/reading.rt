@@ -1,11 +1,10 @@
 //! A request as a command.
 
-ghost use Rattle.std.specs.Prelude.{◌<◌, ◌∷◌, length, drop, IfOk};
-ghost use Rattle.plain_model.specs.Meant.{meant, IsAsked};
-ghost use Rattle.command_table.specs.Readings.{ReadsAs, ReadsCommand};
-ghost use Rattle.command_table.specs.Rows.{name_of};
+ghost use Rattle.std.specs.Prelude.{◌<◌, length, drop, IfOk};
+ghost use Rattle.plain_model.specs.Meant.{IsAsked};
+ghost use Rattle.command_words.specs.Readings.{ReadsAs, ReadsCommand};
+ghost use Rattle.command_table.specs.Families.{by_family};
 
-use crate::ReadingFault;
 use crate::connection::read_connection;
 use crate::hashes::read_hash;
 use crate::keys::read_key;
@@ -15,19 +14,19 @@ use crate::streams::read_stream;
 use crate::strings::read_string;
 use crate::table::{Name, find};
 use crate::zsets::read_zset;
+use command_words::ReadingFault;
 use plain_model::{Command, Refusal};
 use resp_frames::Request;
 use std::alloc::Global;
 
 // Turns the words behind a known name into its command.
-#[tactic(auto, using(crate::proofs::Arms::of_family))]
 fn read_named<'r>(
     alloc: Global,
     name: Name,
     request: &'r Request<'_>,
 ) -> Result<Command<'r>, ReadingFault>
     requires { 0 < length request.now }
-    ensures { ReadsAs (λ command. command) (meant (name_of name ∷ drop 1 request.now)) result }
+    ensures { ReadsAs (λ command. command) (by_family name (drop 1 request.now)) result }
 {
     match name {
         Name::Strings(name) => read_string(alloc, name, request).map(Command::Strings),

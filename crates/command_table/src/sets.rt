@@ -1,19 +1,20 @@
 //! The words of commands on sets.
 
 ghost use Rattle.std.specs.Prelude.{◌<◌, ◌∷◌, length, drop};
-ghost use Rattle.plain_model.specs.Meant.{meant};
 ghost use Rattle.plain_model.specs.KeyWords.{page_words};
+ghost use Rattle.plain_model.specs.SetWords.{set_rows};
 ghost use Rattle.plain_model.specs.declared.command.Command.TheVariants as commands;
 ghost use Rattle.plain_model.specs.declared.set_command.SetCommand.TheVariants as set_commands;
-ghost use Rattle.command_table.specs.Readings.{ReadsAs, Tells};
-ghost use Rattle.command_table.specs.Rows.{set_name};
+ghost use Rattle.command_words.specs.Readings.{ReadsAs, Tells};
+ghost use Rattle.command_table.specs.Rows.{by_own, set_name};
 
-use crate::ReadingFault;
-use crate::joins::inter_card;
-use crate::kinds::{one, one_and_perhaps, one_and_words, three, two, words};
-use crate::pages::page;
-use crate::picks::one_and_picks;
+use crate::making::{of_three, of_two};
 use crate::table::SetName;
+use command_words::ReadingFault;
+use command_words::joins::inter_card;
+use command_words::kinds::{one, one_and_perhaps, one_and_words, three, two, words};
+use command_words::pages::page;
+use command_words::picks::one_and_picks;
 use plain_model::{SetCommand, SetJoin};
 use resp_frames::Request;
 use std::alloc::Global;
@@ -35,25 +36,18 @@ pub fn read_set<'r>(
     request: &'r Request<'_>,
 ) -> Result<SetCommand<'r>, ReadingFault>
     requires { 0 < length request.now }
-    ensures { ReadsAs commands.Sets (meant (set_name name ∷ drop 1 request.now)) result }
+    ensures { ReadsAs commands.Sets (by_own commands.Sets set_rows (set_name name) (drop 1 request.now)) result }
 {
     match name {
-        SetName::SAdd => one_and_words(alloc, request).map(|(key, own)| SetCommand::SAdd(key, own)),
-        SetName::SRem => one_and_words(alloc, request).map(|(key, own)| SetCommand::SRem(key, own)),
-        SetName::SIsMember => two(request).map(|(key, member)| SetCommand::SIsMember(key, member)),
-        SetName::SMIsMember => one_and_words(alloc, request).map(|(
-            key,
-            own,
-        )| SetCommand::SMIsMember(key, own)),
+        SetName::SAdd => of_two(one_and_words(alloc, request), SetCommand::SAdd),
+        SetName::SRem => of_two(one_and_words(alloc, request), SetCommand::SRem),
+        SetName::SIsMember => of_two(two(request), SetCommand::SIsMember),
+        SetName::SMIsMember => of_two(one_and_words(alloc, request), SetCommand::SMIsMember),
         SetName::SMembers => one(request).map(SetCommand::SMembers),
         SetName::SCard => one(request).map(SetCommand::SCard),
-        SetName::SMove => three(request).map(|(from, to, member)| SetCommand::SMove(
-            from, to, member,
-        )),
-        SetName::SPop => one_and_perhaps(request).map(|(key, n)| SetCommand::SPop(key, n)),
-        SetName::SRandMember => one_and_picks(request).map(|(key, n)| SetCommand::SRandMember(
-            key, n,
-        )),
+        SetName::SMove => of_three(three(request), SetCommand::SMove),
+        SetName::SPop => of_two(one_and_perhaps(request), SetCommand::SPop),
+        SetName::SRandMember => of_two(one_and_picks(request), SetCommand::SRandMember),
         SetName::SInter => words(alloc, request).map(|keys| SetCommand::SJoin(
             SetJoin::Inter,
             keys,

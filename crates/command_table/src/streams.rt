@@ -1,105 +1,28 @@
 //! The words of commands on streams.
 
-ghost use Rattle.std.specs.Prelude.{◌≡◌, ◌<◌, ◌+◌, ◌∷◌, [], None, Ok, false, codes, length, drop};
-ghost use Rattle.plain_model.specs.Meant.{meant};
-ghost use Rattle.plain_model.specs.Shapes.{EntryId, FirstId, IdOr, LastId, Plain, Whole, and_then, by_second, fixed, repeated, with_options};
-ghost use Rattle.plain_model.specs.StreamWords.{at_most, count_option, create_options, each_told, group_rows, no_options, read_group_words, read_words};
+ghost use Rattle.std.specs.Prelude.{◌<◌, ◌∷◌, [], None, Ok, false, codes, length, drop};
+ghost use Rattle.plain_model.specs.Shapes.{EntryId, FirstId, IdOr, LastId, Plain, and_then, by_second, fixed, repeated, with_options};
+ghost use Rattle.plain_model.specs.StreamWords.{at_most, count_option, create_options, each_told, group_rows, no_options, read_group_words, read_words, stream_rows};
 ghost use Rattle.plain_model.specs.declared.command.Command.TheVariants as commands;
 ghost use Rattle.plain_model.specs.declared.stream_command.StreamCommand.{StreamCommand};
 ghost use Rattle.plain_model.specs.declared.zset_command.Direction.TheVariants.{Falling, Rising};
-ghost use Rattle.command_table.specs.Readings.{ReadsAs, ReadsStream, Tells, own_word};
-ghost use Rattle.command_table.specs.Rows.{stream_name};
+ghost use Rattle.command_words.specs.Readings.{ReadsAs, ReadsStream, Tells};
+ghost use Rattle.command_table.specs.Rows.{by_own, stream_name};
 
-use crate::ReadingFault;
-use crate::kinds::{WRONG_NUMBER, one};
-use crate::options::{Options, read_options};
-use crate::stream_appends::{append, trim};
-use crate::stream_ids::{first_id, id_or, last_id};
-use crate::stream_reads::{ids, streams};
 use crate::table::StreamName;
-use crate::words::{is_word, number, plain};
+use command_words::ReadingFault;
+use command_words::kinds::{WRONG_NUMBER, one};
+use command_words::options::read_options;
+use command_words::stream_appends::{append, trim};
+use command_words::stream_ids::{first_id, id_or, last_id};
+use command_words::stream_options::{AtMost, Makes};
+use command_words::stream_reads::{ids, streams};
+use command_words::words::{is_word, plain};
 use plain_model::{Direction, Refusal, StreamCommand};
 use resp_frames::Request;
 use std::alloc::Global;
-use std::marker::Model;
 
 const BROKEN: ReadingFault = ReadingFault::Refused(Refusal::Syntax);
-
-/// What the options of XRANGE and XREVRANGE say: how many entries at most.
-#[derive(Drop)]
-pub struct AtMost(pub Option<u64>);
-
-impl Model for AtMost {
-    ghost use Rattle.std.specs.Prelude.{Option, ℕ};
-
-    ghost Value = { Option ℕ };
-
-    ghost view = { λ o. o.0 };
-}
-
-// How many entries a COUNT lets be told: none for a number below 0.
-fn at_most(n: i64) -> Option<u64>
-    ensures { result ≡ at_most n }
-{
-    match u64::try_from(n) {
-        Ok(n) => Some(n),
-        Err(_) => Some(0),
-    }
-}
-
-// The one word of COUNT at a place.
-fn own_count(request: &Request<'_>, index: usize) -> Result<i64, ReadingFault>
-    requires { index < length request.now }
-    ensures { Tells (own_word Whole (drop (index + 1) request.now)) result }
-{
-    if request.len() - index < 2 {
-        return Err(BROKEN);
-    }
-    number(request, index + 1)
-}
-
-impl<'r> Options<'r> for AtMost {
-    ghost named = { count_option at_most ∷ [] };
-
-    fn with_option(
-        self,
-        request: &'r Request<'_>,
-        index: usize,
-    ) -> Result<(AtMost, usize), ReadingFault> {
-        if is_word(request.word(index), b"count") {
-            let n = own_count(request, index)?;
-            return Ok((AtMost(at_most(n)), 1));
-        }
-        Err(BROKEN)
-    }
-}
-
-/// What the option of XGROUP CREATE says: whether a missing stream is made.
-#[derive(Drop)]
-pub struct Makes(pub bool);
-
-impl Model for Makes {
-    ghost use Rattle.std.specs.Prelude.{Bool};
-
-    ghost Value = { Bool };
-
-    ghost view = { λ o. o.0 };
-}
-
-impl<'r> Options<'r> for Makes {
-    ghost named = { create_options };
-
-    fn with_option(
-        self,
-        request: &'r Request<'_>,
-        index: usize,
-    ) -> Result<(Makes, usize), ReadingFault> {
-        if is_word(request.word(index), b"mkstream") {
-            return Ok((Makes(true), 0));
-        }
-        Err(BROKEN)
-    }
-}
 
 // XRANGE: the first id and the last one.
 fn rising<'r>(request: &'r Request<'_>) -> Result<StreamCommand<'r>, ReadingFault>
@@ -239,14 +162,14 @@ fn pending<'r>(request: &'r Request<'_>) -> Result<StreamCommand<'r>, ReadingFau
 }
 
 /// Turns the words behind the name of a command on streams into it.
-#[tactic(auto, using(crate::proofs::Arms::fixed_made, crate::proofs::Arms::lifted))]
+#[tactic(auto, using(crate::proofs::Arms::fixed_made, command_words::proofs::Lifted::lifted))]
 pub fn read_stream<'r>(
     alloc: Global,
     name: StreamName,
     request: &'r Request<'_>,
 ) -> Result<StreamCommand<'r>, ReadingFault>
     requires { 0 < length request.now }
-    ensures { ReadsAs commands.Streams (meant (stream_name name ∷ drop 1 request.now)) result }
+    ensures { ReadsAs commands.Streams (by_own commands.Streams stream_rows (stream_name name) (drop 1 request.now)) result }
 {
     match name {
         StreamName::XAdd => append(alloc, request),

@@ -1,22 +1,22 @@
 //! The words of commands on strings.
 
 ghost use Rattle.std.specs.Prelude.{◌≡◌, ◌<◌, [], ◌∷◌, length, drop, ◌==◌, ◌||◌, ◌+◌, nat_le};
-ghost use Rattle.plain_model.specs.Meant.{meant};
 ghost use Rattle.plain_model.specs.Shapes.{Plain, Whole, Offset, fixed, with_options};
-ghost use Rattle.plain_model.specs.StringWords.{set_options, no_set_options, set_of, getex_options, no_getex_options, getex_of, set_range_of, decrease_of};
+ghost use Rattle.plain_model.specs.StringWords.{set_options, no_set_options, set_of, getex_options, no_getex_options, getex_of, set_range_of, decrease_of, string_rows};
 ghost use Rattle.plain_world.specs.Words.{longest};
 ghost use Rattle.plain_model.specs.declared.command.Command.TheVariants as commands;
-ghost use Rattle.command_table.specs.Readings.{Tells, ReadsAs};
-ghost use Rattle.command_table.specs.Rows.{string_name};
+ghost use Rattle.command_words.specs.Readings.{Tells, ReadsAs};
+ghost use Rattle.command_table.specs.Rows.{by_own, string_name};
 
-use crate::ReadingFault;
-use crate::kinds::{
+use crate::making::{of_three, of_two};
+use crate::table::StringName;
+use command_words::ReadingFault;
+use command_words::kinds::{
     WRONG_NUMBER, one, one_and_number, one_and_numbers, one_and_options, one_span_one, pairs, two,
     two_and_options, words,
 };
-use crate::table::StringName;
-use crate::times::{condition, no_getex_options, no_set_options};
-use crate::words::{offset, plain};
+use command_words::times::{condition, no_getex_options, no_set_options};
+use command_words::words::{offset, plain};
 use plain_model::{LONGEST, Refusal, SetOptions, StringCommand};
 use resp_frames::Request;
 use std::alloc::Global;
@@ -88,40 +88,34 @@ fn decrease<'r>(request: &'r Request<'_>) -> Result<StringCommand<'r>, ReadingFa
 }
 
 /// Turns the words behind the name of a string command into it.
-#[tactic(auto, using(crate::proofs::Arms::fixed_made, crate::proofs::Arms::gathered, crate::proofs::Arms::lifted))]
+#[tactic(auto, using(crate::proofs::Arms::fixed_made, crate::proofs::Arms::gathered, command_words::proofs::Lifted::lifted))]
 pub fn read_string<'r>(
     alloc: Global,
     name: StringName,
     request: &'r Request<'_>,
 ) -> Result<StringCommand<'r>, ReadingFault>
     requires { 0 < length request.now }
-    ensures { ReadsAs commands.Strings (meant (string_name name ∷ drop 1 request.now)) result }
+    ensures { ReadsAs commands.Strings (by_own commands.Strings string_rows (string_name name) (drop 1 request.now)) result }
 {
     match name {
         StringName::Get => one(request).map(StringCommand::Get),
         StringName::Set => set(request),
-        StringName::SetNx => two(request).map(|(key, value)| StringCommand::SetNx(key, value)),
-        StringName::SetEx => {
-            one_span_one(request).map(|(key, n, value)| StringCommand::SetEx(key, n, value))
-        }
-        StringName::PSetEx => {
-            one_span_one(request).map(|(key, n, value)| StringCommand::PSetEx(key, n, value))
-        }
-        StringName::GetSet => two(request).map(|(key, value)| StringCommand::GetSet(key, value)),
+        StringName::SetNx => of_two(two(request), StringCommand::SetNx),
+        StringName::SetEx => { of_three(one_span_one(request), StringCommand::SetEx) }
+        StringName::PSetEx => { of_three(one_span_one(request), StringCommand::PSetEx) }
+        StringName::GetSet => of_two(two(request), StringCommand::GetSet),
         StringName::GetDel => one(request).map(StringCommand::GetDel),
         StringName::GetEx => get_ex(request),
         StringName::MGet => words(alloc, request).map(StringCommand::MGet),
         StringName::MSet => pairs(alloc, request).map(StringCommand::MSet),
         StringName::MSetNx => pairs(alloc, request).map(StringCommand::MSetNx),
-        StringName::Append => two(request).map(|(key, tail)| StringCommand::Append(key, tail)),
+        StringName::Append => of_two(two(request), StringCommand::Append),
         StringName::StrLen => one(request).map(StringCommand::StrLen),
-        StringName::GetRange => {
-            one_and_numbers(request).map(|(key, a, b)| StringCommand::GetRange(key, a, b))
-        }
+        StringName::GetRange => { of_three(one_and_numbers(request), StringCommand::GetRange) }
         StringName::SetRange => set_range(request),
         StringName::Incr => one(request).map(StringCommand::Incr),
         StringName::Decr => one(request).map(StringCommand::Decr),
-        StringName::IncrBy => one_and_number(request).map(|(key, n)| StringCommand::IncrBy(key, n)),
+        StringName::IncrBy => of_two(one_and_number(request), StringCommand::IncrBy),
         StringName::DecrBy => decrease(request),
     }
 }

@@ -9,7 +9,7 @@ use self::StringName::{
     Append, Decr, DecrBy, Get, GetDel, GetEx, GetRange, GetSet, Incr, IncrBy, MGet, MSet, MSetNx,
     PSetEx, Set, SetEx, SetNx, SetRange, StrLen,
 };
-use crate::words::is_word;
+use command_words::words::is_word;
 
 /// Which command on strings.
 #[derive(Clone, Copy)]

@@ -1,26 +1,26 @@
 //! The words of commands on sorted sets.
 
 ghost use Rattle.std.specs.Prelude.{◌≡◌, ◌<◌, ◌∷◌, length, drop};
-ghost use Rattle.plain_model.specs.Meant.{meant};
-ghost use Rattle.plain_model.specs.ZsetWords.{asks_scores, no_rules, range_words, score_range_of};
+ghost use Rattle.plain_model.specs.ZsetWords.{asks_scores, no_rules, range_words, score_range_of, zset_rows};
 ghost use Rattle.plain_model.specs.KeyWords.{page_words};
 ghost use Rattle.plain_model.specs.declared.command.Command.TheVariants as commands;
 ghost use Rattle.plain_model.specs.declared.zset_command.ZsetCommand.TheVariants as zset_commands;
-ghost use Rattle.command_table.specs.Readings.{ReadsAs, Tells};
-ghost use Rattle.command_table.specs.Rows.{zset_name};
+ghost use Rattle.command_words.specs.Readings.{ReadsAs, Tells};
+ghost use Rattle.command_table.specs.Rows.{by_own, zset_name};
 
-use crate::ReadingFault;
-use crate::joins::join_store;
-use crate::kinds::{
+use crate::making::{of_three, of_two};
+use crate::table::ZsetName;
+use command_words::ReadingFault;
+use command_words::joins::join_store;
+use command_words::kinds::{
     bounds_and_options, numbers_and_options, one, one_and_bounds, one_and_numbers, one_and_perhaps,
     one_and_words, one_score_one, two, two_and_options,
 };
-use crate::pages::page;
-use crate::picks::{WithScores, one_and_picked};
-use crate::table::ZsetName;
-use crate::words::is_word;
-use crate::zset_options::{OfRanks, OfScores, no_range_options};
-use crate::zset_scores::add;
+use command_words::pages::page;
+use command_words::picks::{WithScores, one_and_picked};
+use command_words::words::is_word;
+use command_words::zset_options::{OfRanks, OfScores, no_range_options};
+use command_words::zset_scores::add;
 use plain_model::{
     Direction, RangeOptions, Refusal, ScoreBound, ScoreJoin, ScoreRules, Word, ZsetCommand,
 };
@@ -112,14 +112,14 @@ fn scan<'r>(request: &'r Request<'_>) -> Result<ZsetCommand<'r>, ReadingFault>
 }
 
 /// Turns the words behind the name of a command on sorted sets into it.
-#[tactic(auto, using(crate::proofs::Arms::fixed_made, crate::proofs::Arms::keyed_made, crate::proofs::Arms::popped_made, crate::proofs::Arms::lifted))]
+#[tactic(auto, using(crate::proofs::Arms::fixed_made, crate::proofs::Arms::keyed_made, crate::proofs::Arms::popped_made, command_words::proofs::Lifted::lifted))]
 pub fn read_zset<'r>(
     alloc: Global,
     name: ZsetName,
     request: &'r Request<'_>,
 ) -> Result<ZsetCommand<'r>, ReadingFault>
     requires { 0 < length request.now }
-    ensures { ReadsAs commands.Zsets (meant (zset_name name ∷ drop 1 request.now)) result }
+    ensures { ReadsAs commands.Zsets (by_own commands.Zsets zset_rows (zset_name name) (drop 1 request.now)) result }
 {
     match name {
         ZsetName::ZAdd => add(alloc, request),
@@ -129,17 +129,11 @@ pub fn read_zset<'r>(
             n,
             member,
         )),
-        ZsetName::ZRem => one_and_words(alloc, request).map(|(key, own)| ZsetCommand::ZRem(
-            key, own,
-        )),
-        ZsetName::ZScore => two(request).map(|(key, member)| ZsetCommand::ZScore(key, member)),
-        ZsetName::ZMScore => one_and_words(alloc, request).map(|(key, own)| ZsetCommand::ZMScore(
-            key, own,
-        )),
+        ZsetName::ZRem => of_two(one_and_words(alloc, request), ZsetCommand::ZRem),
+        ZsetName::ZScore => of_two(two(request), ZsetCommand::ZScore),
+        ZsetName::ZMScore => of_two(one_and_words(alloc, request), ZsetCommand::ZMScore),
         ZsetName::ZCard => one(request).map(ZsetCommand::ZCard),
-        ZsetName::ZCount => one_and_bounds(request).map(|(key, a, b)| ZsetCommand::ZCount(
-            key, a, b,
-        )),
+        ZsetName::ZCount => of_three(one_and_bounds(request), ZsetCommand::ZCount),
         ZsetName::ZRank => two_and_options(request, false).map(|(
             key,
             member,
@@ -166,16 +160,14 @@ pub fn read_zset<'r>(
         ZsetName::ZRevRangeByScore => bounds_and_options(request, OfScores(no_range_options())).map(
             |(key, a, b, options)| score_range(key, a, b, true, options.0),
         ),
-        ZsetName::ZRemRangeByRank => one_and_numbers(request).map(|(
-            key,
-            a,
-            b,
-        )| ZsetCommand::ZRemRangeByRank(key, a, b)),
-        ZsetName::ZRemRangeByScore => one_and_bounds(request).map(|(
-            key,
-            a,
-            b,
-        )| ZsetCommand::ZRemRangeByScore(key, a, b)),
+        ZsetName::ZRemRangeByRank => of_three(
+            one_and_numbers(request),
+            ZsetCommand::ZRemRangeByRank,
+        ),
+        ZsetName::ZRemRangeByScore => of_three(
+            one_and_bounds(request),
+            ZsetCommand::ZRemRangeByScore,
+        ),
         ZsetName::ZPopMin => one_and_perhaps(request).map(|(key, n)| ZsetCommand::ZPop(
             key,
             Direction::Rising,

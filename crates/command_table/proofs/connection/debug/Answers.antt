@@ -3,7 +3,7 @@ use Rattle.std.specs.Prelude.{bytes_eq, codes}
 use Rattle.plain_world.specs.Words.{in_lower_case}
 use Rattle.plain_model.specs.Shapes.{by_second}
 use Rattle.plain_model.specs.ConnectionWords.{debug_rows}
-use Rattle.command_table.specs.Readings.{Tells, word_at}
+use Rattle.command_words.specs.Readings.{Tells, word_at}
 use Rattle.command_table.proofs.SecondWords.{defrag_refused}
 use Rattle.command_table.proofs.connection.debug.Goals as goal
 

@@ -3,7 +3,8 @@ use Rattle.plain_model.specs.Shapes.{Plain, Database, by_second, fixed}
 use Rattle.plain_model.specs.ConnectionWords.{ping_words, flush_words, memory_rows, debug_rows}
 use Rattle.plain_model.specs.declared.command.Command.TheVariants.{Connection}
 use Rattle.plain_model.specs.declared.connection.ConnectionCommand.TheVariants as connections
-use Rattle.command_table.proofs.Arms.{fixed_made, lifted}
+use Rattle.command_words.proofs.Lifted.{lifted}
+use Rattle.command_table.proofs.Arms.{fixed_made}
 use Rattle.command_table.proofs.connection.read_connection.Goals as goal
 
 pub returns-in-Ping : goal.returns-in-Ping

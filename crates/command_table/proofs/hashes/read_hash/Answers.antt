@@ -5,7 +5,8 @@ use Rattle.plain_model.specs.KeyWords.{page_words}
 use Rattle.plain_model.specs.StringWords.{pairs_of}
 use Rattle.plain_model.specs.declared.command.Command.TheVariants.{Hashes}
 use Rattle.plain_model.specs.declared.hash_command.HashCommand.TheVariants as hashes
-use Rattle.command_table.proofs.Arms.{fixed_made, keyed_made, lifted}
+use Rattle.command_words.proofs.Lifted.{lifted}
+use Rattle.command_table.proofs.Arms.{fixed_made, keyed_made}
 use Rattle.command_table.proofs.PickWords.{picked_made}
 use Rattle.command_table.proofs.hashes.read_hash.Goals as goal
 

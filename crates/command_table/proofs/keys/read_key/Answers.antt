@@ -3,7 +3,8 @@ use Rattle.plain_model.specs.Shapes.{Plain, Database, Cursor, fixed, by_second, 
 use Rattle.plain_model.specs.KeyWords.{copy_options, no_copy_options, scan_options, no_scan_options, object_rows}
 use Rattle.plain_model.specs.declared.command.Command.TheVariants.{Keys}
 use Rattle.plain_model.specs.declared.keys.KeyCommand.TheVariants as keys
-use Rattle.command_table.proofs.Arms.{fixed_made, gathered, lifted, options_made, expire_made}
+use Rattle.command_words.proofs.Lifted.{lifted}
+use Rattle.command_table.proofs.Arms.{fixed_made, gathered, options_made, expire_made}
 use Rattle.command_table.proofs.keys.read_key.Goals as goal
 
 pub returns-in-Expire : goal.returns-in-Expire

@@ -4,7 +4,8 @@ use Rattle.plain_model.specs.KeyWords.{page_words}
 use Rattle.plain_model.specs.declared.command.Command.TheVariants.{Sets}
 use Rattle.plain_model.specs.declared.set_command.SetCommand.TheVariants as sets
 use Rattle.plain_model.specs.declared.set_command.SetJoin.TheVariants.{Inter, Union, Diff}
-use Rattle.command_table.proofs.Arms.{fixed_made, gathered, keyed_made, lifted, popped_made}
+use Rattle.command_words.proofs.Lifted.{lifted}
+use Rattle.command_table.proofs.Arms.{fixed_made, gathered, keyed_made, popped_made}
 use Rattle.command_table.proofs.PickWords.{picks_made}
 use Rattle.command_table.proofs.sets.read_set.Goals as goal
 

@@ -1,5 +1,5 @@
 use Rattle.std.proofs.Common.{arith}
-use Rattle.command_table.proofs.AppendWords.{pending_more}
+use Rattle.command_table.proofs.PendingWords.{pending_more}
 use Rattle.command_table.proofs.streams.pending.Goals as goal
 
 pub returns-then-len-ne3 : goal.returns-then-len-ne3

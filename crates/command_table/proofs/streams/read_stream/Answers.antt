@@ -4,7 +4,8 @@ use Rattle.plain_model.specs.StreamWords.{at_most, count_option, trim_words, gro
 use Rattle.plain_model.specs.declared.command.Command.TheVariants.{Streams}
 use Rattle.plain_model.specs.declared.zset_command.Direction.TheVariants.{Rising, Falling}
 use Rattle.plain_model.specs.declared.stream_command.StreamCommand.TheVariants as streams
-use Rattle.command_table.proofs.Arms.{fixed_made, lifted}
+use Rattle.command_words.proofs.Lifted.{lifted}
+use Rattle.command_table.proofs.Arms.{fixed_made}
 use Rattle.command_table.proofs.streams.read_stream.Goals as goal
 
 pub returns-in-XAdd : goal.returns-in-XAdd

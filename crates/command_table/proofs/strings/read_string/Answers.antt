@@ -3,7 +3,8 @@ use Rattle.plain_model.specs.Shapes.{Plain, Whole, Span, Offset, fixed, with_opt
 use Rattle.plain_model.specs.StringWords.{pairs_of, set_options, no_set_options, set_of, getex_options, no_getex_options, getex_of, set_range_of, decrease_of}
 use Rattle.plain_model.specs.declared.command.Command.TheVariants.{Strings}
 use Rattle.plain_model.specs.declared.command.StringCommand.TheVariants as strings
-use Rattle.command_table.proofs.Arms.{fixed_made, gathered, lifted}
+use Rattle.command_words.proofs.Lifted.{lifted}
+use Rattle.command_table.proofs.Arms.{fixed_made, gathered}
 use Rattle.command_table.proofs.strings.read_string.Goals as goal
 
 pub returns-in-SetEx : goal.returns-in-SetEx

@@ -4,7 +4,7 @@ use Rattle.plain_model.specs.StringWords.{set_options, no_set_options, set_of}
 use Rattle.plain_model.specs.declared.command.SetOptionsRead.{SetOptionsRead}
 use Rattle.plain_model.specs.declared.command.StringCommand.{StringCommand}
 use Rattle.plain_world.specs.declared.refusal.Refusal.{Refusal}
-use Rattle.command_table.specs.Readings.{Tells, and_options}
+use Rattle.command_words.specs.Readings.{Tells, and_options}
 use Rattle.command_table.proofs.Arms.{options_refused}
 use Rattle.command_table.proofs.strings.set.Goals as goal
 

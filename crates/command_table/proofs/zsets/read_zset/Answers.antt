@@ -6,8 +6,9 @@ use Rattle.plain_model.specs.ZsetWords.{no_rules, no_range_options, with_scores_
 use Rattle.plain_model.specs.declared.command.Command.TheVariants.{Zsets}
 use Rattle.plain_model.specs.declared.zset_command.Direction.TheVariants.{Rising, Falling}
 use Rattle.plain_model.specs.declared.zset_command.ZsetCommand.TheVariants as zsets
-use Rattle.command_table.specs.Readings.{rank_options}
-use Rattle.command_table.proofs.Arms.{fixed_made, keyed_made, lifted, options_made, popped_made}
+use Rattle.command_words.specs.Readings.{rank_options}
+use Rattle.command_words.proofs.Lifted.{lifted}
+use Rattle.command_table.proofs.Arms.{fixed_made, keyed_made, options_made, popped_made}
 use Rattle.command_table.proofs.PickWords.{picked_made}
 use Rattle.command_table.proofs.zsets.read_zset.Goals as goal
 

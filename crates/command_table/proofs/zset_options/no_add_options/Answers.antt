@@ -1,5 +1,0 @@
-use Rattle.std.proofs.Common.{refl}
-use Rattle.command_table.proofs.zset_options.no_add_options.Goals as goal
-
-pub returns : goal.returns
-returns c = refl

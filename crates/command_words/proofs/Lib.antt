@@ -1,0 +1,13 @@
+pub mod Told
+pub mod Shapes
+pub mod Lifted
+pub mod TwoAndOptions
+pub mod OptionWords
+pub mod ScoreBounds
+pub mod AddWords
+pub mod RangeWords
+pub mod JoinWords
+pub mod Weights
+pub mod AppendWords
+pub mod Gathering
+pub mod StreamPlaces
