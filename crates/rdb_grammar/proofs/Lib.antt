@@ -8,6 +8,7 @@ pub mod StreamsExact
 pub mod NodesRead
 pub mod NodeLength
 pub mod Standing
+pub mod PlacedReads
 pub mod Partly
 pub mod Steps
 pub mod Magnitudes

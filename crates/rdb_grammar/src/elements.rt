@@ -11,6 +11,7 @@ ghost use Rattle.rdb_grammar.specs.Returns.{Returns};
 
 use crate::fault::{FileFault, LoadKind, Refused};
 use crate::lengths::length_of;
+use crate::placing::placed;
 use crate::scores::score_of;
 use crate::strings::{Chunk, string_of};
 use crate::values::Container;
@@ -22,13 +23,7 @@ pub fn next_string(bytes: &[u8], at: usize) -> Result<(Chunk<'_>, usize), FileFa
     ensures string { IfOk result (λ x. Stands string (text_of x.0) bytes.now at x.1) }
     ensures fault { IfErr result (λ e. Fails string bytes.now at e.kind e.at) }
 {
-    match string_of(&bytes[at..]) {
-        Ok((text, rest)) => Ok((text, bytes.len() - rest.len())),
-        Err(e) => Err(FileFault {
-            kind: e.kind,
-            at: (bytes.len() - e.left) as u64,
-        }),
-    }
+    placed(bytes, string_of(&bytes[at..]))
 }
 
 /// The score of a sorted set's member that begins at the offset `at` of a file's bytes, and the offset behind it: a binary
@@ -39,13 +34,7 @@ pub fn next_score(bytes: &[u8], at: usize) -> Result<(i64, usize), FileFault>
     ensures fits { IfOk result (λ x. FitsSigned w64 x.0) }
     ensures fault { IfErr result (λ e. Fails score bytes.now at e.kind e.at) }
 {
-    match score_of(&bytes[at..]) {
-        Ok((score, rest)) => Ok((score, bytes.len() - rest.len())),
-        Err(e) => Err(FileFault {
-            kind: e.kind,
-            at: (bytes.len() - e.left) as u64,
-        }),
-    }
+    placed(bytes, score_of(&bytes[at..]))
 }
 
 /// A container.
@@ -70,11 +59,5 @@ pub fn next_container(bytes: &[u8], at: usize) -> Result<(Container, usize), Fil
     ensures container { IfOk result (λ x. Stands container (number_of x.0) bytes.now at x.1) }
     ensures fault { IfErr result (λ e. Fails container bytes.now at e.kind e.at) }
 {
-    match container_at(&bytes[at..]) {
-        Ok((container, rest)) => Ok((container, bytes.len() - rest.len())),
-        Err(e) => Err(FileFault {
-            kind: e.kind,
-            at: (bytes.len() - e.left) as u64,
-        }),
-    }
+    placed(bytes, container_at(&bytes[at..]))
 }

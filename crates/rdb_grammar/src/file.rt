@@ -2,29 +2,31 @@
 
 ghost use Rattle.std.specs.Prelude.{◌≡◌, ◌≤◌, ℕ, List, length, take, IfOk, IfErr};
 ghost use Rattle.rdb_grammar.specs.Places.{Stands, Fails};
-ghost use Rattle.rdb_grammar.specs.Files.{magic, is_version, version, header, sum_field, ExactlyOne};
+ghost use Rattle.rdb_grammar.specs.Files.{magic, is_begun, is_version, version, header, sum_field, ExactlyOne};
 ghost use Rattle.rdb_grammar.specs.Returns.{Returns};
 
 use crate::fault::{FileFault, LoadKind, Refused};
 use crate::lengths::{part_of, u64_le_at};
 use digests::crc;
 
+// Whether the first bytes, up to five, are those of `REDIS`.
+fn has_begun(bytes: &[u8]) -> bool
+    ensures { result ≡ is_begun bytes.now }
+{
+    let n = bytes.len().min(5);
+    bytes[..n] == b"REDIS"[..n]
+}
+
 fn magic_of(bytes: &[u8]) -> Result<(&[u8], &[u8]), Refused>
     ensures { Returns (λ x. (x.0.now, x.1.now)) result (magic.read bytes.now) }
 {
-    match bytes {
-        [] | [b'R'] | [b'R', b'E'] | [b'R', b'E', b'D'] | [b'R', b'E', b'D', b'I'] => {
-            Err(Refused {
-                kind: LoadKind::Ended,
-                left: 0,
-            })
-        }
-        [b'R', b'E', b'D', b'I', b'S', ..] => Ok(bytes.split_at(5)),
-        _ => Err(Refused {
+    if !has_begun(bytes) {
+        return Err(Refused {
             kind: LoadKind::NotRdb,
             left: bytes.len(),
-        }),
+        });
     }
+    part_of(bytes, 5)
 }
 
 // Whether files of this version are taken.

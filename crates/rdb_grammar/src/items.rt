@@ -2,8 +2,8 @@
 
 ghost use Rattle.std.specs.Prelude.{◌≡◌, ℕ, List};
 ghost use Rattle.rdb_grammar.specs.Format.{Goes, Refuses, turned, branch_read};
-ghost use Rattle.rdb_grammar.specs.Items.{Whole, key_with, opens, packs_in, opens_nodes, streams, whole_behind as whole_behind_of, part_behind as part_behind_of, part};
-ghost use Rattle.rdb_grammar.specs.Values.{string_value};
+ghost use Rattle.rdb_grammar.specs.Items.{Whole, key_with, keyed, opens, packs_in, opens_nodes, streams, whole_behind as whole_behind_of, part_behind as part_behind_of, part};
+ghost use Rattle.rdb_grammar.specs.Values.{string_value, value_behind as value_behind_of};
 ghost use Rattle.rdb_grammar.specs.Views.{part_said};
 ghost use Rattle.rdb_grammar.specs.Returns.{Returns};
 
@@ -92,11 +92,26 @@ fn refused(kind: LoadKind, rest: &[u8]) -> Result<(Meaning<'_>, &[u8]), Refused>
     })
 }
 
+fn value_behind(first: u8, rest: &[u8]) -> Result<(Meaning<'_>, &[u8]), Refused>
+    ensures { Returns (λ x. (part_said x.0, x.1.now)) result (branch_read (turned Whole (keyed (value_behind_of first))) rest.now) }
+{
+    match first {
+        codes::STRING => text_item_of(rest),
+        codes::OLD_SORTED_SET
+        | codes::HASH_ZIPMAP
+        | codes::LIST_ZIPLIST
+        | codes::SORTED_SET_ZIPLIST
+        | codes::HASH_ZIPLIST
+        | codes::LIST_OF_ZIPLISTS => refused(LoadKind::OldKind, rest),
+        codes::OLD_MODULE | codes::MODULE => refused(LoadKind::Module, rest),
+        _ => refused(LoadKind::Kind, rest),
+    }
+}
+
 fn whole_behind(first: u8, rest: &[u8]) -> Result<(Meaning<'_>, &[u8]), Refused>
     ensures { Returns (λ x. (part_said x.0, x.1.now)) result (branch_read (turned Whole (whole_behind_of first)) rest.now) }
 {
     match first {
-        codes::STRING => text_item_of(rest),
         codes::IDLE => idle_time(rest),
         codes::FREQUENCY => frequency(rest),
         codes::AUXILIARY => name_and_text(rest),
@@ -105,15 +120,9 @@ fn whole_behind(first: u8, rest: &[u8]) -> Result<(Meaning<'_>, &[u8]), Refused>
         codes::DEADLINE => deadline_in_seconds(rest),
         codes::SELECT_DB => database(rest),
         codes::EOF => Ok((Meaning::End, rest)),
-        codes::OLD_SORTED_SET
-        | codes::HASH_ZIPMAP
-        | codes::LIST_ZIPLIST
-        | codes::SORTED_SET_ZIPLIST
-        | codes::HASH_ZIPLIST
-        | codes::LIST_OF_ZIPLISTS => refused(LoadKind::OldKind, rest),
-        codes::OLD_MODULE | codes::MODULE | codes::MODULE_DATA => refused(LoadKind::Module, rest),
+        codes::MODULE_DATA => refused(LoadKind::Module, rest),
         codes::FUNCTION | codes::OLD_FUNCTION => refused(LoadKind::Functions, rest),
-        _ => refused(LoadKind::Kind, rest),
+        _ => value_behind(first, rest),
     }
 }
 

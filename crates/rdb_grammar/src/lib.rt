@@ -9,6 +9,7 @@ mod items;
 mod lengths;
 mod next;
 mod opcodes;
+mod placing;
 mod scores;
 mod stream_nodes;
 mod streams;

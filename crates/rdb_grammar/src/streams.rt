@@ -10,6 +10,7 @@ ghost use Rattle.rdb_grammar.specs.Returns.{Returns};
 
 use crate::fault::{FileFault, LoadKind, Refused};
 use crate::lengths::{length_of, part_of, u64_at, u64_le_at};
+use crate::placing::placed;
 use crate::strings::{Chunk, Head, body_of, head_of};
 use crate::values::StreamType;
 use stream_node::Id;
@@ -18,14 +19,14 @@ use stream_node::Id;
 const LONGEST_NODE: u64 = 536_870_000;
 
 /// When a pending entry was handed out last, in milliseconds, and how often.
-#[derive(Clone, Copy, Debug)]
+#[derive(Clone, Copy)]
 pub struct Handed {
     pub moment: u64,
     pub count: u64,
 }
 
 /// The marks of a stream: its last id, the greatest one that was deleted, and how many entries were added.
-#[derive(Clone, Copy, Debug)]
+#[derive(Clone, Copy)]
 pub struct Marks {
     pub last: Id,
     pub deleted: Id,
@@ -61,13 +62,7 @@ pub fn next_length(bytes: &[u8], at: usize) -> Result<(u64, usize), FileFault>
     ensures number { IfOk result (λ x. Stands a_length x.0 bytes.now at x.1) }
     ensures fault { IfErr result (λ e. Fails a_length bytes.now at e.kind e.at) }
 {
-    match length_of(&bytes[at..]) {
-        Ok((number, rest)) => Ok((number, bytes.len() - rest.len())),
-        Err(e) => Err(FileFault {
-            kind: e.kind,
-            at: (bytes.len() - e.left) as u64,
-        }),
-    }
+    placed(bytes, length_of(&bytes[at..]))
 }
 
 // An id as two lengths.
@@ -86,13 +81,7 @@ pub fn next_id(bytes: &[u8], at: usize) -> Result<(Id, usize), FileFault>
     ensures id { IfOk result (λ x. Stands two_lengths (pair_of x.0) bytes.now at x.1) }
     ensures fault { IfErr result (λ e. Fails two_lengths bytes.now at e.kind e.at) }
 {
-    match id_of(&bytes[at..]) {
-        Ok((id, rest)) => Ok((id, bytes.len() - rest.len())),
-        Err(e) => Err(FileFault {
-            kind: e.kind,
-            at: (bytes.len() - e.left) as u64,
-        }),
-    }
+    placed(bytes, id_of(&bytes[at..]))
 }
 
 // An id of sixteen bytes.
@@ -111,13 +100,7 @@ pub fn next_key_id(bytes: &[u8], at: usize) -> Result<(Id, usize), FileFault>
     ensures id { IfOk result (λ x. Stands sixteen_bytes (pair_of x.0) bytes.now at x.1) }
     ensures fault { IfErr result (λ e. Fails sixteen_bytes bytes.now at e.kind e.at) }
 {
-    match key_id_of(&bytes[at..]) {
-        Ok((id, rest)) => Ok((id, bytes.len() - rest.len())),
-        Err(e) => Err(FileFault {
-            kind: e.kind,
-            at: (bytes.len() - e.left) as u64,
-        }),
-    }
+    placed(bytes, key_id_of(&bytes[at..]))
 }
 
 // How the string of a node begins.
@@ -151,13 +134,7 @@ pub fn next_node(bytes: &[u8], at: usize) -> Result<(Chunk<'_>, usize), FileFaul
     ensures string { IfOk result (λ x. Stands node_string (text_of x.0) bytes.now at x.1) }
     ensures fault { IfErr result (λ e. Fails node_string bytes.now at e.kind e.at) }
 {
-    match node_string_of(&bytes[at..]) {
-        Ok((text, rest)) => Ok((text, bytes.len() - rest.len())),
-        Err(e) => Err(FileFault {
-            kind: e.kind,
-            at: (bytes.len() - e.left) as u64,
-        }),
-    }
+    placed(bytes, node_string_of(&bytes[at..]))
 }
 
 // The number of entries, which is to be this one.
@@ -254,13 +231,7 @@ pub fn next_marks(
     ensures marks { IfOk result (λ x. Stands (marks_with stream live (is_from greatest)) (marks_seen x.0) bytes.now at x.1) }
     ensures fault { IfErr result (λ e. Fails (marks_with stream live (is_from greatest)) bytes.now at e.kind e.at) }
 {
-    match marks_of(&bytes[at..], stream, live, greatest) {
-        Ok((marks, rest)) => Ok((marks, bytes.len() - rest.len())),
-        Err(e) => Err(FileFault {
-            kind: e.kind,
-            at: (bytes.len() - e.left) as u64,
-        }),
-    }
+    placed(bytes, marks_of(&bytes[at..], stream, live, greatest))
 }
 
 // The last id of a group.
@@ -282,13 +253,7 @@ pub fn next_group(bytes: &[u8], at: usize, stream: StreamType) -> Result<(Id, us
     ensures last { IfOk result (λ x. Stands (group_last stream) (pair_of x.0) bytes.now at x.1) }
     ensures fault { IfErr result (λ e. Fails (group_last stream) bytes.now at e.kind e.at) }
 {
-    match group_last_of(&bytes[at..], stream) {
-        Ok((last, rest)) => Ok((last, bytes.len() - rest.len())),
-        Err(e) => Err(FileFault {
-            kind: e.kind,
-            at: (bytes.len() - e.left) as u64,
-        }),
-    }
+    placed(bytes, group_last_of(&bytes[at..], stream))
 }
 
 // How a pending entry was handed out.
@@ -307,13 +272,7 @@ pub fn next_handed(bytes: &[u8], at: usize) -> Result<(Handed, usize), FileFault
     ensures handed { IfOk result (λ x. Stands handed (handed_seen x.0) bytes.now at x.1) }
     ensures fault { IfErr result (λ e. Fails handed bytes.now at e.kind e.at) }
 {
-    match handed_of(&bytes[at..]) {
-        Ok((handed, rest)) => Ok((handed, bytes.len() - rest.len())),
-        Err(e) => Err(FileFault {
-            kind: e.kind,
-            at: (bytes.len() - e.left) as u64,
-        }),
-    }
+    placed(bytes, handed_of(&bytes[at..]))
 }
 
 // The moments of a consumer, which are passed over.

@@ -1,7 +1,8 @@
 //! Strings.
 
+ghost use Rattle.std.specs.Int.{w8, w16, w32};
 ghost use Rattle.rdb_grammar.specs.Format.{branch_read};
-ghost use Rattle.rdb_grammar.specs.Strings.{head_behind as head_behind_of, head, short_head, body, string};
+ghost use Rattle.rdb_grammar.specs.Strings.{Len, Num, head_behind as head_behind_of, head, short_head, body, string};
 ghost use Rattle.rdb_grammar.specs.Views.{text_of, head_of as head_seen};
 ghost use Rattle.rdb_grammar.specs.Returns.{Returns};
 
@@ -20,7 +21,7 @@ pub enum Chunk<'a> {
 }
 
 /// How a string begins.
-#[derive(Clone, Copy, Debug)]
+#[derive(Clone, Copy)]
 pub(crate) enum Head {
     Len(u64),
     Int8,
@@ -77,36 +78,54 @@ fn short_head_of(bytes: &[u8]) -> Result<(Head, &[u8]), Refused>
     Ok((head, rest))
 }
 
+// The text of so many bytes.
+fn text_part(n: u64, bytes: &[u8]) -> Result<(Chunk<'_>, &[u8]), Refused>
+    ensures { Returns (λ x. (text_of x.0, x.1.now)) result ((body (Len n)).read bytes.now) }
+{
+    if (bytes.len() as u64) < n {
+        return Err(Refused {
+            kind: LoadKind::Ended,
+            left: 0,
+        });
+    }
+    let (text, rest) = bytes.split_at(n as usize);
+    Ok((Chunk::Part(text), rest))
+}
+
+// A number of 8, of 16 and of 32 bits.
+fn text_8(bytes: &[u8]) -> Result<(Chunk<'_>, &[u8]), Refused>
+    ensures { Returns (λ x. (text_of x.0, x.1.now)) result ((body (Num w8)).read bytes.now) }
+{
+    let (front, rest) = part_of(bytes, 1)?;
+    Ok((Chunk::Number(i8::from_le_bytes([front[0]]) as i64), rest))
+}
+
+fn text_16(bytes: &[u8]) -> Result<(Chunk<'_>, &[u8]), Refused>
+    ensures { Returns (λ x. (text_of x.0, x.1.now)) result ((body (Num w16)).read bytes.now) }
+{
+    let (front, rest) = part_of(bytes, 2)?;
+    Ok((
+        Chunk::Number(i16::from_le_bytes([front[0], front[1]]) as i64),
+        rest,
+    ))
+}
+
+fn text_32(bytes: &[u8]) -> Result<(Chunk<'_>, &[u8]), Refused>
+    ensures { Returns (λ x. (text_of x.0, x.1.now)) result ((body (Num w32)).read bytes.now) }
+{
+    let (front, rest) = part_of(bytes, 4)?;
+    let number = i32::from_le_bytes([front[0], front[1], front[2], front[3]]);
+    Ok((Chunk::Number(number as i64), rest))
+}
+
 pub(crate) fn body_of(head: Head, bytes: &[u8]) -> Result<(Chunk<'_>, &[u8]), Refused>
     ensures { Returns (λ x. (text_of x.0, x.1.now)) result ((body (head_seen head)).read bytes.now) }
 {
     match head {
-        Head::Len(n) => {
-            if (bytes.len() as u64) < n {
-                return Err(Refused {
-                    kind: LoadKind::Ended,
-                    left: 0,
-                });
-            }
-            let (text, rest) = bytes.split_at(n as usize);
-            Ok((Chunk::Part(text), rest))
-        }
-        Head::Int8 => {
-            let (front, rest) = part_of(bytes, 1)?;
-            Ok((Chunk::Number(i8::from_le_bytes([front[0]]) as i64), rest))
-        }
-        Head::Int16 => {
-            let (front, rest) = part_of(bytes, 2)?;
-            Ok((
-                Chunk::Number(i16::from_le_bytes([front[0], front[1]]) as i64),
-                rest,
-            ))
-        }
-        Head::Int32 => {
-            let (front, rest) = part_of(bytes, 4)?;
-            let number = i32::from_le_bytes([front[0], front[1], front[2], front[3]]);
-            Ok((Chunk::Number(number as i64), rest))
-        }
+        Head::Len(n) => text_part(n, bytes),
+        Head::Int8 => text_8(bytes),
+        Head::Int16 => text_16(bytes),
+        Head::Int32 => text_32(bytes),
     }
 }
 

@@ -64,7 +64,7 @@ pub enum FileValue<'a> {
 }
 
 /// What the string of a list's node is.
-#[derive(Clone, Copy, Debug)]
+#[derive(Clone, Copy)]
 pub enum Container {
     /// An element.
     Plain,

@@ -1,27 +1,21 @@
-use Rattle.std.proofs.Common.{◌∙◌, sym, ap}
-use Rattle.std.proofs.lemmas.List.{take_rest}
 use Rattle.rdb_grammar.specs.Layouts.{container}
 use Rattle.rdb_grammar.specs.Views.{container_of}
 use Rattle.rdb_grammar.proofs.PartsExact.{container_exact}
-use Rattle.rdb_grammar.proofs.Standing.{found, broken}
+use Rattle.rdb_grammar.proofs.PlacedReads.{rest_fits, left_fits, placed_stands, placed_fails}
 use Rattle.rdb_grammar.proofs.elements.next_container.Goals as goal
 
-pub overflow_sub-result : goal.overflow_sub-result
-overflow_sub-result c =
-    (found container container_exact c.args.bytes.now c.args.at (container_of c.in-Ok.container) c.in-Ok.rest.now c.requires
-    (ap container.read (sym (take_rest c.args.bytes.now c.args.at)) ∙ c.in-Ok.ensures)).fits
+pub placed-requires-clause-rest : goal.placed-requires-clause-rest
+placed-requires-clause-rest c = rest_fits container container_exact container_of c.args.bytes.now c.args.at c.container_at.result c.requires c.container_at.ensures
 
-pub overflow_sub-result-in-Err : goal.overflow_sub-result-in-Err
-overflow_sub-result-in-Err c =
-    (broken container container_exact c.args.bytes.now c.args.at c.in-Err.e.kind c.in-Err.e.left c.requires
-    (ap container.read (sym (take_rest c.args.bytes.now c.args.at)) ∙ c.in-Err.ensures)).fits
+pub placed-requires-clause-left : goal.placed-requires-clause-left
+placed-requires-clause-left c = left_fits container container_exact container_of c.args.bytes.now c.args.at c.container_at.result c.requires c.container_at.ensures
 
-pub returns-in-Ok-clause-container : goal.returns-in-Ok-clause-container
-returns-in-Ok-clause-container c =
-    (found container container_exact c.args.bytes.now c.args.at (container_of c.in-Ok.container) c.in-Ok.rest.now c.requires
-    (ap container.read (sym (take_rest c.args.bytes.now c.args.at)) ∙ c.in-Ok.ensures)).stands
+pub returns-clause-container : goal.returns-clause-container
+returns-clause-container c =
+    placed_stands container container_exact container_of c.args.bytes.now c.args.at c.container_at.result c.placed.result c.requires c.container_at.ensures
+    (record { ok = c.placed.ensures.ok; err = c.placed.ensures.err })
 
-pub returns-in-Err-clause-fault : goal.returns-in-Err-clause-fault
-returns-in-Err-clause-fault c =
-    (broken container container_exact c.args.bytes.now c.args.at c.in-Err.e.kind c.in-Err.e.left c.requires
-    (ap container.read (sym (take_rest c.args.bytes.now c.args.at)) ∙ c.in-Err.ensures)).fails
+pub returns-clause-fault : goal.returns-clause-fault
+returns-clause-fault c =
+    placed_fails container container_exact container_of c.args.bytes.now c.args.at c.container_at.result c.placed.result c.requires c.container_at.ensures
+    (record { ok = c.placed.ensures.ok; err = c.placed.ensures.err })

@@ -1,27 +1,21 @@
-use Rattle.std.proofs.Common.{◌∙◌, sym, ap}
-use Rattle.std.proofs.lemmas.List.{take_rest}
 use Rattle.rdb_grammar.specs.StreamParts.{group_last}
 use Rattle.rdb_grammar.specs.Views.{pair_of}
 use Rattle.rdb_grammar.proofs.StreamsExact.{group_last_exact}
-use Rattle.rdb_grammar.proofs.Standing.{found, broken}
+use Rattle.rdb_grammar.proofs.PlacedReads.{rest_fits, left_fits, placed_stands, placed_fails}
 use Rattle.rdb_grammar.proofs.streams.next_group.Goals as goal
 
-pub overflow_sub-result : goal.overflow_sub-result
-overflow_sub-result c =
-    (found (group_last c.args.stream) (group_last_exact c.args.stream) c.args.bytes.now c.args.at (pair_of c.in-Ok.last) c.in-Ok.rest.now c.requires
-    (ap (group_last c.args.stream).read (sym (take_rest c.args.bytes.now c.args.at)) ∙ c.in-Ok.ensures)).fits
+pub placed-requires-clause-rest : goal.placed-requires-clause-rest
+placed-requires-clause-rest c = rest_fits (group_last c.args.stream) (group_last_exact c.args.stream) pair_of c.args.bytes.now c.args.at c.group_last_of.result c.requires c.group_last_of.ensures
 
-pub overflow_sub-result-in-Err : goal.overflow_sub-result-in-Err
-overflow_sub-result-in-Err c =
-    (broken (group_last c.args.stream) (group_last_exact c.args.stream) c.args.bytes.now c.args.at c.in-Err.e.kind c.in-Err.e.left c.requires
-    (ap (group_last c.args.stream).read (sym (take_rest c.args.bytes.now c.args.at)) ∙ c.in-Err.ensures)).fits
+pub placed-requires-clause-left : goal.placed-requires-clause-left
+placed-requires-clause-left c = left_fits (group_last c.args.stream) (group_last_exact c.args.stream) pair_of c.args.bytes.now c.args.at c.group_last_of.result c.requires c.group_last_of.ensures
 
-pub returns-in-Ok-clause-last : goal.returns-in-Ok-clause-last
-returns-in-Ok-clause-last c =
-    (found (group_last c.args.stream) (group_last_exact c.args.stream) c.args.bytes.now c.args.at (pair_of c.in-Ok.last) c.in-Ok.rest.now c.requires
-    (ap (group_last c.args.stream).read (sym (take_rest c.args.bytes.now c.args.at)) ∙ c.in-Ok.ensures)).stands
+pub returns-clause-last : goal.returns-clause-last
+returns-clause-last c =
+    placed_stands (group_last c.args.stream) (group_last_exact c.args.stream) pair_of c.args.bytes.now c.args.at c.group_last_of.result c.placed.result c.requires c.group_last_of.ensures
+    (record { ok = c.placed.ensures.ok; err = c.placed.ensures.err })
 
-pub returns-in-Err-clause-fault : goal.returns-in-Err-clause-fault
-returns-in-Err-clause-fault c =
-    (broken (group_last c.args.stream) (group_last_exact c.args.stream) c.args.bytes.now c.args.at c.in-Err.e.kind c.in-Err.e.left c.requires
-    (ap (group_last c.args.stream).read (sym (take_rest c.args.bytes.now c.args.at)) ∙ c.in-Err.ensures)).fails
+pub returns-clause-fault : goal.returns-clause-fault
+returns-clause-fault c =
+    placed_fails (group_last c.args.stream) (group_last_exact c.args.stream) pair_of c.args.bytes.now c.args.at c.group_last_of.result c.placed.result c.requires c.group_last_of.ensures
+    (record { ok = c.placed.ensures.ok; err = c.placed.ensures.err })

@@ -1,26 +1,21 @@
-use Rattle.std.proofs.Common.{◌∙◌, sym, ap}
-use Rattle.std.proofs.lemmas.List.{take_rest}
 use Rattle.rdb_grammar.specs.StreamParts.{handed}
 use Rattle.rdb_grammar.specs.Views.{handed_of}
 use Rattle.rdb_grammar.proofs.StreamsExact.{handed_exact}
-use Rattle.rdb_grammar.proofs.Standing.{found, broken}
+use Rattle.rdb_grammar.proofs.PlacedReads.{rest_fits, left_fits, placed_stands, placed_fails}
 use Rattle.rdb_grammar.proofs.streams.next_handed.Goals as goal
 
-pub overflow_sub-result : goal.overflow_sub-result
-overflow_sub-result c =
-    (found handed handed_exact c.args.bytes.now c.args.at (handed_of c.in-Ok.handed) c.in-Ok.rest.now c.requires
-    (ap handed.read (sym (take_rest c.args.bytes.now c.args.at)) ∙ c.in-Ok.ensures)).fits
+pub placed-requires-clause-rest : goal.placed-requires-clause-rest
+placed-requires-clause-rest c = rest_fits handed handed_exact handed_of c.args.bytes.now c.args.at c.handed_of.result c.requires c.handed_of.ensures
 
-pub overflow_sub-result-in-Err : goal.overflow_sub-result-in-Err
-overflow_sub-result-in-Err c =
-    (broken handed handed_exact c.args.bytes.now c.args.at c.in-Err.e.kind c.in-Err.e.left c.requires (ap handed.read (sym (take_rest c.args.bytes.now c.args.at)) ∙ c.in-Err.ensures)).fits
+pub placed-requires-clause-left : goal.placed-requires-clause-left
+placed-requires-clause-left c = left_fits handed handed_exact handed_of c.args.bytes.now c.args.at c.handed_of.result c.requires c.handed_of.ensures
 
-pub returns-in-Ok-clause-handed : goal.returns-in-Ok-clause-handed
-returns-in-Ok-clause-handed c =
-    (found handed handed_exact c.args.bytes.now c.args.at (handed_of c.in-Ok.handed) c.in-Ok.rest.now c.requires
-    (ap handed.read (sym (take_rest c.args.bytes.now c.args.at)) ∙ c.in-Ok.ensures)).stands
+pub returns-clause-handed : goal.returns-clause-handed
+returns-clause-handed c =
+    placed_stands handed handed_exact handed_of c.args.bytes.now c.args.at c.handed_of.result c.placed.result c.requires c.handed_of.ensures
+    (record { ok = c.placed.ensures.ok; err = c.placed.ensures.err })
 
-pub returns-in-Err-clause-fault : goal.returns-in-Err-clause-fault
-returns-in-Err-clause-fault c =
-    (broken handed handed_exact c.args.bytes.now c.args.at c.in-Err.e.kind c.in-Err.e.left c.requires
-    (ap handed.read (sym (take_rest c.args.bytes.now c.args.at)) ∙ c.in-Err.ensures)).fails
+pub returns-clause-fault : goal.returns-clause-fault
+returns-clause-fault c =
+    placed_fails handed handed_exact handed_of c.args.bytes.now c.args.at c.handed_of.result c.placed.result c.requires c.handed_of.ensures
+    (record { ok = c.placed.ensures.ok; err = c.placed.ensures.err })

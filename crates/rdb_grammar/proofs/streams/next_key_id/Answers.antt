@@ -1,27 +1,21 @@
-use Rattle.std.proofs.Common.{◌∙◌, sym, ap}
-use Rattle.std.proofs.lemmas.List.{take_rest}
 use Rattle.rdb_grammar.specs.StreamParts.{sixteen_bytes}
 use Rattle.rdb_grammar.specs.Views.{pair_of}
 use Rattle.rdb_grammar.proofs.StreamsExact.{sixteen_bytes_exact}
-use Rattle.rdb_grammar.proofs.Standing.{found, broken}
+use Rattle.rdb_grammar.proofs.PlacedReads.{rest_fits, left_fits, placed_stands, placed_fails}
 use Rattle.rdb_grammar.proofs.streams.next_key_id.Goals as goal
 
-pub overflow_sub-result : goal.overflow_sub-result
-overflow_sub-result c =
-    (found sixteen_bytes sixteen_bytes_exact c.args.bytes.now c.args.at (pair_of c.in-Ok.id) c.in-Ok.rest.now c.requires
-    (ap sixteen_bytes.read (sym (take_rest c.args.bytes.now c.args.at)) ∙ c.in-Ok.ensures)).fits
+pub placed-requires-clause-rest : goal.placed-requires-clause-rest
+placed-requires-clause-rest c = rest_fits sixteen_bytes sixteen_bytes_exact pair_of c.args.bytes.now c.args.at c.key_id_of.result c.requires c.key_id_of.ensures
 
-pub overflow_sub-result-in-Err : goal.overflow_sub-result-in-Err
-overflow_sub-result-in-Err c =
-    (broken sixteen_bytes sixteen_bytes_exact c.args.bytes.now c.args.at c.in-Err.e.kind c.in-Err.e.left c.requires
-    (ap sixteen_bytes.read (sym (take_rest c.args.bytes.now c.args.at)) ∙ c.in-Err.ensures)).fits
+pub placed-requires-clause-left : goal.placed-requires-clause-left
+placed-requires-clause-left c = left_fits sixteen_bytes sixteen_bytes_exact pair_of c.args.bytes.now c.args.at c.key_id_of.result c.requires c.key_id_of.ensures
 
-pub returns-in-Ok-clause-id : goal.returns-in-Ok-clause-id
-returns-in-Ok-clause-id c =
-    (found sixteen_bytes sixteen_bytes_exact c.args.bytes.now c.args.at (pair_of c.in-Ok.id) c.in-Ok.rest.now c.requires
-    (ap sixteen_bytes.read (sym (take_rest c.args.bytes.now c.args.at)) ∙ c.in-Ok.ensures)).stands
+pub returns-clause-id : goal.returns-clause-id
+returns-clause-id c =
+    placed_stands sixteen_bytes sixteen_bytes_exact pair_of c.args.bytes.now c.args.at c.key_id_of.result c.placed.result c.requires c.key_id_of.ensures
+    (record { ok = c.placed.ensures.ok; err = c.placed.ensures.err })
 
-pub returns-in-Err-clause-fault : goal.returns-in-Err-clause-fault
-returns-in-Err-clause-fault c =
-    (broken sixteen_bytes sixteen_bytes_exact c.args.bytes.now c.args.at c.in-Err.e.kind c.in-Err.e.left c.requires
-    (ap sixteen_bytes.read (sym (take_rest c.args.bytes.now c.args.at)) ∙ c.in-Err.ensures)).fails
+pub returns-clause-fault : goal.returns-clause-fault
+returns-clause-fault c =
+    placed_fails sixteen_bytes sixteen_bytes_exact pair_of c.args.bytes.now c.args.at c.key_id_of.result c.placed.result c.requires c.key_id_of.ensures
+    (record { ok = c.placed.ensures.ok; err = c.placed.ensures.err })

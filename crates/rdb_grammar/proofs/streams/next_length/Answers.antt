@@ -1,26 +1,21 @@
-use Rattle.std.proofs.Common.{◌∙◌, sym, ap}
-use Rattle.std.proofs.lemmas.List.{take_rest}
+use Rattle.std.proofs.Common.{ℕ}
 use Rattle.rdb_grammar.specs.Lengths.{a_length}
 use Rattle.rdb_grammar.proofs.PartsExact.{a_length_exact}
-use Rattle.rdb_grammar.proofs.Standing.{found, broken}
+use Rattle.rdb_grammar.proofs.PlacedReads.{rest_fits, left_fits, placed_stands, placed_fails}
 use Rattle.rdb_grammar.proofs.streams.next_length.Goals as goal
 
-pub overflow_sub-result : goal.overflow_sub-result
-overflow_sub-result c =
-    (found a_length a_length_exact c.args.bytes.now c.args.at c.in-Ok.number c.in-Ok.rest.now c.requires
-    (ap a_length.read (sym (take_rest c.args.bytes.now c.args.at)) ∙ c.in-Ok.ensures)).fits
+pub placed-requires-clause-rest : goal.placed-requires-clause-rest
+placed-requires-clause-rest c = rest_fits a_length a_length_exact (λ (n : ℕ). n) c.args.bytes.now c.args.at c.length_of.result c.requires c.length_of.ensures
 
-pub overflow_sub-result-in-Err : goal.overflow_sub-result-in-Err
-overflow_sub-result-in-Err c =
-    (broken a_length a_length_exact c.args.bytes.now c.args.at c.in-Err.e.kind c.in-Err.e.left c.requires
-    (ap a_length.read (sym (take_rest c.args.bytes.now c.args.at)) ∙ c.in-Err.ensures)).fits
+pub placed-requires-clause-left : goal.placed-requires-clause-left
+placed-requires-clause-left c = left_fits a_length a_length_exact (λ (n : ℕ). n) c.args.bytes.now c.args.at c.length_of.result c.requires c.length_of.ensures
 
-pub returns-in-Ok-clause-number : goal.returns-in-Ok-clause-number
-returns-in-Ok-clause-number c =
-    (found a_length a_length_exact c.args.bytes.now c.args.at c.in-Ok.number c.in-Ok.rest.now c.requires
-    (ap a_length.read (sym (take_rest c.args.bytes.now c.args.at)) ∙ c.in-Ok.ensures)).stands
+pub returns-clause-number : goal.returns-clause-number
+returns-clause-number c =
+    placed_stands a_length a_length_exact (λ (n : ℕ). n) c.args.bytes.now c.args.at c.length_of.result c.placed.result c.requires c.length_of.ensures
+    (record { ok = c.placed.ensures.ok; err = c.placed.ensures.err })
 
-pub returns-in-Err-clause-fault : goal.returns-in-Err-clause-fault
-returns-in-Err-clause-fault c =
-    (broken a_length a_length_exact c.args.bytes.now c.args.at c.in-Err.e.kind c.in-Err.e.left c.requires
-    (ap a_length.read (sym (take_rest c.args.bytes.now c.args.at)) ∙ c.in-Err.ensures)).fails
+pub returns-clause-fault : goal.returns-clause-fault
+returns-clause-fault c =
+    placed_fails a_length a_length_exact (λ (n : ℕ). n) c.args.bytes.now c.args.at c.length_of.result c.placed.result c.requires c.length_of.ensures
+    (record { ok = c.placed.ensures.ok; err = c.placed.ensures.err })

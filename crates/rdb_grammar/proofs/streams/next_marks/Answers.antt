@@ -1,31 +1,25 @@
-use Rattle.std.proofs.Common.{◌∙◌, sym, ap}
-use Rattle.std.proofs.lemmas.List.{take_rest}
 use Rattle.rdb_grammar.specs.StreamParts.{is_from, marks_with}
 use Rattle.rdb_grammar.specs.Views.{marks_of}
 use Rattle.rdb_grammar.proofs.StreamsExact.{marks_with_exact}
-use Rattle.rdb_grammar.proofs.Standing.{found, broken}
+use Rattle.rdb_grammar.proofs.PlacedReads.{rest_fits, left_fits, placed_stands, placed_fails}
 use Rattle.rdb_grammar.proofs.streams.next_marks.Goals as goal
 
-pub overflow_sub-result : goal.overflow_sub-result
-overflow_sub-result c =
-    (found (marks_with c.args.stream c.args.live (is_from c.args.greatest)) (marks_with_exact c.args.stream c.args.live (is_from c.args.greatest)) c.args.bytes.now c.args.at
-    (marks_of c.in-Ok.marks) c.in-Ok.rest.now c.requires
-    (ap (marks_with c.args.stream c.args.live (is_from c.args.greatest)).read (sym (take_rest c.args.bytes.now c.args.at)) ∙ c.in-Ok.ensures)).fits
+pub placed-requires-clause-rest : goal.placed-requires-clause-rest
+placed-requires-clause-rest c = rest_fits (marks_with c.args.stream c.args.live (is_from c.args.greatest)) (marks_with_exact c.args.stream c.args.live (is_from c.args.greatest)) marks_of
+    c.args.bytes.now c.args.at c.marks_of.result c.requires c.marks_of.ensures
 
-pub overflow_sub-result-in-Err : goal.overflow_sub-result-in-Err
-overflow_sub-result-in-Err c =
-    (broken (marks_with c.args.stream c.args.live (is_from c.args.greatest)) (marks_with_exact c.args.stream c.args.live (is_from c.args.greatest)) c.args.bytes.now c.args.at
-    c.in-Err.e.kind c.in-Err.e.left c.requires
-    (ap (marks_with c.args.stream c.args.live (is_from c.args.greatest)).read (sym (take_rest c.args.bytes.now c.args.at)) ∙ c.in-Err.ensures)).fits
+pub placed-requires-clause-left : goal.placed-requires-clause-left
+placed-requires-clause-left c = left_fits (marks_with c.args.stream c.args.live (is_from c.args.greatest)) (marks_with_exact c.args.stream c.args.live (is_from c.args.greatest)) marks_of
+    c.args.bytes.now c.args.at c.marks_of.result c.requires c.marks_of.ensures
 
-pub returns-in-Ok-clause-marks : goal.returns-in-Ok-clause-marks
-returns-in-Ok-clause-marks c =
-    (found (marks_with c.args.stream c.args.live (is_from c.args.greatest)) (marks_with_exact c.args.stream c.args.live (is_from c.args.greatest)) c.args.bytes.now c.args.at
-    (marks_of c.in-Ok.marks) c.in-Ok.rest.now c.requires
-    (ap (marks_with c.args.stream c.args.live (is_from c.args.greatest)).read (sym (take_rest c.args.bytes.now c.args.at)) ∙ c.in-Ok.ensures)).stands
+pub returns-clause-marks : goal.returns-clause-marks
+returns-clause-marks c =
+    placed_stands (marks_with c.args.stream c.args.live (is_from c.args.greatest)) (marks_with_exact c.args.stream c.args.live (is_from c.args.greatest)) marks_of
+    c.args.bytes.now c.args.at c.marks_of.result c.placed.result c.requires c.marks_of.ensures
+    (record { ok = c.placed.ensures.ok; err = c.placed.ensures.err })
 
-pub returns-in-Err-clause-fault : goal.returns-in-Err-clause-fault
-returns-in-Err-clause-fault c =
-    (broken (marks_with c.args.stream c.args.live (is_from c.args.greatest)) (marks_with_exact c.args.stream c.args.live (is_from c.args.greatest)) c.args.bytes.now c.args.at
-    c.in-Err.e.kind c.in-Err.e.left c.requires
-    (ap (marks_with c.args.stream c.args.live (is_from c.args.greatest)).read (sym (take_rest c.args.bytes.now c.args.at)) ∙ c.in-Err.ensures)).fails
+pub returns-clause-fault : goal.returns-clause-fault
+returns-clause-fault c =
+    placed_fails (marks_with c.args.stream c.args.live (is_from c.args.greatest)) (marks_with_exact c.args.stream c.args.live (is_from c.args.greatest)) marks_of
+    c.args.bytes.now c.args.at c.marks_of.result c.placed.result c.requires c.marks_of.ensures
+    (record { ok = c.placed.ensures.ok; err = c.placed.ensures.err })

@@ -1,27 +1,21 @@
-use Rattle.std.proofs.Common.{◌∙◌, sym, ap}
-use Rattle.std.proofs.lemmas.List.{take_rest}
 use Rattle.rdb_grammar.specs.StreamParts.{node_string}
 use Rattle.rdb_grammar.specs.Views.{text_of}
 use Rattle.rdb_grammar.proofs.StreamsExact.{node_string_exact}
-use Rattle.rdb_grammar.proofs.Standing.{found, broken}
+use Rattle.rdb_grammar.proofs.PlacedReads.{rest_fits, left_fits, placed_stands, placed_fails}
 use Rattle.rdb_grammar.proofs.streams.next_node.Goals as goal
 
-pub overflow_sub-result : goal.overflow_sub-result
-overflow_sub-result c =
-    (found node_string node_string_exact c.args.bytes.now c.args.at (text_of c.in-Ok.text) c.in-Ok.rest.now c.requires
-    (ap node_string.read (sym (take_rest c.args.bytes.now c.args.at)) ∙ c.in-Ok.ensures)).fits
+pub placed-requires-clause-rest : goal.placed-requires-clause-rest
+placed-requires-clause-rest c = rest_fits node_string node_string_exact text_of c.args.bytes.now c.args.at c.node_string_of.result c.requires c.node_string_of.ensures
 
-pub overflow_sub-result-in-Err : goal.overflow_sub-result-in-Err
-overflow_sub-result-in-Err c =
-    (broken node_string node_string_exact c.args.bytes.now c.args.at c.in-Err.e.kind c.in-Err.e.left c.requires
-    (ap node_string.read (sym (take_rest c.args.bytes.now c.args.at)) ∙ c.in-Err.ensures)).fits
+pub placed-requires-clause-left : goal.placed-requires-clause-left
+placed-requires-clause-left c = left_fits node_string node_string_exact text_of c.args.bytes.now c.args.at c.node_string_of.result c.requires c.node_string_of.ensures
 
-pub returns-in-Ok-clause-string : goal.returns-in-Ok-clause-string
-returns-in-Ok-clause-string c =
-    (found node_string node_string_exact c.args.bytes.now c.args.at (text_of c.in-Ok.text) c.in-Ok.rest.now c.requires
-    (ap node_string.read (sym (take_rest c.args.bytes.now c.args.at)) ∙ c.in-Ok.ensures)).stands
+pub returns-clause-string : goal.returns-clause-string
+returns-clause-string c =
+    placed_stands node_string node_string_exact text_of c.args.bytes.now c.args.at c.node_string_of.result c.placed.result c.requires c.node_string_of.ensures
+    (record { ok = c.placed.ensures.ok; err = c.placed.ensures.err })
 
-pub returns-in-Err-clause-fault : goal.returns-in-Err-clause-fault
-returns-in-Err-clause-fault c =
-    (broken node_string node_string_exact c.args.bytes.now c.args.at c.in-Err.e.kind c.in-Err.e.left c.requires
-    (ap node_string.read (sym (take_rest c.args.bytes.now c.args.at)) ∙ c.in-Err.ensures)).fails
+pub returns-clause-fault : goal.returns-clause-fault
+returns-clause-fault c =
+    placed_fails node_string node_string_exact text_of c.args.bytes.now c.args.at c.node_string_of.result c.placed.result c.requires c.node_string_of.ensures
+    (record { ok = c.placed.ensures.ok; err = c.placed.ensures.err })

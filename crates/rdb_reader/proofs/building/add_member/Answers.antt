@@ -1,5 +1,7 @@
-use Rattle.std.proofs.Common.{◌≡◌, Bool, true, false, not, is_some, Ok, sym, ap, subst, ◌∙◌}
+use Rattle.std.proofs.Common.{◌≡◌, Bool, true, false, not, is_some, Ok, sym, ap, subst, ◌∙◌, refl}
 use Rattle.std.specs.FinMap.{get, insert}
+use Rattle.blocks.specs.Blocks.{no_step}
+use Rattle.blocks.proofs.Change.{changes_same}
 use Rattle.object_codec.specs.Forms.{IsLeast}
 use Rattle.plain_world.specs.Worlds.{SetOf}
 use Rattle.set_object.specs.Members.{members, form_of}
@@ -39,3 +41,51 @@ returns-in-Ok-false-clause-adds g c =
     let text = text_of c.in-Ok.read.0 in
     let there : false ≡ not (is_some (get old text)) = sym c.in-Ok-false.field-0-test ∙ c.in-Ok-false.ensures.there ∙ ap (λ t. not (is_some (get old t))) c.text.ensures in
     rw c.twice.ensures (joined_twice c.args.bytes.now c.args.at c.in-Ok.read.1 text c.in-Ok.ensures.string old there)
+
+pub next_string-requires : goal.next_string-requires
+next_string-requires g c = c.requires.at
+
+pub add-requires : goal.add-requires
+add-requires g c = c.requires.sound
+
+pub returns-in-Err-clause-sound : goal.returns-in-Err-clause-sound
+returns-in-Err-clause-sound g c = c.requires.sound
+
+pub returns-in-Err-clause-settings : goal.returns-in-Err-clause-settings
+returns-in-Err-clause-settings g c = record { limits = refl; seed = refl }
+
+pub returns-in-Err-clause-form : goal.returns-in-Err-clause-form
+returns-in-Err-clause-form g c = tt
+
+pub returns-in-Err-clause-changes : goal.returns-in-Err-clause-changes
+returns-in-Err-clause-changes g c = changes_same _ _ c.requires.sound.owned
+
+pub returns-in-Err-clause-served : goal.returns-in-Err-clause-served
+returns-in-Err-clause-served g c = no_step
+
+pub returns-in-Ok-true-clause-sound : goal.returns-in-Ok-true-clause-sound
+returns-in-Ok-true-clause-sound g c = (c.add.ensures.added (c.in-Ok-true.is ∙ ap (λ (b : Bool). Ok b) c.in-Ok-true.field-0-test)).sound
+
+pub returns-in-Ok-true-clause-settings : goal.returns-in-Ok-true-clause-settings
+returns-in-Ok-true-clause-settings g c = (c.add.ensures.added (c.in-Ok-true.is ∙ ap (λ (b : Bool). Ok b) c.in-Ok-true.field-0-test)).settings
+
+pub returns-in-Ok-true-clause-changes : goal.returns-in-Ok-true-clause-changes
+returns-in-Ok-true-clause-changes g c = (c.add.ensures.added (c.in-Ok-true.is ∙ ap (λ (b : Bool). Ok b) c.in-Ok-true.field-0-test)).changes
+
+pub returns-in-Ok-true-clause-served : goal.returns-in-Ok-true-clause-served
+returns-in-Ok-true-clause-served g c = c.add.ensures.served
+
+pub returns-in-Ok-false-clause-served : goal.returns-in-Ok-false-clause-served
+returns-in-Ok-false-clause-served g c = c.add.ensures.served
+
+pub returns-in-Err-add-clause-served : goal.returns-in-Err-add-clause-served
+returns-in-Err-add-clause-served g c = c.add.ensures.served
+
+pub returns-in-Ok-false-clause-form : goal.returns-in-Ok-false-clause-form
+returns-in-Ok-false-clause-form g c = tt
+
+pub returns-in-Err-add-clause-form : goal.returns-in-Err-add-clause-form
+returns-in-Err-add-clause-form g c = tt
+
+pub returns-in-Err-add-clause-adds : goal.returns-in-Err-add-clause-adds
+returns-in-Err-add-clause-adds g c = tt

@@ -1,4 +1,6 @@
 use Rattle.std.proofs.Common.{◌≡◌, List, ℕ, [], ◌∷◌, ◌++◌, sym, subst, ◌∙◌}
+use Rattle.blocks.specs.Blocks.{no_step}
+use Rattle.blocks.proofs.Change.{changes_same}
 use Rattle.object_codec.specs.Forms.{FitsList, IsLeast, IsLeastFrom}
 use Rattle.plain_world.specs.Worlds.{ListOf}
 use Rattle.quicklist.specs.Chain.{elements}
@@ -31,3 +33,36 @@ returns-in-Ok-insert-clause-form g c least =
     let list : new ≡ xs ++ text ∷ [] = c.in-Ok-insert.ensures.written.list_is ∙ put in
     let risen = subst (λ (ys : List (List ℕ)). IsLeastFrom c.args.list.now.form (FitsList (pack_len ys)) c.insert.new.self.form) put c.in-Ok-insert.ensures.written.form in
     subst (λ (ys : List (List ℕ)). IsLeast (FitsList (pack_len ys)) c.insert.new.self.form) (sym list) (appended_least xs (text ∷ []) c.args.list.now.form c.insert.new.self.form least risen)
+
+pub next_string-requires : goal.next_string-requires
+next_string-requires g c = c.requires.at
+
+pub returns-in-Err-clause-sound : goal.returns-in-Err-clause-sound
+returns-in-Err-clause-sound g c = c.requires.sound
+
+pub returns-in-Err-clause-form : goal.returns-in-Err-clause-form
+returns-in-Err-clause-form g c = tt
+
+pub returns-in-Err-clause-changes : goal.returns-in-Err-clause-changes
+returns-in-Err-clause-changes g c = changes_same _ _ c.requires.sound.chain.owned
+
+pub returns-in-Err-clause-served : goal.returns-in-Err-clause-served
+returns-in-Err-clause-served g c = no_step
+
+pub returns-in-Ok-insert-clause-served : goal.returns-in-Ok-insert-clause-served
+returns-in-Ok-insert-clause-served g c = c.insert.ensures.served
+
+pub returns-in-Err-insert-clause-served : goal.returns-in-Err-insert-clause-served
+returns-in-Err-insert-clause-served g c = c.insert.ensures.served
+
+pub returns-in-Err-insert-clause-form : goal.returns-in-Err-insert-clause-form
+returns-in-Err-insert-clause-form g c = tt
+
+pub returns-in-Err-insert-clause-adds : goal.returns-in-Err-insert-clause-adds
+returns-in-Err-insert-clause-adds g c = tt
+
+pub returns-in-Ok-insert-clause-sound : goal.returns-in-Ok-insert-clause-sound
+returns-in-Ok-insert-clause-sound g c = c.in-Ok-insert.ensures.written.quick
+
+pub returns-in-Ok-insert-clause-changes : goal.returns-in-Ok-insert-clause-changes
+returns-in-Ok-insert-clause-changes g c = c.in-Ok-insert.ensures.written.changes

@@ -54,3 +54,27 @@ returns-clause-makes g c =
     let all = c.len-end.ensures in
     put_all with_text (ListOf (elements (blocks c.args.store.now) c.args.list.now)) list c.loop.counter (ListOf (elements (blocks c.loop.store) c.loop.list))
     (omega (arith, all, c.loop-test.false)) c.loop.invariant.turns
+
+pub push-requires : goal.push-requires
+push-requires g c = c.loop.invariant.sound
+
+pub returns-in-Err-clause-sound : goal.returns-in-Err-clause-sound
+returns-in-Err-clause-sound g c = c.push.ensures.sound
+
+pub returns-in-Err-clause-form : goal.returns-in-Err-clause-form
+returns-in-Err-clause-form g c = tt
+
+pub returns-in-Err-clause-served : goal.returns-in-Err-clause-served
+returns-in-Err-clause-served g c = served_then _ _ _ c.loop.invariant.served c.push.ensures.served
+
+pub returns-clause-sound : goal.returns-clause-sound
+returns-clause-sound g c = c.loop.invariant.sound
+
+pub returns-clause-form : goal.returns-clause-form
+returns-clause-form g c = c.loop.invariant.form
+
+pub returns-clause-changes : goal.returns-clause-changes
+returns-clause-changes g c = c.loop.invariant.changes
+
+pub returns-clause-served : goal.returns-clause-served
+returns-clause-served g c = c.loop.invariant.served

@@ -1,4 +1,6 @@
-use Rattle.std.proofs.Common.{ap, ◌∙◌, sym, subst, List, ℕ, Err}
+use Rattle.std.proofs.Common.{ap, ◌∙◌, sym, subst, List, ℕ, Err, refl}
+use Rattle.blocks.specs.Blocks.{no_step}
+use Rattle.blocks.proofs.Change.{changes_same}
 use Rattle.plain_world.specs.Worlds.{SortedOf}
 use Rattle.zset_object.specs.Scored.{scores}
 use Rattle.rdb_grammar.specs.Payloads.{scores_on}
@@ -33,3 +35,54 @@ returns-in-Err-unpack_scores-clause-fills g c =
     payload_broken c.args.bytes.now c.args.at (scores_on made) (inside_exact string (scores_on made) string_exact (scores_on_decided made)) c.in-Ok.read.1 (text_of c.in-Ok.read.0)
     c.in-Ok.ensures.string new c.in-Err-unpack_scores.fault
     (subst (λ (t : List ℕ). Makes ((scores_on made).found t) c.args.at new (Err c.in-Err-unpack_scores.fault)) c.text.ensures c.in-Err-unpack_scores.ensures.makes)
+
+pub next_string-requires : goal.next_string-requires
+next_string-requires g c = c.requires.at
+
+pub unpack_scores-requires : goal.unpack_scores-requires
+unpack_scores-requires g c = c.requires.sound
+
+pub returns-in-Err-clause-sound : goal.returns-in-Err-clause-sound
+returns-in-Err-clause-sound g c = c.requires.sound
+
+pub returns-in-Err-clause-settings : goal.returns-in-Err-clause-settings
+returns-in-Err-clause-settings g c = record { limits = refl; seed = refl }
+
+pub returns-in-Err-clause-form : goal.returns-in-Err-clause-form
+returns-in-Err-clause-form g c = tt
+
+pub returns-in-Err-clause-changes : goal.returns-in-Err-clause-changes
+returns-in-Err-clause-changes g c = changes_same _ _ c.requires.sound.owned
+
+pub returns-in-Err-clause-served : goal.returns-in-Err-clause-served
+returns-in-Err-clause-served g c = no_step
+
+pub returns-in-Ok-unpack_scores-clause-sound : goal.returns-in-Ok-unpack_scores-clause-sound
+returns-in-Ok-unpack_scores-clause-sound g c = c.unpack_scores.ensures.sound
+
+pub returns-in-Ok-unpack_scores-clause-settings : goal.returns-in-Ok-unpack_scores-clause-settings
+returns-in-Ok-unpack_scores-clause-settings g c = c.unpack_scores.ensures.settings
+
+pub returns-in-Ok-unpack_scores-clause-changes : goal.returns-in-Ok-unpack_scores-clause-changes
+returns-in-Ok-unpack_scores-clause-changes g c = c.unpack_scores.ensures.changes
+
+pub returns-in-Ok-unpack_scores-clause-served : goal.returns-in-Ok-unpack_scores-clause-served
+returns-in-Ok-unpack_scores-clause-served g c = c.unpack_scores.ensures.served
+
+pub returns-in-Ok-unpack_scores-clause-form : goal.returns-in-Ok-unpack_scores-clause-form
+returns-in-Ok-unpack_scores-clause-form g c = c.in-Ok-unpack_scores.ensures.form
+
+pub returns-in-Err-unpack_scores-clause-sound : goal.returns-in-Err-unpack_scores-clause-sound
+returns-in-Err-unpack_scores-clause-sound g c = c.unpack_scores.ensures.sound
+
+pub returns-in-Err-unpack_scores-clause-settings : goal.returns-in-Err-unpack_scores-clause-settings
+returns-in-Err-unpack_scores-clause-settings g c = c.unpack_scores.ensures.settings
+
+pub returns-in-Err-unpack_scores-clause-changes : goal.returns-in-Err-unpack_scores-clause-changes
+returns-in-Err-unpack_scores-clause-changes g c = c.unpack_scores.ensures.changes
+
+pub returns-in-Err-unpack_scores-clause-served : goal.returns-in-Err-unpack_scores-clause-served
+returns-in-Err-unpack_scores-clause-served g c = c.unpack_scores.ensures.served
+
+pub returns-in-Err-unpack_scores-clause-form : goal.returns-in-Err-unpack_scores-clause-form
+returns-in-Err-unpack_scores-clause-form g c = tt

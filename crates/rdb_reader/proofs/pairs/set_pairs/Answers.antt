@@ -122,3 +122,45 @@ returns-then-count-eq1-clause-makes g c =
           (odd_pairs (length list / 2) list odd),
       refl,
     )
+
+pub set_pair-requires : goal.set_pair-requires
+set_pair-requires g c = c.loop.invariant.sound
+
+pub returns-then-count-eq1-clause-sound : goal.returns-then-count-eq1-clause-sound
+returns-then-count-eq1-clause-sound g c = c.requires
+
+pub returns-then-count-eq1-clause-settings : goal.returns-then-count-eq1-clause-settings
+returns-then-count-eq1-clause-settings g c = record { limits = refl; seed = refl }
+
+pub returns-then-count-eq1-clause-form : goal.returns-then-count-eq1-clause-form
+returns-then-count-eq1-clause-form g c = tt
+
+pub returns-then-count-eq1-clause-changes : goal.returns-then-count-eq1-clause-changes
+returns-then-count-eq1-clause-changes g c = changes_same _ _ c.requires.owned
+
+pub returns-then-count-eq1-clause-served : goal.returns-then-count-eq1-clause-served
+returns-then-count-eq1-clause-served g c = no_step
+
+pub returns-in-Err-clause-sound : goal.returns-in-Err-clause-sound
+returns-in-Err-clause-sound g c = c.set_pair.ensures.sound
+
+pub returns-in-Err-clause-form : goal.returns-in-Err-clause-form
+returns-in-Err-clause-form g c = tt
+
+pub returns-in-Err-clause-served : goal.returns-in-Err-clause-served
+returns-in-Err-clause-served g c = served_then _ _ _ c.loop.invariant.served c.set_pair.ensures.served
+
+pub returns-clause-sound : goal.returns-clause-sound
+returns-clause-sound g c = c.loop.invariant.sound
+
+pub returns-clause-settings : goal.returns-clause-settings
+returns-clause-settings g c = c.loop.invariant.settings
+
+pub returns-clause-form : goal.returns-clause-form
+returns-clause-form g c = c.loop.invariant.form
+
+pub returns-clause-changes : goal.returns-clause-changes
+returns-clause-changes g c = c.loop.invariant.changes
+
+pub returns-clause-served : goal.returns-clause-served
+returns-clause-served g c = c.loop.invariant.served

@@ -38,3 +38,42 @@ returns-in-Err-clause-changes g c =
     let own = refs c.args.scored.now in
     subst (λ (z : Scored). Changes m (g.B.BlockStore.blocks c.set.new.store) own (refs z)) (sym c.in-Err.ensures.err_scored)
     (subst (λ (b : Blocks). Changes m b own own) (sym c.in-Err.ensures.err_blocks) (changes_same m own c.requires.owned))
+
+pub set-requires : goal.set-requires
+set-requires g c = c.requires
+
+pub returns-in-Ok-true-clause-sound : goal.returns-in-Ok-true-clause-sound
+returns-in-Ok-true-clause-sound g c = c.in-Ok-true.ensures.set.sound
+
+pub returns-in-Ok-true-clause-settings : goal.returns-in-Ok-true-clause-settings
+returns-in-Ok-true-clause-settings g c = c.in-Ok-true.ensures.set.settings
+
+pub returns-in-Ok-true-clause-changes : goal.returns-in-Ok-true-clause-changes
+returns-in-Ok-true-clause-changes g c = c.in-Ok-true.ensures.set.changes
+
+pub returns-in-Ok-true-clause-served : goal.returns-in-Ok-true-clause-served
+returns-in-Ok-true-clause-served g c = c.set.ensures.served
+
+pub returns-in-Ok-false-clause-sound : goal.returns-in-Ok-false-clause-sound
+returns-in-Ok-false-clause-sound g c = c.in-Ok-false.ensures.set.sound
+
+pub returns-in-Ok-false-clause-settings : goal.returns-in-Ok-false-clause-settings
+returns-in-Ok-false-clause-settings g c = c.in-Ok-false.ensures.set.settings
+
+pub returns-in-Ok-false-clause-changes : goal.returns-in-Ok-false-clause-changes
+returns-in-Ok-false-clause-changes g c = c.in-Ok-false.ensures.set.changes
+
+pub returns-in-Ok-false-clause-served : goal.returns-in-Ok-false-clause-served
+returns-in-Ok-false-clause-served g c = c.set.ensures.served
+
+pub returns-in-Ok-false-clause-form : goal.returns-in-Ok-false-clause-form
+returns-in-Ok-false-clause-form g c = tt
+
+pub returns-in-Err-clause-form : goal.returns-in-Err-clause-form
+returns-in-Err-clause-form g c = tt
+
+pub returns-in-Err-clause-makes : goal.returns-in-Err-clause-makes
+returns-in-Err-clause-makes g c = tt
+
+pub returns-in-Err-clause-served : goal.returns-in-Err-clause-served
+returns-in-Err-clause-served g c = c.set.ensures.served

@@ -160,3 +160,75 @@ returns-in-Err-score_of-clause-makes g c =
     let each = p.each i (omega (arith, many, c.loop-test.true)) in
     let text = c.pair_at-pair.ensures.second (2 * i) at ∙ each.1 in
     absurd (no_score _ c.in-Err-score_of.kind (sym (all.each i within).1 ∙ ap score_in (sym text) ∙ c.in-Err-score_of.ensures.fault))
+
+pub set_scored-requires : goal.set_scored-requires
+set_scored-requires g c = c.loop.invariant.sound
+
+pub returns-then-count-eq1-clause-sound : goal.returns-then-count-eq1-clause-sound
+returns-then-count-eq1-clause-sound g c = c.requires
+
+pub returns-then-count-eq1-clause-settings : goal.returns-then-count-eq1-clause-settings
+returns-then-count-eq1-clause-settings g c = record { limits = refl; seed = refl }
+
+pub returns-then-count-eq1-clause-form : goal.returns-then-count-eq1-clause-form
+returns-then-count-eq1-clause-form g c = tt
+
+pub returns-then-count-eq1-clause-changes : goal.returns-then-count-eq1-clause-changes
+returns-then-count-eq1-clause-changes g c = changes_same _ _ c.requires.owned
+
+pub returns-then-count-eq1-clause-served : goal.returns-then-count-eq1-clause-served
+returns-then-count-eq1-clause-served g c = no_step
+
+pub returns-in-Err-clause-sound : goal.returns-in-Err-clause-sound
+returns-in-Err-clause-sound g c = c.requires
+
+pub returns-in-Err-clause-settings : goal.returns-in-Err-clause-settings
+returns-in-Err-clause-settings g c = record { limits = refl; seed = refl }
+
+pub returns-in-Err-clause-form : goal.returns-in-Err-clause-form
+returns-in-Err-clause-form g c = tt
+
+pub returns-in-Err-clause-changes : goal.returns-in-Err-clause-changes
+returns-in-Err-clause-changes g c = changes_same _ _ c.requires.owned
+
+pub returns-in-Err-clause-served : goal.returns-in-Err-clause-served
+returns-in-Err-clause-served g c = no_step
+
+pub returns-in-Err-score_of-clause-sound : goal.returns-in-Err-score_of-clause-sound
+returns-in-Err-score_of-clause-sound g c = c.loop.invariant.sound
+
+pub returns-in-Err-score_of-clause-settings : goal.returns-in-Err-score_of-clause-settings
+returns-in-Err-score_of-clause-settings g c = c.loop.invariant.settings
+
+pub returns-in-Err-score_of-clause-changes : goal.returns-in-Err-score_of-clause-changes
+returns-in-Err-score_of-clause-changes g c = c.loop.invariant.changes
+
+pub returns-in-Err-score_of-clause-served : goal.returns-in-Err-score_of-clause-served
+returns-in-Err-score_of-clause-served g c = c.loop.invariant.served
+
+pub returns-in-Err-score_of-clause-form : goal.returns-in-Err-score_of-clause-form
+returns-in-Err-score_of-clause-form g c = tt
+
+pub returns-in-Err-set_scored-clause-sound : goal.returns-in-Err-set_scored-clause-sound
+returns-in-Err-set_scored-clause-sound g c = c.set_scored.ensures.sound
+
+pub returns-in-Err-set_scored-clause-form : goal.returns-in-Err-set_scored-clause-form
+returns-in-Err-set_scored-clause-form g c = tt
+
+pub returns-in-Err-set_scored-clause-served : goal.returns-in-Err-set_scored-clause-served
+returns-in-Err-set_scored-clause-served g c = served_then _ _ _ c.loop.invariant.served c.set_scored.ensures.served
+
+pub returns-clause-sound : goal.returns-clause-sound
+returns-clause-sound g c = c.loop.invariant.sound
+
+pub returns-clause-settings : goal.returns-clause-settings
+returns-clause-settings g c = c.loop.invariant.settings
+
+pub returns-clause-form : goal.returns-clause-form
+returns-clause-form g c = c.loop.invariant.form
+
+pub returns-clause-changes : goal.returns-clause-changes
+returns-clause-changes g c = c.loop.invariant.changes
+
+pub returns-clause-served : goal.returns-clause-served
+returns-clause-served g c = c.loop.invariant.served

@@ -2,6 +2,7 @@ use Rattle.std.proofs.Common.{◌≡◌, ℕ, List, [], map, sym, ap, subst, ◌
 use Rattle.std.specs.Prelude.{FitsSigned}
 use Rattle.std.specs.Int.{w64}
 use Rattle.std.proofs.lemmas.Int.{to_z-of_z}
+use Rattle.std.proofs.lemmas.List.{length-map}
 use Rattle.int_text.specs.Decimal.{canonical}
 use Rattle.blocks.specs.Blocks.{no_step}
 use Rattle.blocks.proofs.Change.{changes_same, changes_then}
@@ -13,7 +14,6 @@ use Rattle.set_object.specs.Members.{members, form_of}
 use Rattle.set_object.specs.Strings.{FitsMembers}
 use Rattle.rdb_grammar.specs.Payloads.{with_text}
 use Rattle.rdb_reader.proofs.Unpacked.{put_one, put_all, breaks_on}
-use Rattle.std.proofs.lemmas.List.{length-map}
 use Rattle.rdb_reader.proofs.Numbers.{number_there}
 use Rattle.rdb_reader.proofs.payloads.join_numbers.Goals as goal
 
@@ -81,3 +81,30 @@ returns-clause-makes g c =
     let made = SetOf (members (blocks c.loop-index.store) c.loop-index.members) in
     let all = c.len-index-end.ensures.value in
     put_all with_text first list c.loop-index.index made (omega (arith, all, c.loop-index-test.false, length-map c.args.numbers.now canonical)) c.loop-index.invariant.turns
+
+pub join-requires : goal.join-requires
+join-requires g c = c.loop-index.invariant.sound
+
+pub returns-in-Err-clause-sound : goal.returns-in-Err-clause-sound
+returns-in-Err-clause-sound g c = c.join.ensures.sound
+
+pub returns-in-Err-clause-form : goal.returns-in-Err-clause-form
+returns-in-Err-clause-form g c = tt
+
+pub returns-in-Err-clause-served : goal.returns-in-Err-clause-served
+returns-in-Err-clause-served g c = served_then _ _ _ c.loop-index.invariant.served c.join.ensures.served
+
+pub returns-clause-sound : goal.returns-clause-sound
+returns-clause-sound g c = c.loop-index.invariant.sound
+
+pub returns-clause-settings : goal.returns-clause-settings
+returns-clause-settings g c = c.loop-index.invariant.settings
+
+pub returns-clause-form : goal.returns-clause-form
+returns-clause-form g c = c.loop-index.invariant.form
+
+pub returns-clause-changes : goal.returns-clause-changes
+returns-clause-changes g c = c.loop-index.invariant.changes
+
+pub returns-clause-served : goal.returns-clause-served
+returns-clause-served g c = c.loop-index.invariant.served

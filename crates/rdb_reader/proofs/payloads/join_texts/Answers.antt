@@ -76,3 +76,30 @@ returns-clause-makes g c =
     let made = SetOf (members (blocks c.loop.store) c.loop.members) in
     let all = c.len-end.ensures in
     put_all with_text first list c.loop.counter made (omega (arith, all, c.loop-test.false)) c.loop.invariant.turns
+
+pub join-requires : goal.join-requires
+join-requires g c = c.loop.invariant.sound
+
+pub returns-in-Err-clause-sound : goal.returns-in-Err-clause-sound
+returns-in-Err-clause-sound g c = c.join.ensures.sound
+
+pub returns-in-Err-clause-form : goal.returns-in-Err-clause-form
+returns-in-Err-clause-form g c = tt
+
+pub returns-in-Err-clause-served : goal.returns-in-Err-clause-served
+returns-in-Err-clause-served g c = served_then _ _ _ c.loop.invariant.served c.join.ensures.served
+
+pub returns-clause-sound : goal.returns-clause-sound
+returns-clause-sound g c = c.loop.invariant.sound
+
+pub returns-clause-settings : goal.returns-clause-settings
+returns-clause-settings g c = c.loop.invariant.settings
+
+pub returns-clause-form : goal.returns-clause-form
+returns-clause-form g c = c.loop.invariant.form
+
+pub returns-clause-changes : goal.returns-clause-changes
+returns-clause-changes g c = c.loop.invariant.changes
+
+pub returns-clause-served : goal.returns-clause-served
+returns-clause-served g c = c.loop.invariant.served
