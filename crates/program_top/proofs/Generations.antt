@@ -1,6 +1,6 @@
 -- The worlds on the way of generated commands are those of a run.
 use Rattle.std.proofs.Common.{◌≡◌, ℕ, ◌+◌, ◌≤◌, List, [], ◌∷◌, zero, suc, length, map, pos, Option, Some, None, Result, Ok, refl, sym, ap, ◌∙◌, subst, arith}
-use Rattle.std.specs.Prelude.{ℤ, MatchResult, bytes_eq, ◌&&◌, if◌then◌else◌}
+use Rattle.std.specs.Prelude.{ℤ, bytes_eq, ◌&&◌, if◌then◌else◌}
 use Rattle.std.specs.FinMap.{len}
 use Rattle.class_heap.specs.Heap.{heap_blocks, heap_slabs, IsClassHeapStep}
 use Rattle.digests.specs.Crc.{crc_of}
@@ -18,7 +18,7 @@ use Rattle.outside.specs.declared.pacing.Plan.{Plan}
 use Rattle.plain_model.specs.Runs.{Turn, run, calls_of, replies_of}
 use Rattle.plain_model.specs.Meant.{meant}
 use Rattle.plain_model.specs.Shapes.{and_then, whole, database}
-use Rattle.plain_model.specs.Steps.{step, may}
+use Rattle.plain_model.specs.Steps.{step, may_meant}
 use Rattle.plain_model.specs.declared.command.Command.{Command}
 use Rattle.plain_model.specs.declared.command.Command.TheVariants.{Connection}
 use Rattle.plain_model.specs.declared.connection.ConnectionCommand.{ConnectionCommand}
@@ -30,7 +30,7 @@ use Rattle.plain_world.specs.Words.{Words}
 use Rattle.plain_world.specs.Worlds.{World, Database, new_world, live, live_keys, selecting}
 use Rattle.plain_world.specs.declared.reply.Part.{Part}
 use Rattle.plain_world.specs.declared.refusal.Refusal.{Refusal}
-use Rattle.plain_world.specs.declared.reply.Part.TheVariants.{Number, Refused}
+use Rattle.plain_world.specs.declared.reply.Part.TheVariants.{Number}
 use Rattle.rdb_reader.proofs.Living.{new_live}
 use Rattle.redis_core.proofs.Steps.{executes_step}
 use Rattle.redis_core.specs.Background.{EngineRests}
@@ -138,16 +138,15 @@ selects_means = ap selects_read zero_read
 select_leaves : (moment : ℕ) (old new : Engine) (reply : List Part) → answers moment old selects_first reply new → world_of new ≡ selecting (live (world_of old) new.last) 0
 select_leaves moment old new reply a =
     let one = executes_step heap_blocks heap_slabs IsClassHeapStep moment old selects_first reply new a in
-    let X : Result Command Refusal → Type 0 = λ m. MatchResult m (λ command. may old.bases.seed (live (world_of old) new.last) new.last command reply (world_of new))
-    (λ refusal. (reply ≡ Refused refusal ∷ []) × (world_of new ≡ live (world_of old) new.last)) in
-    (subst X selects_means one).1
+    let X : Result Command Refusal → Type 0 = λ m. may_meant old.bases.seed (live (world_of old) new.last) new.last m reply (world_of new) in
+    (subst X selects_means one).0.1
 
 -- what DBSIZE answers
 abbrev size_at : World → ℕ → ℕ
 size_at world moment = len ((live world moment).bases (live world moment).selected)
 
 size_is : (moment : ℕ) (old new : Engine) (reply : List Part) → answers moment old asks_size reply new → reply ≡ Number (pos (size_at (world_of old) new.last)) ∷ []
-size_is moment old new reply a = (executes_step heap_blocks heap_slabs IsClassHeapStep moment old asks_size reply new a).0
+size_is moment old new reply a = (executes_step heap_blocks heap_slabs IsClassHeapStep moment old asks_size reply new a).0.0
 
 pub is_count : (seed n sum : ℕ) (first : Paced Engine) (last : Engine) (size : List Part) → Generates answers works seed n first last size sum → IsCount size
 is_count seed n sum first last size g = record { n = size_at (world_of g.asks.mid) last.last; is = size_is n g.asks.mid last size g.asks.asks }

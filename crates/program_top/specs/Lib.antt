@@ -11,3 +11,4 @@ pub mod Stepped
 pub mod Headline
 pub mod Lent
 pub mod TopAnswers
+pub mod Ends

@@ -7,6 +7,7 @@ mod generating;
 pub mod laws;
 mod lent;
 pub mod notes;
+pub mod process;
 mod starting;
 pub mod top_call;
 pub mod words;

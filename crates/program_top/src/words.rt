@@ -1,6 +1,6 @@
 //! The words behind the program's name.
 
-ghost use Rattle.std.specs.Prelude.{◌≡◌, ◌≤◌, ◌<◌, ◌^◌, Some, None, true, false, drop, map, string_bytes, IfOk, IfSome, IfNone};
+ghost use Rattle.std.specs.Prelude.{◌≡◌, ◌≤◌, ◌<◌, ◌^◌, ◌∷◌, [], fold, Some, None, true, false, drop, map, string_bytes, IfOk, IfSome, IfNone};
 ghost use Rattle.std.specs.List.{list_all};
 ghost use Rattle.std.specs.Str.Parse.{digits_value};
 ghost use Rattle.clap.specs.Matches.{found_of};
@@ -153,23 +153,46 @@ fn with_option<'a>(
     command.arg(option)
 }
 
+// The command with four options more.
+fn with_four<'a>(
+    command: Command<'a>,
+    alloc: Global,
+    first: &'a str,
+    second: &'a str,
+    third: &'a str,
+    fourth: &'a str,
+) -> Result<Command<'a>, AllocError>
+    ensures { IfOk result
+        (λ more. app_of more ≡ fold with_option (app_of command.entry) (first.entry.now ∷ second.entry.now ∷ third.entry.now ∷ fourth.entry.now ∷ [])) }
+{
+    let command = with_option(command, alloc, first)?;
+    let command = with_option(command, alloc, second)?;
+    let command = with_option(command, alloc, third)?;
+    with_option(command, alloc, fourth)
+}
+
 // The command that reads the words.
 fn command<'a>(alloc: Global) -> Result<Command<'a>, AllocError>
     ensures { IfOk result (λ all. app_of all ≡ command) }
 {
     let bare = Command::new(alloc, "redis-core").no_binary_name(true);
-    let command = with_option(bare, alloc, LOAD)?;
-    let command = with_option(command, alloc, GENERATE.name)?;
-    let command = with_option(command, alloc, SEED.name)?;
-    let command = with_option(command, alloc, EFFORT.name)?;
-    let command = with_option(command, alloc, MAX_INPUT.name)?;
-    let command = with_option(command, alloc, HASH_ENTRIES.name)?;
-    let command = with_option(command, alloc, SET_ENTRIES.name)?;
-    let command = with_option(command, alloc, ZSET_ENTRIES.name)?;
-    let command = with_option(command, alloc, HASH_VALUE.name)?;
-    let command = with_option(command, alloc, SET_VALUE.name)?;
-    let command = with_option(command, alloc, ZSET_VALUE.name)?;
-    with_option(command, alloc, SET_INTSET.name)
+    let command = with_four(bare, alloc, LOAD, GENERATE.name, SEED.name, EFFORT.name)?;
+    let command = with_four(
+        command,
+        alloc,
+        MAX_INPUT.name,
+        HASH_ENTRIES.name,
+        SET_ENTRIES.name,
+        ZSET_ENTRIES.name,
+    )?;
+    with_four(
+        command,
+        alloc,
+        HASH_VALUE.name,
+        SET_VALUE.name,
+        ZSET_VALUE.name,
+        SET_INTSET.name,
+    )
 }
 
 // The number that a text is. None is a text that is no number in the option's range.

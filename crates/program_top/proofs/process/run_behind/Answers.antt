@@ -1,8 +1,8 @@
 use Rattle.std.proofs.Common.{ℕ, List, inl, inr, subst}
 use Rattle.outside.specs.Streams.{SinkSeen}
 use Rattle.program_top.specs.declared.ending.Ending.TheVariants as endings
-use Rattle.redis_core_cli.specs.Ends.{Answers, EndsBy}
-use Rattle.redis_core_cli.proofs.run_behind.Goals as goal
+use Rattle.program_top.specs.Ends.{Answers, EndsBy}
+use Rattle.program_top.proofs.process.run_behind.Goals as goal
 
 pub returns-in-Ok : goal.returns-in-Ok
 returns-in-Ok g c =
