@@ -4,7 +4,8 @@ use blocks::PlainStore;
 use object_codec::Limits;
 use outside::{MemHost, MemSink, Plan};
 use plain_model::{Memory, Reply};
-use redis_core::{Engine, refusals_change_nothing};
+use rdb_reader::{LoadFault, Loaded};
+use redis_core::{Engine, StepsDone, refusals_change_nothing};
 use resp_frames::{Feeder, spell};
 use row_text::shown;
 use std::alloc::Global;
@@ -14,6 +15,19 @@ pub fn begun(alloc: Global) -> Result<Engine<PlainStore>, Memory> {
     Engine::new(alloc, PlainStore::new(alloc), Limits::default(), 7)
 }
 
+// The host of one file, `f`, of these bytes.
+fn host_of(alloc: Global, bytes: &[u8]) -> Result<MemHost, Memory> {
+    let names = vec![in alloc; String::from_str(alloc, "f")?]?;
+    let files = vec![in alloc; Vec::from_slice(alloc, bytes)?]?;
+    Ok(MemHost::new(names, files, Vec::new(alloc)))
+}
+
+// What loading answered, as text. It stands apart, since what comes behind a call of the engine is proved among all that the call
+// says.
+fn told_load(alloc: Global, answer: Result<Loaded, LoadFault>) -> Result<String, Memory> {
+    format!(in alloc; "{answer:?}")
+}
+
 /// An engine with the keys of a file of these bytes, and what loading it answered.
 pub fn loaded(
     alloc: Global,
@@ -21,14 +35,13 @@ pub fn loaded(
     limit: u64,
     moment: u64,
 ) -> Result<(Engine<PlainStore>, String), Memory> {
-    let names = vec![in alloc; String::from_str(alloc, "f")?]?;
-    let files = vec![in alloc; Vec::from_slice(alloc, bytes)?]?;
-    let mut host = MemHost::new(names, files, Vec::new(alloc));
-    refusals_change_nothing();
+    let mut host = host_of(alloc, bytes)?;
     let store = PlainStore::new(alloc);
     let mut engine = Engine::new(alloc, store, Limits::default(), 7)?;
     let answer = engine.load(&mut host, "f", limit, moment);
-    let text = format!(in alloc; "{answer:?}")?;
+    let text = told_load(alloc, answer)?;
+    // last, so that no other call is proved among what it says
+    refusals_change_nothing();
     Ok((engine, text))
 }
 
@@ -53,6 +66,13 @@ pub fn ask(
     }
 }
 
+// The bytes of a reply, and whether all of them fit.
+fn told_reply(alloc: Global, reply: &Reply) -> Result<(String, bool), Memory> {
+    let mut sink = MemSink::new(vec![in alloc; 0; 200]?, Vec::new(alloc));
+    let fits = spell(reply, &mut sink).is_ok();
+    Ok((shown(alloc, sink.written())?, fits))
+}
+
 /// The bytes of the reply to a request.
 pub fn asked(
     alloc: Global,
@@ -62,14 +82,17 @@ pub fn asked(
 ) -> Result<String, Memory> {
     match ask(alloc, engine, request, moment)? {
         Some((reply, quits)) => {
-            let mut sink = MemSink::new(vec![in alloc; 0; 200]?, Vec::new(alloc));
-            let fits = spell(&reply, &mut sink).is_ok();
-            let told = shown(alloc, sink.written())?;
+            let (told, fits) = told_reply(alloc, &reply)?;
             let end = if quits { " and the end" } else { "" };
             format!(in alloc; "{told}{end}{}", if fits { "" } else { ".." })
         }
         None => String::from_str(alloc, "no request"),
     }
+}
+
+// What was done of a plan, as text.
+fn told_steps(alloc: Global, done: StepsDone) -> Result<String, Memory> {
+    format!(in alloc; "{} {} {}", done.rehash, done.defrag, done.expired)
 }
 
 /// What is done of a plan.
@@ -79,6 +102,5 @@ pub fn planned(
     plan: Plan,
     moment: u64,
 ) -> Result<String, Memory> {
-    let done = engine.background(plan, moment);
-    format!(in alloc; "{} {} {}", done.rehash, done.defrag, done.expired)
+    told_steps(alloc, engine.background(plan, moment))
 }

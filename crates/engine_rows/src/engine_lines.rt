@@ -104,10 +104,11 @@ fn each(state: &mut Asked, alloc: Global, count: u64, request: &[u8]) -> Result<
 }
 
 // The same of a line: `COUNT REQUEST`.
-fn each_line(state: &mut Asked, alloc: Global, rest: &str) -> Result<u64, Memory> {
+fn each_line(state: &mut Asked, alloc: Global, rest: &str) -> Result<String, Memory> {
     let (count, request) = rest.split_once(' ').unwrap_or((rest, ""));
     let request = spelled(alloc, request)?;
-    each(state, alloc, number(count), request.as_slice())
+    let told = each(state, alloc, number(count), request.as_slice())?;
+    format!(in alloc; "{told}")
 }
 
 // What happens between the calls of two scans: `FIRST EACH MOST PASSES|BEHIND_FIRST|BEFORE|BEHIND|LAST`.
@@ -144,6 +145,17 @@ fn reply(state: &mut Asked, alloc: Global, rest: &str) -> Result<String, Memory>
     asked(alloc, &mut state.engine, request.as_slice(), state.moment)
 }
 
+// Whether what a line asks is so; none for any other line.
+fn is_so(state: &mut Asked, alloc: Global, name: &str, rest: &str) -> Result<Option<bool>, Memory> {
+    match name {
+        "rehashes_up_to" => Ok(Some(rehashes_up_to(state, steps(rest)))),
+        "up_to" => Ok(Some(up_to(state, alloc, rest)?)),
+        "scans" => Ok(Some(scan(alloc, rest)?)),
+        "is_spent" => Ok(Some(state.engine.is_spent())),
+        _ => Ok(None),
+    }
+}
+
 /// What a line of an engine answers; none for any other line.
 pub fn answer(
     state: &mut Asked,
@@ -151,30 +163,14 @@ pub fn answer(
     name: &str,
     rest: &str,
 ) -> Result<Option<String>, Memory> {
+    if let Some(holds) = is_so(state, alloc, name, rest)? {
+        return Ok(Some(format!(in alloc; "{holds}")?));
+    }
     let text = match name {
         "ask" => reply(state, alloc, rest)?,
         "load" => load(state, alloc, rest)?,
         "plan" => planned(alloc, &mut state.engine, plan_of(rest), state.moment)?,
-        "rehashes_up_to" => {
-            let holds = rehashes_up_to(state, steps(rest));
-            format!(in alloc; "{holds}")?
-        }
-        "up_to" => {
-            let holds = up_to(state, alloc, rest)?;
-            format!(in alloc; "{holds}")?
-        }
-        "each" => {
-            let told = each_line(state, alloc, rest)?;
-            format!(in alloc; "{told}")?
-        }
-        "scans" => {
-            let holds = scan(alloc, rest)?;
-            format!(in alloc; "{holds}")?
-        }
-        "is_spent" => {
-            let is_spent = state.engine.is_spent();
-            format!(in alloc; "{is_spent}")?
-        }
+        "each" => each_line(state, alloc, rest)?,
         "at" => {
             state.moment = number(rest);
             String::new(alloc)

@@ -73,13 +73,18 @@ fn rule_of(name: &str) -> Rule {
     }
 }
 
+// Whether all was put, and what was.
+fn put_line(alloc: Global, is_put: bool, sink: &MemSink) -> Result<String, AllocError> {
+    let line = shown(alloc, sink.written())?;
+    format!(in alloc; "{is_put} {line}")
+}
+
 // The line of a rule that is broken: `RULE AT`.
 fn fault_line(alloc: Global, rest: &str) -> Result<String, AllocError> {
     let (name, at) = rest.split_once(' ').unwrap_or((rest, ""));
     let mut sink = MemSink::new(vec![in alloc; 0u8; 100]?, Vec::new(alloc));
     let is_put = put_fault(&mut sink, rule_of(name), number(at)).is_ok();
-    let line = shown(alloc, sink.written())?;
-    format!(in alloc; "{is_put} {line}")
+    put_line(alloc, is_put, &sink)
 }
 
 // Parts of replies, and a piece behind them.
@@ -97,8 +102,7 @@ fn parts(alloc: Global) -> Result<String, AllocError> {
         }
     }
     let is_put = put_all(&mut sink, b"and more").is_ok();
-    let line = shown(alloc, sink.written())?;
-    format!(in alloc; "{is_put} {line}")
+    put_line(alloc, is_put, &sink)
 }
 
 /// What a line answers; none for any other line.

@@ -73,6 +73,31 @@ fn sink_of(alloc: Global, given: &Given) -> Result<MemSink, AllocError> {
     ))
 }
 
+// How many bytes are left of the input, of 100 at most.
+fn left_of(input: &mut MemSource) -> usize {
+    let mut rest = [0u8; 100];
+    input.take(&mut rest).unwrap_or(0)
+}
+
+// What became of a run that ended so. It stands apart, since what comes behind the serving is proved among all that it says.
+fn run_of(
+    alloc: Global,
+    ended: Ended,
+    engine: &Counting,
+    input: &mut MemSource,
+    output: &MemSink,
+) -> Result<Run, AllocError> {
+    let left = left_of(input);
+    Ok(Run {
+        ended,
+        executed: engine.executed,
+        last: engine.last,
+        worked: engine.worked,
+        written: Vec::from_slice(alloc, output.written())?,
+        left,
+    })
+}
+
 /// Serves an input that comes in pieces of so many bytes.
 pub fn served(
     alloc: Global,
@@ -99,16 +124,7 @@ pub fn served(
         &mut output,
         given.limit.min(MANY_BYTES),
     );
-    let mut rest = [0u8; 100];
-    let left = input.take(&mut rest).unwrap_or(0);
-    Ok(Run {
-        ended,
-        executed: engine.executed,
-        last: engine.last,
-        worked: engine.worked,
-        written: Vec::from_slice(alloc, output.written())?,
-        left,
-    })
+    run_of(alloc, ended, &engine, &mut input, &output)
 }
 
 /// What became of a run.
