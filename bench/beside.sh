@@ -1,7 +1,7 @@
 # What the measurements beside a real server share, for scripts that stand at the top of the repository: source it.
 # $room is a folder of their own, $program the built program, $server a redis-server or valkey-server, or empty.
 program=crates/redis_core_cli/out/redis_core_cli
-[ -x "$program" ] || { echo "build it first: cd crates/redis_core_cli && rt run < stdin"; exit 2; }
+[ -x "$program" ] || { echo "build it first: rt ci"; exit 2; }
 server=$(command -v redis-server || command -v valkey-server || true)
 server_pid=
 room=$(mktemp -d)

@@ -6,7 +6,7 @@ set -euo pipefail
 cd "$(dirname "$0")/.."
 mib=${1:-256}
 program=crates/redis_core_cli/out/redis_core_cli
-[ -x "$program" ] || { echo "build it first: cd crates/redis_core_cli && rt run < stdin"; exit 2; }
+[ -x "$program" ] || { echo "build it first: rt ci"; exit 2; }
 room=$(mktemp -d)
 trap 'rm -rf "$room"' EXIT
 python3 bench/rdb.py long "$mib" > "$room/summed"

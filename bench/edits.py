@@ -6,8 +6,9 @@ usage: bench/edits.py CRATE..        those of these crates
        bench/edits.py --share K/N    those of every N-th crate that has edits, from the K-th on (1/N to N/N are all)
        bench/edits.py --all
        bench/edits.py --fits         tries none, and says in a second which can no longer be applied
+       bench/edits.py --page         writes edits/README.md anew, which says what each crate's edits turn
 
-An edit is a file as `rt must-fail` reads it. They stand outside crates/, so that `rt ci` proves a crate once and not twice. Here
+An edit is a file as `rt must-fail` reads it, named by what it turns. They stand outside crates/, so that `rt ci` proves a crate once and not twice. Here
 the crates are copied to a new folder, the edits into must-fail/ of each, and `rt must-fail` tries them there: it begins with what
 `rt check` kept in any checkout on the machine, tries again only what changed, and builds libraries that nothing has built. The
 status is 0 where each edit is refused. With --list nothing is tried, and the crates are printed.
@@ -70,10 +71,32 @@ def misfit(edit, crate):
     return None if texts else "it has no `file:`"
 
 
+def edits_of(name):
+    return sorted(os.listdir(f"{TOP}/edits/{name}"))
+
+
+PAGE = """# Edits that the prover must refuse
+
+Each turns what a public function means, while the names that proofs cite stay; its name says what would then be so. The gate looks
+that each still fits its file. Who changes a contract tries those of its crate, `bench/edits.py CRATE`, and a release tries all,
+`bench/edits.py --all`. This page is written by `bench/edits.py --page`.
+
+| Crate | What its edits turn |
+|---|---|
+"""
+
+
+def page():
+    """A row a crate, and in it the names of its edits as words."""
+    told = {name: [edit.removesuffix(".edit").replace("_", " ") for edit in edits_of(name)] for name in crates_with_edits()}
+    rows = "".join(f"| `{name}` | {'; '.join(edits)} |\n" for name, edits in told.items())
+    return f"{PAGE}{rows}\n{sum(map(len, told.values()))} edits of {len(told)} crates.\n"
+
+
 def fits():
     lost = 0
     for name in crates_with_edits():
-        for edit in sorted(os.listdir(f"{TOP}/edits/{name}")):
+        for edit in edits_of(name):
             why = misfit(f"{TOP}/edits/{name}/{edit}", f"{TOP}/crates/{name}")
             if why:
                 print(f"edits/{name}/{edit}: {why}")
@@ -95,6 +118,10 @@ def copy_to(room, names):
 def main():
     if sys.argv[1:] == ["--fits"]:
         return fits()
+    if sys.argv[1:] == ["--page"]:
+        with open(f"{TOP}/edits/README.md", "w", encoding="utf-8") as file:
+            file.write(page())
+        return 0
     words = [it for it in sys.argv[1:] if it != "--list"]
     names = chosen(words)
     print("edits of:", " ".join(names) or "no crate", flush=True)

@@ -2,11 +2,11 @@
 # Refuses memory in two runs, one of commands on strings and one of commands of each family behind a file with a value of each
 # type that is taken: each call of malloc or realloc in turn, one a run. Each must end with all replies, or with status 8
 # behind a whole reply and with its line. Prints how each ended, and fails at the first that ended otherwise.
-# usage: bench/fail_alloc.sh, behind (cd crates/top_rows && rt run < stdin); it wants a compiler of C
+# usage: bench/fail_alloc.sh, behind rt ci; it wants a compiler of C
 set -euo pipefail
 cd "$(dirname "$0")/.."
 program=crates/top_rows/out/top_rows
-[ -x "$program" ] || { echo "build it first: cd crates/top_rows && rt run < stdin"; exit 2; }
+[ -x "$program" ] || { echo "build it first: rt ci"; exit 2; }
 room=$(mktemp -d)
 trap 'rm -rf "$room"' EXIT
 # stands before the C library, and refuses the call whose number is FAIL_ALLOC, counted from 1

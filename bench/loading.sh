@@ -2,7 +2,7 @@
 # Loads files that a real server saved without compression, and the server loads the same: 1,000,000 short strings, 100,000 hashes of ten
 # fields, a sorted set of 1,000,000 members, a list of 1,000,000 elements, and 1,000 streams of 1,000 entries. Prints the seconds that the
 # program takes for a run without a request, best of three, and those that the server's log tells of its own loading.
-# usage: bench/loading.sh, behind (cd crates/redis_core_cli && rt run < stdin); it wants Python 3 and a redis-server
+# usage: bench/loading.sh, behind rt ci; it wants Python 3 and a redis-server
 set -euo pipefail
 cd "$(dirname "$0")/.."
 . bench/beside.sh

@@ -62,9 +62,10 @@ class Server:
 
 
 def cases(path):
+    with open(path, encoding="utf-8") as file:
+        rows = file.read().removesuffix("\n").split("\n")
     lines = []
-    for line in open(path, encoding="utf-8"):
-        line = line.rstrip("\n")
+    for line in rows:
         if line.startswith("case") and lines:
             yield lines
             lines = []

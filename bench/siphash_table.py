@@ -1,6 +1,6 @@
-"""Makes the table of crates/digests/src/siphash/tests.rt: SipHash with 1 and 2 rounds.
+"""Makes the answers of the rows `digest sip 1 2` of rows/basics_rows: SipHash with 1 and 2 rounds.
 
-Written apart from the crate, after "SipHash: a fast short-input PRF", for that test alone.
+Written apart from the crate, after "SipHash: a fast short-input PRF", for these rows alone.
 It first checks itself on the published vector for 2 and 4 rounds. Run: python3 bench/siphash_table.py
 """
 

@@ -25,7 +25,7 @@ use Rattle.plain_world.specs.declared.reply.Part.TheVariants.{Array, Bulk, Refus
 use Rattle.plain_model.specs.OfType.{hash_in, may_tell, may_tell_of}
 use Rattle.plain_model.specs.Scans.{Lists}
 use Rattle.plain_model.specs.HashSteps.{Fields, IsField, TellsFields, value_or_null}
-use Rattle.plain_model.proofs.Containing.{contains_first, contains_later, contains_cases}
+use Rattle.plain_world.proofs.Containing.{contains_first, contains_later, contains_cases}
 use Rattle.cmd_hashes.specs.declared.listing.Told.{Told}
 use Rattle.cmd_hashes.specs.declared.listing.Told.TheVariants.{OnlyFields, OnlyValues, Both}
 use Rattle.cmd_hashes.specs.Found.{FoundHash, FoundOther}

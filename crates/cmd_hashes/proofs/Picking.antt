@@ -18,11 +18,11 @@ use Rattle.plain_world.specs.Parts.{IsReply}
 use Rattle.plain_world.specs.declared.refusal.Refusal.TheVariants.{WrongType}
 use Rattle.plain_world.specs.declared.reply.Part.{Part}
 use Rattle.plain_world.specs.declared.reply.Part.TheVariants.{Array, Refused}
-use Rattle.plain_model.specs.Picks.{ArePicked, picks_told}
+use Rattle.plain_world.specs.Picks.{ArePicked, picks_told}
 use Rattle.plain_model.specs.OfType.{hash_in, may_tell, may_tell_of}
 use Rattle.plain_model.specs.HashSteps.{Fields, PicksFields, fields_listed, may_hashes}
 use Rattle.plain_model.specs.declared.hash_command.HashCommand.TheVariants as hashes
-use Rattle.plain_model.proofs.Containing.{contains_first, contains_later}
+use Rattle.plain_world.proofs.Containing.{contains_first, contains_later}
 use Rattle.keyspace.specs.Pages.{field_of}
 use Rattle.cmd_hashes.specs.declared.listing.Told.{Told}
 use Rattle.cmd_hashes.specs.Found.{FoundHash, FoundOther}

@@ -23,7 +23,7 @@ use Rattle.plain_model.specs.OfType.{set_in, may_tell, may_tell_of}
 use Rattle.plain_model.specs.Scans.{Lists, listed}
 use Rattle.plain_model.specs.SetSteps.{Members, IsMember, AreMembers, may_sets}
 use Rattle.plain_model.specs.declared.set_command.SetCommand.TheVariants as sets
-use Rattle.plain_model.proofs.Containing.{contains_first, contains_later, contains_cases}
+use Rattle.plain_world.proofs.Containing.{contains_first, contains_later, contains_cases}
 use Rattle.cmd_sets.specs.Found.{FoundSet, FoundOther}
 
 -- ---- a list in which no string stands twice lists the members of its set

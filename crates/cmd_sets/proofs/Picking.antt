@@ -15,7 +15,7 @@ use Rattle.plain_world.specs.Worlds.{World, Entry, look}
 use Rattle.plain_world.specs.declared.refusal.Refusal.TheVariants.{WrongType}
 use Rattle.plain_world.specs.declared.reply.Part.{Part}
 use Rattle.plain_world.specs.declared.reply.Part.TheVariants.{Refused}
-use Rattle.plain_model.specs.Picks.{ArePicked, picks_told, as_number}
+use Rattle.plain_world.specs.Picks.{ArePicked, picks_told, as_number}
 use Rattle.plain_model.specs.Scans.{listed}
 use Rattle.plain_model.specs.Outcomes.{IsRefusal}
 use Rattle.plain_model.specs.OfType.{set_in, may_tell, may_tell_of, may_do}

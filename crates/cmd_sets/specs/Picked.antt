@@ -2,7 +2,7 @@
 use Rattle.std.specs.Prelude.{◌≡◌, ◌<◌, ℕ, ℤ, List, Option}
 use Rattle.std.specs.FinMap.{len}
 use Rattle.object_codec.specs.declared.form.Form.{Form}
-use Rattle.plain_model.specs.Picks.{ArePicked}
+use Rattle.plain_world.specs.Picks.{ArePicked}
 use Rattle.plain_model.specs.SetSteps.{Members, has, drop_all}
 
 -- these were picked, and taken out of the set; what is left keeps the form

@@ -10,7 +10,7 @@ ghost use Rattle.set_object.specs.Members.{IsMembers, KeepsSettings, members, re
 ghost use Rattle.keyspace.specs.Insides.{SettledBelow, SettlesAt};
 ghost use Rattle.set_object.specs.Items.{member_at};
 ghost use Rattle.picking.specs.Elements.{elements_of};
-ghost use Rattle.plain_model.specs.Picks.{picks_told, as_number};
+ghost use Rattle.plain_world.specs.Picks.{picks_told, as_number};
 ghost use Rattle.plain_model.specs.Scans as scans;
 ghost use Rattle.plain_model.specs.SetSteps.{TellsMembers, drop_all, may_sets};
 ghost use Rattle.plain_model.specs.declared.set_command.SetCommand.TheVariants as sets;

@@ -18,11 +18,11 @@ use Rattle.plain_world.specs.Worlds.{World, Entry, look}
 use Rattle.plain_world.specs.declared.refusal.Refusal.TheVariants.{WrongType}
 use Rattle.plain_world.specs.declared.reply.Part.{Part}
 use Rattle.plain_world.specs.declared.reply.Part.TheVariants.{Array, Bulk, Refused}
-use Rattle.plain_model.specs.Picks.{ArePicked, picks_told}
+use Rattle.plain_world.specs.Picks.{ArePicked, picks_told}
 use Rattle.plain_model.specs.OfType.{zset_in, may_tell, may_tell_of}
 use Rattle.plain_model.specs.ZsetSteps.{Scores, Scored, PicksMembers, listed, members_listed, score_or_null, may_zsets}
 use Rattle.plain_model.specs.declared.zset_command.ZsetCommand.TheVariants as zsets
-use Rattle.plain_model.proofs.Containing.{contains_first, contains_later}
+use Rattle.plain_world.proofs.Containing.{contains_first, contains_later}
 use Rattle.keyspace.specs.Pages.{member_of}
 use Rattle.cmd_zsets.specs.Found.{FoundZset, FoundOther}
 use Rattle.cmd_zsets.specs.Spans.{told}

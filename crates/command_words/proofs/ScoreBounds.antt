@@ -2,7 +2,7 @@
 use Rattle.std.proofs.Common.{◌≡◌, ◌≢◌, ℕ, List, [], ◌∷◌, get_or, refl, ap}
 use Rattle.std.specs.Prelude.{Ok, if◌then◌else◌}
 use Rattle.std.proofs.lemmas.Bool.{ne_eqb}
-use Rattle.plain_model.specs.ScoreTexts.{score_of}
+use Rattle.plain_world.specs.ScoreTexts.{score_of}
 use Rattle.plain_model.specs.Shapes.{and_then, score, score_bound}
 use Rattle.plain_model.specs.declared.zset_command.ScoreBound.TheVariants.{Excluding}
 use Rattle.command_words.specs.Readings.{included}

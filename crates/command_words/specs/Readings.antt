@@ -20,7 +20,7 @@ use Rattle.plain_model.specs.declared.command.StringCommand.TheVariants as strin
 use Rattle.plain_model.specs.declared.keys.KeyCommand.TheVariants as keys
 use Rattle.plain_model.specs.KeyWords.{expire_options, no_expire_options, clash}
 use Rattle.plain_model.specs.declared.keys.ExpireOptions.{ExpireOptions}
-use Rattle.plain_model.specs.ScoreTexts.{score_of}
+use Rattle.plain_world.specs.ScoreTexts.{score_of}
 use Rattle.plain_model.specs.declared.zset_command.ScoreBound.{ScoreBound}
 use Rattle.plain_model.specs.declared.zset_command.ScoreBound.TheVariants.{Including}
 use Rattle.plain_model.specs.declared.zset_command.Limit.{Limit}

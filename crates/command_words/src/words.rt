@@ -3,7 +3,7 @@
 ghost use Rattle.std.specs.Prelude.{◌≡◌, ◌<◌, length, bytes_eq, Err};
 ghost use Rattle.plain_world.specs.Words.{in_lower_case};
 ghost use Rattle.plain_model.specs.Shapes.{Whole, Offset, Span, Database, Count, Steps, Cursor, Amount, Rank, OnSide, AtEnd, Score, Bound, Picks, Keys, Aggregated, score, score_bound, told};
-ghost use Rattle.plain_model.specs.ScoreTexts.{score_of};
+ghost use Rattle.plain_world.specs.ScoreTexts.{score_of};
 ghost use Rattle.command_words.specs.Readings.{Tells, word_at, included};
 
 use crate::ReadingFault;

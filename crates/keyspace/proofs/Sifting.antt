@@ -10,7 +10,7 @@ use Rattle.std.proofs.lemmas.Slice.Eq.{bytes_eq-Decides}
 use Rattle.rev_cursor.specs.Span.{times}
 use Rattle.rehash_dict.proofs.Counts.{times_here, times_past}
 use Rattle.plain_model.specs.Scans.{Lists}
-use Rattle.plain_model.proofs.Containing.{contains_first, contains_later, contains_cases}
+use Rattle.plain_world.proofs.Containing.{contains_first, contains_later, contains_cases}
 use Rattle.keyspace.specs.Sifted.{Sifted, end, keeps, drops, AddsWords, Adds, SiftsWords}
 
 counted : (key name : List ℕ) (names : List (List ℕ)) → bytes_eq key name ≡ true → count_by (bytes_eq key) (name ∷ names) ≡ suc (count_by (bytes_eq key) names)

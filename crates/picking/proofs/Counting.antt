@@ -9,7 +9,7 @@ use Rattle.std.proofs.lemmas.Bool.{cond-true, cond-false, cases_Bool}
 use Rattle.std.proofs.lemmas.Slice.Eq.{bytes_eq-Decides}
 use Rattle.blocks.proofs.Sums.{count_cons}
 use Rattle.set_object.proofs.Sets.{tied, tied_same, tied_other_in_maps, two_ways}
-use Rattle.plain_model.proofs.Containing.{contains_first, contains_later, contains_cases}
+use Rattle.plain_world.proofs.Containing.{contains_first, contains_later, contains_cases}
 
 -- no string stands twice in the list
 abbrev pub AreOnce : List (List ℕ) → Type 0

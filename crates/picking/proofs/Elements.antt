@@ -8,8 +8,8 @@ use Rattle.std.specs.FinMap.{FinMap, get, len}
 use Rattle.std.proofs.lemmas.Bool.{cond-true, cond-false, eq-eqb, ne_eqb, cases_eq}
 use Rattle.std.proofs.lemmas.List.{length-map}
 use Rattle.blocks.specs.Blocks.{Blocks}
-use Rattle.plain_model.specs.Picks as model
-use Rattle.plain_model.proofs.Containing.{contains_first, contains_later, contains_cases}
+use Rattle.plain_world.specs.Picks as model
+use Rattle.plain_world.proofs.Containing.{contains_first, contains_later, contains_cases}
 use Rattle.picking.specs.Picks.{AreApart, ArePicks, IsPick}
 use Rattle.picking.specs.Elements.{or_empty, elements_of, AreArranged}
 use Rattle.picking.proofs.Counting.{AreOnce, nothing_in, counted_once, no_key, keys_at_least, keys_at_most}

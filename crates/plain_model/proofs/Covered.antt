@@ -14,7 +14,7 @@ use Rattle.plain_world.specs.declared.refusal.Refusal.{Refusal}
 use Rattle.plain_world.specs.declared.refusal.Refusal.TheVariants.{WrongType}
 use Rattle.plain_world.specs.declared.reply.Part.{Part}
 use Rattle.plain_world.specs.declared.reply.Part.TheVariants.{Bulk, Refused}
-use Rattle.plain_model.proofs.Containing.{contains_first, contains_later, contains_cases}
+use Rattle.plain_world.proofs.Containing.{contains_first, contains_later, contains_cases}
 use Rattle.plain_model.specs.Meant.{meant}
 use Rattle.plain_model.specs.Steps.{may, step}
 use Rattle.plain_model.specs.Runs.{Turn, run}

@@ -14,7 +14,7 @@ use Rattle.plain_model.specs.SetSteps.{Members, has, drop_all, keep_set, PopsMem
 use Rattle.plain_model.specs.SetSteps as sets
 use Rattle.plain_model.specs.HashSteps.{may_hashes}
 use Rattle.plain_model.specs.ZsetSteps.{Scores, zsets_at, weights_of, store_scores, StoresScores, may_zsets}
-use Rattle.plain_model.specs.Picks.{ArePicked, picks_told, as_number}
+use Rattle.plain_world.specs.Picks.{ArePicked, picks_told, as_number}
 use Rattle.plain_model.specs.Scans.{listed}
 use Rattle.plain_model.proofs.Bulks.{bulks_same}
 use Rattle.plain_model.proofs.Led.{Leads, led}

@@ -1,6 +1,4 @@
 pub mod Bulks
-pub mod ScoreTexts
-pub mod Containing
 pub mod Led
 pub mod Covered
 pub mod FixedRuns

@@ -9,7 +9,7 @@ use Rattle.plain_world.specs.Worlds.{World, HashOf, look, remove}
 use Rattle.plain_model.specs.Outcomes.{Outcome, tells, refused, leaves, IsOutcome}
 use Rattle.plain_model.specs.OfType.{hash_in, on_type, may_tell, keep}
 use Rattle.plain_model.specs.Scans.{Lists, listed, listed_with, IsHeldPage}
-use Rattle.plain_model.specs.Picks.{TellsPicks}
+use Rattle.plain_world.specs.Picks.{TellsPicks}
 use Rattle.plain_model.specs.ListSteps.{tells_number}
 use Rattle.plain_model.specs.declared.hash_command.HashCommand.{HashCommand}
 use Rattle.plain_model.specs.declared.hash_command.HashCommand.TheVariants as hashes

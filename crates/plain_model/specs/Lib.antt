@@ -1,4 +1,3 @@
-pub mod ScoreTexts
 pub mod IdTexts
 pub mod Shapes
 pub mod StringWords
@@ -14,7 +13,6 @@ pub mod Deadlines
 pub mod StringSteps
 pub mod Types
 pub mod Scans
-pub mod Picks
 pub mod KeySteps
 pub mod OfType
 pub mod ListSteps

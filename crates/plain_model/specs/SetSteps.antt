@@ -10,7 +10,7 @@ use Rattle.plain_model.specs.OfType.{set_in, on_type, may_tell, may_tell_of, may
 use Rattle.plain_model.specs.ListSteps.{tells_number}
 use Rattle.plain_model.specs.HashSteps.{one_if}
 use Rattle.plain_model.specs.Scans.{Lists, listed, IsHeldPage}
-use Rattle.plain_model.specs.Picks.{ArePicked, picks_told, TellsPicks, as_number}
+use Rattle.plain_world.specs.Picks.{ArePicked, picks_told, TellsPicks, as_number}
 use Rattle.plain_model.specs.declared.set_command.SetCommand.{SetCommand}
 use Rattle.plain_model.specs.declared.set_command.SetCommand.TheVariants as sets
 use Rattle.plain_model.specs.declared.set_command.SetJoin.{SetJoin}

@@ -14,7 +14,7 @@ use Rattle.plain_model.specs.declared.list_command.ListEnd.{ListEnd}
 use Rattle.plain_model.specs.declared.list_command.ListEnd.TheVariants.{Head, Tail}
 use Rattle.int_text.specs.declared.score.ScoreFault.{ScoreFault}
 use Rattle.int_text.specs.declared.score.ScoreFault.TheVariants.{Malformed, NotWhole, TooLarge}
-use Rattle.plain_model.specs.ScoreTexts.{score_of}
+use Rattle.plain_world.specs.ScoreTexts.{score_of}
 use Rattle.stream_groups.specs.Groups.{Id}
 use Rattle.plain_model.specs.IdTexts.{entry_id, id_or, new_id, range_end, first_in, last_in}
 use Rattle.plain_model.specs.declared.stream_command.NewId.{NewId}

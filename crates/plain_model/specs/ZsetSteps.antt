@@ -13,7 +13,7 @@ use Rattle.plain_model.specs.Outcomes.{Outcome, tells, refused, leaves, IsOutcom
 use Rattle.plain_model.specs.OfType.{zset_in, on_type, may_tell, may_do_of, sources, or_no_sources, keep}
 use Rattle.plain_model.specs.Scans.{listed_with, IsHeldPage}
 use Rattle.plain_model.specs.Scans as scans
-use Rattle.plain_model.specs.Picks.{TellsPicks}
+use Rattle.plain_world.specs.Picks.{TellsPicks}
 use Rattle.plain_model.specs.ListSteps.{tells_number, list_range}
 use Rattle.plain_model.specs.declared.zset_command.ZsetCommand.{ZsetCommand}
 use Rattle.plain_model.specs.declared.zset_command.ZsetCommand.TheVariants as zsets

@@ -1,8 +1,10 @@
 pub mod Lines
 pub mod Words
+pub mod ScoreTexts
 pub mod Parts
 pub mod Refusals
 pub mod Spelling
+pub mod Picks
 pub mod Streams
 pub mod Worlds
 pub mod Laws

@@ -10,7 +10,7 @@ use Rattle.intset.specs.Intset.{IsIntset, width_of, count_of, numbers_of}
 use Rattle.listpack.specs.declared.fault.PackFault.{PackFault}
 use Rattle.listpack.specs.Pack.{Packs, IsFault}
 use Rattle.listpack.proofs.Laws.{exactly_one}
-use Rattle.plain_model.specs.ScoreTexts.{score_of}
+use Rattle.plain_world.specs.ScoreTexts.{score_of}
 use Rattle.plain_world.specs.Worlds.{Value, ListOf, SetOf, HashOf, SortedOf}
 use Rattle.rdb_grammar.specs.declared.fault.LoadKind.{LoadKind}
 use Rattle.rdb_grammar.specs.declared.fault.LoadKind.TheVariants as kinds

@@ -3,79 +3,57 @@
 ghost use Rattle.std.specs.Prelude.{◌≡◌};
 ghost use Rattle.rdb_grammar.specs.Numbers.{number_of};
 
+use std::fmt::{self, Display, Formatter};
 use thiserror::Error;
 
 /// Why a file is refused, numbered from L1 on. L20 is not used.
-#[derive(Clone, Copy, Debug, PartialEq, Eq, Error)]
+#[derive(Clone, Copy, Debug, PartialEq, Eq)]
 pub enum LoadKind {
     /// The first bytes, up to five, do not begin `REDIS`.
-    #[error("no RDB file")]
     NotRdb = 1,
     /// The version is none that is taken.
-    #[error("another version")]
     Version = 2,
     /// A part needs a byte past the end.
-    #[error("the file ends within a part")]
     Ended = 3,
     /// No length stands where one is due.
-    #[error("no length")]
     Length = 4,
     /// A string is compressed.
-    #[error("a compressed string")]
     Compressed = 5,
     /// A string begins with a byte that begins none.
-    #[error("a string of an unknown form")]
     SpecialString = 6,
     /// A type or opcode that no table names.
-    #[error("an unknown type of value")]
     Kind = 7,
     /// An old type that is not taken.
-    #[error("an old type of value")]
     OldKind = 8,
     /// A module's value or data.
-    #[error("the data of a module")]
     Module = 9,
     /// Functions.
-    #[error("functions")]
     Functions = 10,
     /// The number of a database is not taken.
-    #[error("no database of this number")]
     Database = 11,
     /// The key was kept before in the same database.
-    #[error("a key stands twice")]
     DuplicateKey = 12,
     /// A member or field stands twice.
-    #[error("a member or field stands twice")]
     DuplicateElement = 13,
     /// A payload is no listpack, or is odd where pairs are due.
-    #[error("no listpack of this kind")]
     Listpack = 14,
     /// A payload is no intset.
-    #[error("no intset")]
     Intset = 15,
     /// The node of a list has an unknown container.
-    #[error("an unknown container of a list node")]
     ListNode = 16,
     /// A score text is no score.
-    #[error("no score")]
     ScoreForm = 17,
     /// A score is not whole, or its magnitude is above 2^53.
-    #[error("a score out of range")]
     ScoreRange = 18,
     /// A stream breaks its shape.
-    #[error("a stream that breaks its shape")]
     StreamShape = 19,
     /// A deadline lies below 0.
-    #[error("a deadline below 0")]
     Deadline = 21,
     /// The checksum is not that of the bytes before it.
-    #[error("a wrong checksum")]
     Checksum = 22,
     /// A string is longer than 512 MB.
-    #[error("a string that is too long")]
     TooLong = 23,
     /// A name or a pending id stands twice in the groups of a stream, or its consumers do not own each pending id once.
-    #[error("a group that breaks its shape")]
     Group = 24,
 }
 
@@ -85,6 +63,41 @@ impl LoadKind {
         ensures { result ≡ number_of self }
     {
         self as u8
+    }
+
+    // What is wrong there, in words.
+    fn text(self) -> &'static str {
+        match self {
+            LoadKind::NotRdb => "no RDB file",
+            LoadKind::Version => "another version",
+            LoadKind::Ended => "the file ends within a part",
+            LoadKind::Length => "no length",
+            LoadKind::Compressed => "a compressed string",
+            LoadKind::SpecialString => "a string of an unknown form",
+            LoadKind::Kind => "an unknown type of value",
+            LoadKind::OldKind => "an old type of value",
+            LoadKind::Module => "the data of a module",
+            LoadKind::Functions => "functions",
+            LoadKind::Database => "no database of this number",
+            LoadKind::DuplicateKey => "a key stands twice",
+            LoadKind::DuplicateElement => "a member or field stands twice",
+            LoadKind::Listpack => "no listpack of this kind",
+            LoadKind::Intset => "no intset",
+            LoadKind::ListNode => "an unknown container of a list node",
+            LoadKind::ScoreForm => "no score",
+            LoadKind::ScoreRange => "a score out of range",
+            LoadKind::StreamShape => "a stream that breaks its shape",
+            LoadKind::Deadline => "a deadline below 0",
+            LoadKind::Checksum => "a wrong checksum",
+            LoadKind::TooLong => "a string that is too long",
+            LoadKind::Group => "a group that breaks its shape",
+        }
+    }
+}
+
+impl Display for LoadKind {
+    fn fmt<W: fmt::Write>(&self, f: &mut Formatter<W>) -> fmt::Result {
+        f.write_str(self.text())
     }
 }
 

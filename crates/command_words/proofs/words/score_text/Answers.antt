@@ -1,7 +1,7 @@
 use Rattle.std.proofs.Common.{◌∙◌, w64, Ok, Err, ap, rules, SFits}
 use Rattle.std.proofs.lemmas.Int.{to_z-of_z}
 use Rattle.plain_model.specs.Shapes.{score}
-use Rattle.plain_model.proofs.ScoreTexts.{score_told}
+use Rattle.plain_world.proofs.ScoreTexts.{score_told}
 use Rattle.command_words.proofs.words.score_text.Goals as goal
 
 pub returns-in-Ok : goal.returns-in-Ok

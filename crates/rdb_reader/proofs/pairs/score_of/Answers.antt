@@ -1,6 +1,6 @@
 use Rattle.std.proofs.Common.{w64, SFits, Ok, Err, sym, ap, ◌∙◌, rules}
 use Rattle.std.proofs.lemmas.Int.{to_z-of_z}
-use Rattle.plain_model.proofs.ScoreTexts.{score_told}
+use Rattle.plain_world.proofs.ScoreTexts.{score_told}
 use Rattle.rdb_grammar.specs.Payloads.{score_or, score_in}
 use Rattle.rdb_reader.proofs.pairs.score_of.Goals as goal
 

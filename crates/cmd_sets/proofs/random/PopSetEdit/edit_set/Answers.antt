@@ -5,7 +5,7 @@ use Rattle.blocks.specs.Blocks.{Served}
 use Rattle.set_object.specs.Members.{IsMembers, members}
 use Rattle.set_object.specs.Items.{member_at}
 use Rattle.picking.specs.Elements.{elements_of}
-use Rattle.plain_model.specs.Picks.{ArePicked, as_number}
+use Rattle.plain_world.specs.Picks.{ArePicked, as_number}
 use Rattle.plain_model.specs.SetSteps.{has, drop_all}
 use Rattle.cmd_sets.proofs.Picking.{members_picked, as_many}
 use Rattle.cmd_sets.proofs.random.PopSetEdit.edit_set.Goals as goal

@@ -1,7 +1,0 @@
-use Rattle.std.specs.Prelude.{IfSome}
-use Rattle.blocks.specs.Plain.{plain_blocks}
-use Rattle.hash_object.specs.Items.{IsCursor}
-use Rattle.collection_rows.proofs.hashes.held.walked.Given as goal
-
-abbrev pub invariant-loop : goal.invariant-loop
-invariant-loop l = IfSome l.next (λ cursor. IsCursor (plain_blocks l.store.plain) l.hash cursor)
