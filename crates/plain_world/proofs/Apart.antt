@@ -53,7 +53,8 @@ line_plain (b ∷ l) h = (h.0.0, line_plain l h.1)
 abbrev all_refusals : List Refusal
 all_refusals = refusals.UnknownCommand ∷ refusals.WrongNumberOfArguments ∷ refusals.Syntax ∷ refusals.WrongType ∷ refusals.NotAnInteger ∷ refusals.Overflow ∷ refusals.NotAScore
     ∷ refusals.NotAWholeScore ∷ refusals.NoSuchKey ∷ refusals.IndexOutOfRange ∷ refusals.InvalidExpireTime ∷ refusals.InvalidCursor ∷ refusals.InvalidStreamId ∷ refusals.StreamIdNotGreater
-    ∷ refusals.NoGreaterStreamId ∷ refusals.DatabaseOutOfRange ∷ refusals.ValueOutOfRange ∷ refusals.SameSourceAndDestination ∷ refusals.GroupExists ∷ refusals.NoSuchGroup ∷ []
+    ∷ refusals.NoGreaterStreamId ∷ refusals.DatabaseOutOfRange ∷ refusals.ValueOutOfRange ∷ refusals.SameSourceAndDestination ∷ refusals.GroupExists ∷ refusals.NoSuchGroup
+    ∷ refusals.NestedMulti ∷ refusals.ExecAbort ∷ refusals.ExecWithoutMulti ∷ refusals.DiscardWithoutMulti ∷ refusals.WatchInsideMulti ∷ []
 
 -- the first refusal with this text behind its mark
 abbrev first_with : List ℕ → List Refusal → Refusal
@@ -87,6 +88,11 @@ computed refusals.ValueOutOfRange = record { marked = refl; plain = refl; tells 
 computed refusals.SameSourceAndDestination = record { marked = refl; plain = refl; tells = refl }
 computed refusals.GroupExists = record { marked = refl; plain = refl; tells = refl }
 computed refusals.NoSuchGroup = record { marked = refl; plain = refl; tells = refl }
+computed refusals.NestedMulti = record { marked = refl; plain = refl; tells = refl }
+computed refusals.ExecAbort = record { marked = refl; plain = refl; tells = refl }
+computed refusals.ExecWithoutMulti = record { marked = refl; plain = refl; tells = refl }
+computed refusals.DiscardWithoutMulti = record { marked = refl; plain = refl; tells = refl }
+computed refusals.WatchInsideMulti = record { marked = refl; plain = refl; tells = refl }
 
 part_plain : (p : Part) → IsPart p → Plain (text p)
 part_plain (Simple line) h = line_plain line h

@@ -1,5 +1,5 @@
 -- The words of a request (RESP2, "Sending commands to a Redis server").
-use Rattle.std.specs.Prelude.{ℕ, ◌<◌, ◌≤◌, List, map, length, Bool, bytes_eq}
+use Rattle.std.specs.Prelude.{ℕ, ◌<◌, ◌≤◌, List, map, length}
 use Rattle.std.specs.List.{AllByRecursion}
 use Rattle.std.specs.Char.{to_ascii_lowercase}
 

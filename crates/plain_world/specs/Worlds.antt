@@ -1,5 +1,5 @@
 -- What a server holds (Redis command reference, "Data types", "SELECT", "EXPIRE").
-use Rattle.std.specs.Prelude.{◌≡◌, ◌==◌, ℕ, ◌-◌, ◌^◌, List, Option, None, Some, Bool, true, false, nat_le, if◌then◌else◌, ℤ}
+use Rattle.std.specs.Prelude.{◌==◌, ℕ, ◌-◌, ◌^◌, List, Option, None, Some, Bool, true, false, nat_le, if◌then◌else◌, ℤ}
 use Rattle.std.specs.FinMap.{FinMap, empty, get, insert, retain_keys}
 use Rattle.std.specs.FinMap as map
 use Rattle.std.specs.Cmp.Lexicographic.{slice_cmp}

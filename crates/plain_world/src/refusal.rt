@@ -23,4 +23,9 @@ pub enum Refusal {
     SameSourceAndDestination,
     GroupExists,
     NoSuchGroup,
+    NestedMulti,
+    ExecAbort,
+    ExecWithoutMulti,
+    DiscardWithoutMulti,
+    WatchInsideMulti,
 }

@@ -33,6 +33,13 @@ impl Line {
         Line { text: b"OK" }
     }
 
+    /// `QUEUED`, of a command that waits for EXEC.
+    pub fn queued() -> Line
+        ensures { result ≡ codes "QUEUED" }
+    {
+        Line { text: b"QUEUED" }
+    }
+
     /// `PONG`.
     pub fn pong() -> Line
         ensures { result ≡ codes "PONG" }
@@ -149,6 +156,15 @@ impl Parts {
     {
         self.parts.push(part)?;
         Ok(())
+    }
+
+    /// Adds a whole reply behind the others, as one of those that follow an array's head. `Memory` leaves the parts.
+    pub fn append(&mut self, reply: Reply) -> Result<(), AllocError>
+        ensures ok { OnOk result (self.new ≡ self.old ++ reply) }
+        ensures err { OnErr result (self.new ≡ self.old) }
+    {
+        let mut parts = reply.parts;
+        self.parts.append(&mut parts)
     }
 
     /// The reply that they are.

@@ -51,6 +51,11 @@ fn refusal_line(refusal: Refusal) -> &'static [u8]
         Refusal::SameSourceAndDestination => b"-ERR source and destination are the same\r\n",
         Refusal::GroupExists => b"-BUSYGROUP consumer group name already exists\r\n",
         Refusal::NoSuchGroup => b"-NOGROUP no such key or consumer group\r\n",
+        Refusal::NestedMulti => b"-ERR MULTI calls can not be nested\r\n",
+        Refusal::ExecAbort => b"-EXECABORT transaction discarded because of previous errors\r\n",
+        Refusal::ExecWithoutMulti => b"-ERR EXEC without MULTI\r\n",
+        Refusal::DiscardWithoutMulti => b"-ERR DISCARD without MULTI\r\n",
+        Refusal::WatchInsideMulti => b"-ERR WATCH inside MULTI is not allowed\r\n",
     }
 }
 
