@@ -157,7 +157,7 @@ module _ {first mid : ClassHeap} {at : BlockRef} {n len : ℕ} {put : Entry} {ea
     entries = with_item mid.entries n (Large zeros);
     directory = early;
     margins = mid.margins;
-    leftover = mid.leftover;
+    leftovers = mid.leftovers;
     sound =
         sound_alone mid.sound n zeros early h.vacant.within h.vacant.vacant h.bound h.labels;
   }
@@ -170,7 +170,7 @@ module _ {first mid : ClassHeap} {at : BlockRef} {n len : ℕ} {put : Entry} {ea
     entries = with_item mid.entries n (Large h.grown);
     directory = early;
     margins = mid.margins;
-    leftover = mid.leftover;
+    leftovers = mid.leftovers;
     sound =
         sound_alone mid.sound n h.grown early h.vacant.within h.vacant.vacant h.bound h.labels;
   }

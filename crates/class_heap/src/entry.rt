@@ -5,7 +5,7 @@ ghost use Rattle.class_heap.specs.Placing.{returned};
 ghost use Rattle.class_heap.specs.declared.entry.Entry.TheVariants.{Vacant};
 
 use crate::class::slots_in;
-use crate::slab::{Leftover, Slab};
+use crate::slab::{Leftovers, Slab};
 use blocks::Memory;
 use std::mem::replace;
 
@@ -158,19 +158,17 @@ impl Entry {
         }
     }
 
-    /// Leaves nothing here. The memory of a slab becomes what is left over, unless there is some.
-    fn vacate(&mut self, leftover: &mut Option<Leftover>)
+    /// Leaves nothing here. The memory of a slab is left over.
+    fn vacate(&mut self, leftovers: &mut Leftovers)
         ensures { self.new ≡ Vacant }
     {
         if let Entry::Classed(slab) = replace(self, Entry::Vacant) {
-            if leftover.is_none() {
-                *leftover = Some(slab.into_leftover());
-            }
+            leftovers.keep(slab.into_leftover());
         }
     }
 
     /// Ends a block. A large one goes, and so does a slab that isn't kept with its last.
-    pub(crate) fn give_back(&mut self, slot: u32, leftover: &mut Option<Leftover>)
+    pub(crate) fn give_back(&mut self, slot: u32, leftovers: &mut Leftovers)
         requires { IsSome (block_in self.old slot) }
         ensures ended { (other : ℕ) → block_in self.new other ≡ with_slot (block_in self.old) slot None other }
         ensures left { use_in self.new ≡ returned (use_in self.old) }
@@ -179,7 +177,7 @@ impl Entry {
             Entry::Classed(slab) => {
                 slab.give_back(slot as usize);
                 if slab.used == 0 && !slab.kept {
-                    self.vacate(leftover);
+                    self.vacate(leftovers);
                 }
             }
             _ => *self = Entry::Vacant,
@@ -187,13 +185,13 @@ impl Entry {
     }
 
     /// Ends the keeping of a slab, which goes where it has no block.
-    pub(crate) fn release(&mut self, leftover: &mut Option<Leftover>)
+    pub(crate) fn release(&mut self, leftovers: &mut Leftovers)
         ensures blocks { (slot : ℕ) → block_in self.new slot ≡ block_in self.old slot }
         ensures released { use_in self.new ≡ released (use_in self.old) }
     {
         if let Entry::Classed(slab) = self {
             if slab.used == 0 {
-                self.vacate(leftover);
+                self.vacate(leftovers);
             } else {
                 slab.kept = false;
             }

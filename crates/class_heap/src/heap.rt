@@ -10,7 +10,7 @@ use crate::class::{class_of, slots_in};
 use crate::directory::Directory;
 use crate::entry::{Entry, VACANT};
 use crate::marks::{label_all, mark_all, release_all, slabs_of, used_of};
-use crate::slab::{Leftover, Slab, WAITING};
+use crate::slab::{Leftovers, Slab, WAITING};
 use blocks::{BlockRef, BlockStore, CLASS_SIZES, ClassUse, Memory};
 use std::alloc::Global;
 use std::mem::replace;
@@ -21,7 +21,7 @@ use std::mem::replace;
 /// number that is free. While a pass is open, only kept slabs take blocks, and no more than leave room for all blocks
 /// that want to move: so a move takes no memory. Placing and giving back take time in the logarithm of the number of
 /// slabs, reading takes none. Beside its slabs the heap keeps two bytes a slot and some fifteen words a number, and the
-/// memory of one slab that went, so that the next one has some at once.
+/// memory of at most 24 slabs that went, so that the next ones have some at once.
 ///
 /// A block that stands alone is lengthened in its memory, which at least doubles where it is full: so many short steps
 /// take time linear in the length. A block in a slab is copied.
@@ -34,8 +34,8 @@ pub struct ClassHeap {
     directory: Directory,
     // in a pass, by how many the free places of a class's kept slabs are more than the blocks in its others
     margins: [usize; 36],
-    // memory for the next slab that is made
-    leftover: Option<Leftover>,
+    // memory for the next slabs that are made
+    leftovers: Leftovers,
     ghost sound: { IsHeap passing entries.items directory margins },
 }
 
@@ -67,7 +67,7 @@ impl ClassHeap {
             entries: Vec::new(alloc),
             directory: Directory::new(alloc),
             margins: [0; 36],
-            leftover: None,
+            leftovers: Leftovers::new(alloc),
         }
     }
 
@@ -199,7 +199,7 @@ impl ClassHeap {
             self.alloc,
             class,
             self.passing,
-            &mut self.leftover,
+            &mut self.leftovers,
         )?);
         let slab = self.vacant()?;
         let slot = entry.place(len);
@@ -250,7 +250,7 @@ impl ClassHeap {
         let slot = source.carry(at.slot, target);
         let labels = target.labels(self.passing);
         self.directory.set(slab, labels);
-        source.give_back(at.slot, &mut self.leftover);
+        source.give_back(at.slot, &mut self.leftovers);
         let labels = source.labels(self.passing);
         self.directory.set(at.slab, labels);
         self.entries[at.slab] = source;
@@ -293,7 +293,7 @@ impl BlockStore for ClassHeap {
     fn give_back(&mut self, at: BlockRef) {
         let entry = &mut self.entries[at.slab];
         let class = entry.class();
-        entry.give_back(at.slot, &mut self.leftover);
+        entry.give_back(at.slot, &mut self.leftovers);
         let labels = entry.labels(self.passing);
         self.directory.set(at.slab, labels);
         if self.passing {
@@ -314,7 +314,7 @@ impl BlockStore for ClassHeap {
     }
 
     fn begin_pass(&mut self) {
-        release_all(&mut self.entries, &mut self.directory, &mut self.leftover);
+        release_all(&mut self.entries, &mut self.directory, &mut self.leftovers);
         mark_all(&mut self.entries, &mut self.margins);
         label_all(&self.entries, &mut self.directory);
         self.passing = true;
@@ -336,7 +336,7 @@ impl BlockStore for ClassHeap {
     }
 
     fn end_pass(&mut self) {
-        release_all(&mut self.entries, &mut self.directory, &mut self.leftover);
+        release_all(&mut self.entries, &mut self.directory, &mut self.leftovers);
         self.passing = false;
     }
 

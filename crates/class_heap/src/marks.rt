@@ -26,7 +26,7 @@ ghost use Rattle.class_heap.specs.Marks.{holds_at_least, filled_in, all_marked, 
 use crate::class::slots_in;
 use crate::directory::Directory;
 use crate::entry::Entry;
-use crate::slab::Leftover;
+use crate::slab::Leftovers;
 
 /// How many slabs of the class there are.
 pub(crate) fn slabs_of(entries: &[Entry], class: usize) -> usize
@@ -171,7 +171,7 @@ pub(crate) fn mark_all(entries: &mut [Entry], margins: &mut [usize])
 pub(crate) fn release_all(
     entries: &mut [Entry],
     directory: &mut Directory,
-    leftover: &mut Option<Leftover>,
+    leftovers: &mut Leftovers,
 )
     requires { length entries.old ≡ directory.old.bound }
     ensures long { length entries.new ≡ length entries.old }
@@ -182,7 +182,7 @@ pub(crate) fn release_all(
 {
     'release: for number in 0..entries.len() {
         let entry = &mut entries[number];
-        entry.release(leftover);
+        entry.release(leftovers);
         let labels = entry.labels(false);
         directory.set(number, labels);
     }

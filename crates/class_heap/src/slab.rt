@@ -24,6 +24,10 @@ fn zeros(len: usize) -> &'static [u8]
     &ZEROS[..len]
 }
 
+/// How many regions are kept back at most, 1.5 MiB. A block that grows leaves a slab in most of the classes that it passes, and in a
+/// pass these stand until it ends.
+const MOST_LEFT: usize = 24;
+
 /// The memory of a slab that went, for the next one that is made: its bytes are what they were.
 #[derive(Drop)]
 pub(crate) struct Leftover {
@@ -31,17 +35,38 @@ pub(crate) struct Leftover {
     ghost long: { length mem ≡ 65536 },
 }
 
-impl Leftover {
-    /// The one that is left over, or else new memory.
-    fn take(leftover: &mut Option<Leftover>, alloc: Global) -> Result<Leftover, Memory>
-        ensures { leftover.new ≡ None }
-    {
-        match leftover.take() {
+/// The memory of slabs that went, at most 24 regions. Those that go beyond these go back to the allocator.
+#[derive(Drop)]
+pub(crate) struct Leftovers {
+    regions: Vec<Leftover>,
+    ghost few: { length regions.items ≤ 24 },
+}
+
+impl Leftovers {
+    /// None. It takes no memory.
+    pub(crate) fn new(alloc: Global) -> Leftovers {
+        Leftovers {
+            regions: Vec::new(alloc),
+        }
+    }
+
+    /// The region that was left last, or else new memory, and with it room to keep regions back.
+    fn take(&mut self, alloc: Global) -> Result<Leftover, Memory> {
+        match self.regions.pop() {
             Some(left) => Ok(left),
             None => {
+                self.regions.reserve(MOST_LEFT)?;
                 let mem = SlabMem::make(alloc)?;
                 Ok(Leftover { mem })
             }
+        }
+    }
+
+    /// Keeps a region back, unless there are as many as may be. It takes no memory.
+    pub(crate) fn keep(&mut self, left: Leftover) {
+        let count = self.regions.len();
+        if count < MOST_LEFT && count < self.regions.capacity() {
+            self.regions.push_reserved(left);
         }
     }
 }
@@ -63,12 +88,12 @@ pub(crate) struct Slab {
 impl Slab {
     ghost use Rattle.class_heap.specs.Slab.{block_at, bytes_in, slab_label, use_of, with_slot};
 
-    /// A slab without a block. It takes the memory that is left over, where there is some.
+    /// A slab without a block. It takes memory that is left over, where there is some.
     pub(crate) fn make(
         alloc: Global,
         class: usize,
         kept: bool,
-        leftover: &mut Option<Leftover>,
+        leftovers: &mut Leftovers,
     ) -> Result<Slab, Memory>
         requires { class < 36 }
         ensures empty { IfOk result (λ s. (slot : ℕ) → block_at s slot ≡ None) }
@@ -79,7 +104,7 @@ impl Slab {
         'fill: for slot in 0..count {
             words.push_reserved(FREE + 1 + slot as u16);
         }
-        let Leftover { mem } = Leftover::take(leftover, alloc)?;
+        let Leftover { mem } = leftovers.take(alloc)?;
         Ok(Slab {
             class,
             used: 0,

@@ -1,4 +1,4 @@
-use Rattle.std.proofs.Common.{◌≡◌, ◌∙◌, ◌<◌, ap, arith, cond, inl, inr, nat_lt, sym}
+use Rattle.std.proofs.Common.{◌∙◌, ap, arith, cond, inl, inr, nat_lt, sym}
 use Rattle.std.proofs.lemmas.Bool.{cases_eq, cond-true, cond-false, eq-eqb, ne_eqb}
 use Rattle.class_heap.specs.Directory.{labels_at}
 use Rattle.class_heap.proofs.directory.Directory.wider.Goals as goal
