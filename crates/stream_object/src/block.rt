@@ -28,35 +28,29 @@ pub(crate) fn node_in<B: BlockStore>(store: &B, at: BlockRef) -> &[u8]
     pack_of(store.bytes(at))
 }
 
-// How long a block may be that holds so many bytes, and as many as are expected, and takes no more memory: the size of the least
-// class that holds both. (Lists have nearly the same function, and it can't stand in the crate of blocks, on which all others stand.)
-fn room_for(len: usize, expected: usize) -> usize
+// How long a block may be that holds so many bytes and takes no more memory: the size of the least class that holds them. (Lists have nearly the same function, and it can't stand in the crate of blocks, on which all others stand.)
+fn room_for(len: usize) -> usize
     ensures { len ≤ result }
 {
-    let least = len.max(expected);
     for class in 0..CLASS_SIZES.len() {
         let size = CLASS_SIZES[class] as usize;
-        if least <= size {
+        if len <= size {
             return size;
         }
     }
-    least
+    len
 }
 
-/// Places a block for a node of these bytes, with room for as many as it is expected to get, and what its class gives it behind them.
+/// Places a block for a node of these bytes, of the least class that holds them, with the room that this gives it behind them.
 /// `Memory` leaves all as before.
-pub(crate) fn place_node<B: BlockStore>(
-    store: &mut B,
-    bytes: &[u8],
-    expected: usize,
-) -> Result<BlockRef, Memory>
+pub(crate) fn place_node<B: BlockStore>(store: &mut B, bytes: &[u8]) -> Result<BlockRef, Memory>
     ensures fresh { IfOk result (λ at. B.blocks store.old at ≡ None) }
     ensures put { IfOk result (λ at. IsPut (B.blocks store.old) (B.blocks store.new) at bytes.now) }
     ensures changes { IfOk result (λ at. Changes (B.blocks store.old) (B.blocks store.new) [] (at ∷ [])) }
     ensures served { Served B.step store.old store.new }
     ensures err_blocks { OnErr result (B.blocks store.new ≡ B.blocks store.old) }
 {
-    let at = store.place(room_for(bytes.len(), expected))?;
+    let at = store.place(room_for(bytes.len()))?;
     store.write(at, 0, bytes);
     Ok(at)
 }

@@ -29,7 +29,7 @@ impl Stream {
         'nodes: while let Some(spot) = near(store, &self.tree, at, true) {
             let Spot { key, bytes, .. } = spot;
             let bytes = Vec::from_slice(self.alloc, bytes)?;
-            put_last(store, tree, key, &bytes, 0)?;
+            put_last(store, tree, key, &bytes)?;
             match key.next() {
                 Some(next) => at = next,
                 None => return Ok(()),

@@ -9,7 +9,7 @@ ghost use Rattle.stream_object.specs.Tail.{IsKept};
 
 use crate::Memory;
 use crate::block::write_behind;
-use crate::node::{Growth, MOST_BYTES, begun, joined};
+use crate::node::{Growth, begun, joined};
 use crate::nodes::{put_last, replace};
 use crate::spot::Spot;
 use crate::tail::{Tail, last_node};
@@ -18,15 +18,13 @@ use rax_packed::PackedTree;
 use std::alloc::Global;
 use stream_node::{Id, Pairs};
 
-// An entry in a node of its own behind all others, in a block with room for as many bytes as the node is expected to get. Answers
-// that node.
+// An entry in a node of its own behind all others. Answers that node.
 fn put_alone<B: BlockStore>(
     alloc: Global,
     store: &mut B,
     tree: &mut PackedTree,
     id: Id,
     pairs: &Pairs,
-    expected: usize,
 ) -> Result<Tail, Memory>
     requires parts { HasParts (B.blocks store.old) tree.old (parts_of (B.blocks store.old) tree.old) }
     requires below { AreBelow id (parts_of (B.blocks store.old) tree.old) }
@@ -38,7 +36,7 @@ fn put_alone<B: BlockStore>(
     ensures err_blocks { OnErr result (B.blocks store.new ≡ B.blocks store.old) }
 {
     let pack = begun(alloc, id, pairs)?;
-    let at = put_last(store, tree, id, &pack, expected)?;
+    let at = put_last(store, tree, id, &pack)?;
     Ok(Tail { key: id, at })
 }
 
@@ -63,7 +61,7 @@ pub(crate) fn put_entry<B: BlockStore>(
     ensures err_blocks { OnErr result (B.blocks store.new ≡ B.blocks store.old) }
 {
     let Some(spot) = last_node(store, tree, kept) else {
-        return put_alone(alloc, store, tree, id, pairs, 0);
+        return put_alone(alloc, store, tree, id, pairs);
     };
     let Spot { key, at, bytes } = spot;
     let len = bytes.len();
@@ -77,7 +75,6 @@ pub(crate) fn put_entry<B: BlockStore>(
             let at = replace(store, tree, key, at, &pack)?;
             Ok(Tail { key, at })
         }
-        // the next node may well become as long
-        Growth::Full => put_alone(alloc, store, tree, id, pairs, len.min(MOST_BYTES)),
+        Growth::Full => put_alone(alloc, store, tree, id, pairs),
     }
 }

@@ -105,7 +105,7 @@ impl Stream {
         let Some(len) = self.len.checked_add(count) else {
             return Err(AllocError);
         };
-        let at = put_last(store, &mut self.tree, key, pack, 0)?;
+        let at = put_last(store, &mut self.tree, key, pack)?;
         self.tail = Some(Tail { key, at });
         self.len = len;
         self.last = last;

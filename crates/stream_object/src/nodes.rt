@@ -63,14 +63,13 @@ pub(crate) fn near<'a, B: BlockStore>(
     }
 }
 
-/// Places a node of these bytes behind all others, in a block with room for as many as it is expected to get, and answers the block.
+/// Places a node of these bytes behind all others, and answers its block.
 /// `Memory` leaves all as before.
 pub(crate) fn put_last<B: BlockStore>(
     store: &mut B,
     tree: &mut PackedTree,
     key: Id,
     bytes: &[u8],
-    expected: usize,
 ) -> Result<BlockRef, Memory>
     requires parts { HasParts (B.blocks store.old) tree.old (parts_of (B.blocks store.old) tree.old) }
     ensures placed { IfOk result (Comes (B.blocks store.old) (B.blocks store.new) tree.old tree.new key bytes.now) }
@@ -78,7 +77,7 @@ pub(crate) fn put_last<B: BlockStore>(
     ensures err_tree { OnErr result (tree.new ≡ tree.old) }
     ensures err_blocks { OnErr result (B.blocks store.new ≡ B.blocks store.old) }
 {
-    let at = place_node(store, bytes, expected)?;
+    let at = place_node(store, bytes)?;
     match tree.insert(store, &key.key(), at) {
         Ok(_) => Ok(at),
         Err(refused) => {
@@ -108,7 +107,7 @@ pub(crate) fn replace<B: BlockStore>(
         store.write(was, 0, bytes);
         return Ok(was);
     }
-    let at = place_node(store, bytes, 0)?;
+    let at = place_node(store, bytes)?;
     tree.set(store, &key.key(), at);
     store.give_back(was);
     Ok(at)
