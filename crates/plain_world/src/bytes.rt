@@ -9,10 +9,10 @@ use std::marker::Model;
 /// The greatest length of a word and of a string, in bytes: 512 MiB.
 pub const LONGEST: usize = 536_870_912;
 
-/// Bytes of one's own, which contracts see as a list. Up to 24 of them stand inline.
+/// Bytes of one's own, which contracts see as a list. Up to 40 of them stand inline.
 #[derive(Drop)]
 pub struct Bytes {
-    bytes: SmallVec<u8, 24>,
+    bytes: SmallVec<u8, 40>,
 }
 
 impl Model for Bytes {

@@ -124,6 +124,9 @@ pub enum Part {
     Array(u64),
 }
 
+/// How many parts an array's head asks room for at once, at most.
+const MOST_AHEAD: u64 = 1024;
+
 /// Parts that are put together into a reply, which contracts see as their list.
 #[derive(Drop)]
 pub struct Parts {
@@ -149,11 +152,14 @@ impl Parts {
         }
     }
 
-    /// Adds a part behind the others. `Memory` leaves the parts.
+    /// Adds a part behind the others; an array's head takes room for the parts that follow it, up to 1,024. `Memory` leaves the parts.
     pub fn push(&mut self, part: Part) -> Result<(), AllocError>
         ensures ok { OnOk result (self.new ≡ self.old ++ part ∷ []) }
         ensures err { OnErr result (self.new ≡ self.old) }
     {
+        if let Part::Array(count) = &part {
+            self.parts.reserve(1 + (*count).min(MOST_AHEAD) as usize)?;
+        }
         self.parts.push(part)?;
         Ok(())
     }
