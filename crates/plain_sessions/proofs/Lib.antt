@@ -1,0 +1,4 @@
+pub mod Piecing
+pub mod Arriving
+pub mod Running
+pub mod Telling
