@@ -1,0 +1,13 @@
+pub mod Each
+pub mod Maps
+pub mod Worlds
+pub mod Told
+pub mod Deadlines
+pub mod Strings
+pub mod Keys
+pub mod Lists
+pub mod Sets
+pub mod Hashes
+pub mod Zsets
+pub mod Streams
+pub mod Steps
