@@ -12,7 +12,7 @@ use Rattle.plain_world.specs.declared.reply.Part.TheVariants.{Array}
 use Rattle.plain_sessions.specs.Transactions.{array_of}
 use Rattle.resp_frames.specs.Frames.{request_bytes}
 use Rattle.serving.specs.Path.{path}
-use Rattle.request_queue.specs.Queued.{AreQueued, RunsBehind, RunsQueued}
+use Rattle.request_queue.specs.Queued.{AreQueued, RunsBehind}
 
 -- requests whose bytes are these and one more, the last one apart
 record Split (bytes : List ℕ) (kept : List (List ℕ)) (asked : List Words) : Type 0 where
@@ -113,10 +113,6 @@ module _ {E : Type 0} (X : E → Words → List Part → E → Type 0) where
       let head : mid ≡ Array n ∷ [] = f ∙ ap (λ l. l ++ Array n ∷ []) e in
       let count : n ≡ length r.replies = same ∙ sym r.many in
       r.are ∙ ap (λ l. l ++ flat_map (λ (reply : List Part). reply) r.replies) head ∙ ap (λ k. Array k ∷ flat_map (λ (reply : List Part). reply) r.replies) count
-
-  pub runs_queued : (a b : E) (kept : List (List ℕ)) (first mid new : List Part) (n : ℕ) → RunsBehind X a kept mid new b → first ≡ [] → mid ≡ first ++ Array n ∷ [] → n ≡ length kept
-      → RunsQueued X a kept new b
-  runs_queued a b kept first mid new n r e f same = record { replies = r.replies; is = array_is a b kept first mid new n r e f same; way = r.way }
 
   pub array_whole : (a b : E) (kept : List (List ℕ)) (first mid new : List Part) (n : ℕ) → RunsBehind X a kept mid new b → first ≡ [] → mid ≡ first ++ Array n ∷ [] → n ≡ length kept
       → IsReply new

@@ -1,4 +1,4 @@
-use Rattle.std.proofs.Common.{rules, ◌≡◌, ◌++◌, ◌∷◌, [], ℕ, ◌+◌, List, map, take, subst, ◌∙◌}
+use Rattle.std.proofs.Common.{rules, map, take, subst, ◌∙◌}
 use Rattle.plain_world.specs.Parts.{IsReply}
 use Rattle.request_queue.specs.Queued.{RunsBehind}
 use Rattle.request_queue.proofs.Ways.{runs_nothing, runs_on, kept_next}

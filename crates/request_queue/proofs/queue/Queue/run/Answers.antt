@@ -1,6 +1,6 @@
 use Rattle.std.proofs.Common.{arith}
 use Rattle.std.proofs.lemmas.List.{length-map}
-use Rattle.request_queue.proofs.Ways.{array_whole, runs_queued}
+use Rattle.request_queue.proofs.Ways.{array_whole}
 use Rattle.request_queue.proofs.queue.Queue.run.Goals as goal
 
 pub into_reply-requires : goal.into_reply-requires
