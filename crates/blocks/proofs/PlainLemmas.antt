@@ -6,7 +6,7 @@ use Rattle.std.proofs.lemmas.Bool.{eqb-true, eq-eqb, eqb-false, cond-true}
 use Rattle.std.specs.Global.{Vec}
 use Rattle.slab.specs.Slab.{Slab, Updates, with_value}
 use Rattle.blocks.specs.declared.BlockRef.{BlockRef}
-use Rattle.blocks.specs.Blocks.{with_block, bytes_at, overwritten}
+use Rattle.blocks.specs.Blocks.{with_block, bytes_at}
 use Rattle.blocks.specs.Plain.{bytes_of, blocks_at}
 
 place_of : (s : Slab (Vec ℕ)) (n : ℕ) → get_or (map bytes_of s.slots) n None ≡ bytes_of (get_or s.slots n None)
@@ -59,14 +59,14 @@ in_range (x ∷ xs) zero v h = omega arith
 in_range (x ∷ xs) (suc i) v h = let k : i < length xs = in_range xs i v h in omega arith
 
 -- what a write through `get_mut` leaves
-pub plain_put : (old : Slab (Vec ℕ)) (places : List (Option (List ℕ))) (at : BlockRef) (v w : Vec ℕ) (from : ℕ) (piece : List ℕ) → map bytes_of old.slots ≡ places
-    → IsSome (blocks_at places at) → get_or old.slots at.slab None ≡ Some v → w.items ≡ overwritten v.items from piece
-    → blocks_at (map bytes_of (slice_set old.slots at.slab (Some w))) ≡ with_block (blocks_at places) at (Some (overwritten (bytes_at (blocks_at places) at) from piece))
-plain_put old places at v w from piece same h is e =
+pub plain_put : (old : Slab (Vec ℕ)) (places : List (Option (List ℕ))) (at : BlockRef) (v w : Vec ℕ) (change : List ℕ → List ℕ) → map bytes_of old.slots ≡ places
+    → IsSome (blocks_at places at) → get_or old.slots at.slab None ≡ Some v → w.items ≡ change v.items
+    → blocks_at (map bytes_of (slice_set old.slots at.slab (Some w))) ≡ with_block (blocks_at places) at (Some (change (bytes_at (blocks_at places) at)))
+plain_put old places at v w change same h is e =
     let z : at.slot ≡ 0 = plain_slot places at h in
     plain_written old at w z (in_range old.slots at.slab v is)
-    ∙ ap (λ b. with_block (blocks_at (map bytes_of old.slots)) at (Some b)) (e ∙ ap (λ b. overwritten b from piece) (sym (plain_bytes old at v z is)))
-    ∙ ap (λ p. with_block (blocks_at p) at (Some (overwritten (bytes_at (blocks_at p) at) from piece))) same
+    ∙ ap (λ b. with_block (blocks_at (map bytes_of old.slots)) at (Some b)) (e ∙ ap change (sym (plain_bytes old at v z is)))
+    ∙ ap (λ p. with_block (blocks_at p) at (Some (change (bytes_at (blocks_at p) at)))) same
 
 -- inside a list the value for places beyond it doesn't count
 pub one_value : (xs : List ℕ) (i d e : ℕ) → i < length xs → get_or xs i d ≡ get_or xs i e

@@ -2,7 +2,7 @@
 use Rattle.std.proofs.Common.{◌≡◌, sym, subst, refl, ap, ◌∙◌}
 use Rattle.blocks.specs.Blocks.{Blocks, Served, no_step, one_more}
 use Rattle.blocks.specs.Slabs.{Heap}
-use Rattle.blocks.specs.Steps.{IsStep, stayed, placed, returned, written}
+use Rattle.blocks.specs.Steps.{IsStep, stayed, placed, returned, written, stretched}
 
 -- a store and itself
 pub served_same : {S : Type 0} {step : S → S → Type 0} (a b : S) → b ≡ a → Served step a b
@@ -37,6 +37,7 @@ step_passing m n h k (stayed same kept) = ap (λ x. x.passing) kept
 step_passing m n h k (placed at len fresh is open') = open'
 step_passing m n h k (returned at was is open') = open'
 step_passing m n h k (written at from piece was room is kept) = ap (λ x. x.passing) kept
+step_passing m n h k (stretched at len was fits is kept) = ap (λ x. x.passing) kept
 
 pub served_passing : {S : Type 0} {step : S → S → Type 0} (blocks : S → Blocks) (heap : S → Heap) → ((a b : S) → step a b → IsStep (blocks a) (heap a) (blocks b) (heap b)) → (a b : S)
     → Served step a b → (heap b).passing ≡ (heap a).passing

@@ -26,6 +26,14 @@ overwritten bytes from piece = take from bytes ++ piece ++ drop (from + length p
 abbrev pub widened : List ℕ → ℕ → List ℕ
 widened bytes len = bytes ++ replicate (len - length bytes) 0
 
+-- the bytes at another length: those that both lengths have, and zero bytes behind them
+abbrev pub resized : List ℕ → ℕ → List ℕ
+resized bytes len = take len bytes ++ replicate (len - length bytes) 0
+
+-- the bytes with so many of them, from one place on, put over those from another place on
+abbrev pub shifted : List ℕ → ℕ → ℕ → ℕ → List ℕ
+shifted bytes from to count = overwritten bytes to (take count (drop from bytes))
+
 -- the bytes of a live block
 abbrev pub bytes_at : Blocks → BlockRef → List ℕ
 bytes_at blocks at = unwrap_or (blocks at) []
@@ -72,7 +80,7 @@ Owned refs blocks = (r : BlockRef) → times r refs ≤ live blocks r
 abbrev pub Owns : List BlockRef → Blocks → Type 0
 Owns refs blocks = (r : BlockRef) → times r refs ≡ live blocks r
 
--- The second store comes from the first by a list of steps, each a placing, a return or a write.
+-- The second store comes from the first by a list of steps, each a placing, a return, a write or a stretch.
 pub data Served {S : Type 0} (step : S → S → Type 0) (first : S) : S → Type 0 where
   no_step : Served step first first
   one_more : (mid last : S) → Served step first mid → step mid last → Served step first last

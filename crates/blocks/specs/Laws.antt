@@ -30,7 +30,7 @@ pub record ServedLaws {S : Type 0} (blocks : S → Blocks) (heap : S → Heap) (
   pub once : (s t : S) → step s t → Served step s t
   -- it goes on from one list of calls to the next
   pub goes_on : (s t u : S) → Served step s t → Served step t u → Served step s u
-  -- each call is a placing, a return or a write
+  -- each call is a placing, a return, a write or a stretch
   pub kinds : (s t : S) → Served step s t
       → Served (λ before after. IsStep (blocks before) (heap before) (blocks after) (heap after)) s t
   -- an open pass stays open

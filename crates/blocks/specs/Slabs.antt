@@ -92,6 +92,16 @@ spare_of h class = sum_by (spare_in class) h.slabs
 abbrev pub needed : Heap → ℕ → ℕ
 needed h class = (used_of h class + (per_slab class - 1)) / per_slab class
 
+-- a slab of the least class that holds so many bytes
+abbrev pub IsSlabFor : ℕ → Option SlabUse → Type 0
+IsSlabFor len None = ⊥
+IsSlabFor len (Some s) = IsClassOf len s.class
+
+-- The block may have so many bytes in its place: it stands in a slab of the least class that holds them. One that
+-- stands alone may not.
+abbrev pub Stretches : Heap → BlockRef → ℕ → Type 0
+Stretches h at len = IsSlabFor len (slab_at h at.slab)
+
 -- a slab that isn't kept
 abbrev pub is_other : Option SlabUse → Bool
 is_other None = false

@@ -12,8 +12,8 @@ pub fn changes_laws()
     ensures { ChangesLaws }
 {}
 
-/// Law: what a store was served goes on from call to call, and each call is a placing, a return or a
-/// write.
+/// Law: what a store was served goes on from call to call, and each call is a placing, a return, a
+/// write or a stretch.
 pub fn served_laws<B: BlockStore>(_store: &B)
     ensures { ServedLaws B.blocks B.heap B.step }
 {}

@@ -1,5 +1,5 @@
 ghost use Rattle.std.specs.Prelude.{◌≡◌, Option, None, true, false, ◌+◌, ◌≤◌, length};
-ghost use Rattle.blocks.specs.Blocks.{overwritten, no_blocks};
+ghost use Rattle.blocks.specs.Blocks.{overwritten, shifted, no_blocks};
 ghost use Rattle.blocks.specs.Slabs.{no_slabs};
 ghost use Rattle.blocks.specs.Plain.{plain_blocks, plain_heap, IsPlainStep};
 
@@ -8,7 +8,7 @@ use slab::Slab;
 use std::alloc::Global;
 use std::marker::Model;
 
-/// A store with one vector a block. It counts no slabs, and no block in it wants to move.
+/// A store with one vector a block. It counts no slabs, so no block in it wants to move, and none has another length in its place.
 #[derive(Drop)]
 pub struct PlainStore {
     alloc: Global,
@@ -30,6 +30,14 @@ fn put_piece(bytes: &mut Vec<u8>, from: usize, piece: &[u8])
     ensures { bytes.new.items ≡ overwritten bytes.old.items from piece.now }
 {
     bytes[from..from + piece.len()].copy_from_slice(piece);
+}
+
+fn shift_part(bytes: &mut Vec<u8>, from: usize, to: usize, count: usize)
+    requires inside { from + count ≤ length bytes.old.items }
+    requires room { to + count ≤ length bytes.old.items }
+    ensures { bytes.new.items ≡ shifted bytes.old.items from to count }
+{
+    bytes.copy_within(from..from + count, to);
 }
 
 impl PlainStore {
@@ -80,6 +88,17 @@ impl BlockStore for PlainStore {
             unreachable!()
         };
         put_piece(bytes, from, piece);
+    }
+
+    fn shift(&mut self, at: BlockRef, from: usize, to: usize, count: usize) {
+        let Some(bytes) = self.vectors.get_mut(at.slab) else {
+            unreachable!()
+        };
+        shift_part(bytes, from, to, count);
+    }
+
+    fn stretch(&mut self, _at: BlockRef, _len: usize) -> bool {
+        false
     }
 
     fn give_back(&mut self, at: BlockRef) {

@@ -1,8 +1,8 @@
-ghost use Rattle.std.specs.Prelude.{◌≡◌, ℕ, ◌+◌, ◌<◌, ◌≤◌, false, List, Option, Some, None, length, replicate, take, drop, IfOk, OnErr, IfSome, IfNone, IsSome, MatchBool, is_some};
+ghost use Rattle.std.specs.Prelude.{◌≡◌, ◌↔◌, ℕ, ◌+◌, ◌<◌, ◌≤◌, false, IsTrue, List, Option, Some, None, length, replicate, take, drop, IfOk, OnErr, IfSome, IfNone, IsSome, MatchBool, is_some};
 ghost use Rattle.blocks.specs.declared.BlockRef.{BlockRef};
 ghost use Rattle.blocks.specs.declared.ClassUse.{ClassUse};
-ghost use Rattle.blocks.specs.Blocks.{ref_eq, with_block, overwritten, bytes_at, widened, IsFinite, Served};
-ghost use Rattle.blocks.specs.Slabs.{Heap, wants, IsWaiting, Begun, Moves, ended, IsSoundHeap, slabs_of, used_of, size_of};
+ghost use Rattle.blocks.specs.Blocks.{ref_eq, with_block, overwritten, bytes_at, widened, resized, shifted, IsFinite, Served};
+ghost use Rattle.blocks.specs.Slabs.{Heap, wants, Stretches, IsWaiting, Begun, Moves, ended, IsSoundHeap, slabs_of, used_of, size_of};
 ghost use Rattle.blocks.specs.Steps.{IsStep};
 
 use crate::{BlockRef, ClassUse, Memory};
@@ -33,7 +33,7 @@ pub trait BlockStore: Drop {
     /// Whether a pass is open, and the slab that has each number.
     ghost heap: { Self → Heap };
 
-    /// One call of `place`, `write` or `give_back`, by this store's own rule of placing.
+    /// One call of `place`, `write`, `give_back`, `stretch` or `shift`, by this store's own rule of placing.
     ghost step: { Self → Self → Type 0 };
 
     /// Places a block of `len` zero bytes under a reference that isn't live. It wants no move.
@@ -62,6 +62,27 @@ pub trait BlockStore: Drop {
         ensures written { blocks self.new ≡ with_block (blocks self.old) at (Some (overwritten (bytes_at (blocks self.old) at) from piece.now)) }
         ensures slabs { heap self.new ≡ heap self.old }
         ensures step { step self.old self.new };
+
+    /// Puts `count` bytes of a live block, from the byte `from` on, over those from the byte `to` on. The two places may overlap.
+    fn shift(&mut self, at: BlockRef, from: usize, to: usize, count: usize)
+        requires live { IsSome (blocks self.old at) }
+        requires inside { from + count ≤ length (bytes_at (blocks self.old) at) }
+        requires room { to + count ≤ length (bytes_at (blocks self.old) at) }
+        ensures shifted { blocks self.new ≡ with_block (blocks self.old) at (Some (shifted (bytes_at (blocks self.old) at) from to count)) }
+        ensures slabs { heap self.new ≡ heap self.old }
+        ensures step { step self.old self.new };
+
+    /// Gives a live block another length in its place: the bytes that both lengths have stay, and zero bytes stand behind them. It
+    /// takes no memory. True exactly where the block stands in a slab of the least class that holds the length; else nothing changes.
+    fn stretch(&mut self, at: BlockRef, len: usize) -> bool
+        requires { IsSome (blocks self.old at) }
+        ensures rule { IsTrue result ↔ Stretches (heap self.old) at len }
+        ensures stretched { IsTrue result → blocks self.new ≡ with_block (blocks self.old) at (Some (resized (bytes_at (blocks self.old) at) len)) }
+        ensures slabs { heap self.new ≡ heap self.old }
+        ensures step { step self.old self.new }
+
+        // Another class changes nothing.
+        ensures stays { result ≡ false → self.new ≡ self.old };
 
     /// Ends a live reference. No further block wants to move.
     fn give_back(&mut self, at: BlockRef)
@@ -156,6 +177,6 @@ pub trait BlockStore: Drop {
     /// The slabs count the live blocks, and those that want to move have room.
     ghost sound: { (s : Self) → IsSoundHeap (blocks s) (heap s) };
 
-    /// A step is a placing, a return or a write.
+    /// A step is a placing, a return, a write or a stretch.
     ghost steps: { (before after : Self) → step before after → IsStep (blocks before) (heap before) (blocks after) (heap after) };
 }

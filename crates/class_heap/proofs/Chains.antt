@@ -64,6 +64,19 @@ chain_taken words head n w h small s =
           omega (arith, e, h s, one_other head s (λ q. other (sym q))))
     ])
 
+-- a slot with a block gets another word of one
+pub chain_resized : (words : List ℕ) (head n slot w : ℕ) → ((s : ℕ) → occurs s (chain words head n) ≡ is_free words s) → is_used words slot ≡ true → w < 32768 → (s : ℕ)
+    → occurs s (chain (slice_set words slot w) head n) ≡ is_free (slice_set words slot w) s
+chain_resized words head n slot w h used small s =
+    let lt = used_there words slot used in let new = slice_set words slot w in
+    let none : occurs slot (chain words head n) ≡ 0 = h slot ∙ free_none words slot used in
+    ap (occurs s) (chain_kept words slot w head n none) ∙ (h s ∙ (elim (cases_eq s slot) [
+      | inl same ↦ (let e : word_at new slot ≡ w = get_or-set_same words slot w 65535 lt in
+          let z : is_free new slot ≡ 0 = free_none new slot (grind (arith, common_steps, e, small)) in
+          ap (is_free words) same ∙ (free_none words slot used ∙ (sym z ∙ ap (is_free new) (sym same))))
+      | inr other ↦ sym (free_kept new words s (length-set words slot w) (get_or-set_other words slot s w 65535 other))
+    ]))
+
 -- a slot that is given back becomes the head
 pub chain_given : (words : List ℕ) (head n slot : ℕ) → ((s : ℕ) → occurs s (chain words head n) ≡ is_free words s) → is_used words slot ≡ true → (s : ℕ)
     → occurs s (chain (slice_set words slot (32768 + head)) slot (suc n)) ≡ is_free (slice_set words slot (32768 + head)) s

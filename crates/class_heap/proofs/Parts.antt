@@ -1,16 +1,17 @@
 -- The blocks of a slab after a change of one slot.
-use Rattle.std.specs.Prelude.{◌≡◌, ◌≢◌, ℕ, suc, ◌+◌, ◌-◌, ◌*◌, ◌<◌, ◌≤◌, true, nat_lt, List, [], length, take, drop, slice_set, Some, None, IsSome, unwrap_or, refl, ◌⊎◌}
+use Rattle.std.specs.Prelude.{◌≡◌, ◌≢◌, ℕ, suc, ◌+◌, ◌-◌, ◌*◌, ◌<◌, ◌≤◌, true, nat_lt, List, [], length, take, drop, replicate, slice_set, Some, None, IsSome, unwrap_or, refl, ◌⊎◌}
 use Rattle.std.proofs.Common.{arith, cond, eqb, ap, ◌∙◌, sym, subst, inl, inr, get_or-set_same, get_or-set_other, length-set}
 use Rattle.std.proofs.lemmas.Grind.{common_steps}
 use Rattle.std.proofs.lemmas.Bool.{cases_eq, cases_lt, cases_Bool}
-use Rattle.blocks.specs.Blocks.{overwritten}
+use Rattle.std.proofs.lemmas.List.{length-take}
+use Rattle.blocks.specs.Blocks.{overwritten, resized, shifted}
 use Rattle.blocks.specs.Slabs.{IsClassOf, per_slab, size_of}
 use Rattle.blocks.proofs.Written.{overwritten_all}
 use Rattle.class_heap.specs.Slots.{word_at, is_used, is_free, used_below, chain, occurs, block_in_slot, IsSlab}
 use Rattle.class_heap.specs.Live.{used_there, used_some, apart, known, unused, not_used, live_used, bounds, cut, slots_most, slot_fits, short, part_fits, live_there, block_known}
 use Rattle.class_heap.specs.Live.{block_length, used_fits}
-use Rattle.class_heap.proofs.Pieces.{after, before, within}
-use Rattle.class_heap.proofs.Chains.{free_parts, head_free, chain_taken, chain_given, used_changed, one_if, IsFresh, fresh_used, fresh_chained}
+use Rattle.class_heap.proofs.Pieces.{after, before, within, part_of}
+use Rattle.class_heap.proofs.Chains.{free_parts, head_free, chain_taken, chain_given, chain_resized, used_changed, one_if, IsFresh, fresh_used, fresh_chained}
 
 pub pick_same : {X : Type 0} (a b : ℕ) (x y : X) → a ≡ b → cond (eqb a b) x y ≡ x
 pick_same a b x y h = grind (arith, common_steps, h)
@@ -78,6 +79,70 @@ module _ {class size used head : ℕ} {words mem : List ℕ} (sound : IsSlab cla
     where
       long_over : (bytes piece : List ℕ) (at : ℕ) → at + length piece ≤ length bytes → length (overwritten bytes at piece) ≡ length bytes
       long_over bytes piece at fit = grind (arith, common_steps, fit)
+
+  -- ---- bytes of a block are put over others of it
+
+  pub place_fits : (slot from count : ℕ) → IsSome (block_in_slot size words mem slot) → from + count ≤ length (unwrap_or (block_in_slot size words mem slot) [])
+      → slot * size + from + count ≤ 65536
+  place_fits slot from count live room = (let e = block_length sound slot live in let f = part_fits sound slot live in omega (arith, e, f, room))
+
+  moved : (slot from count : ℕ) → IsSome (block_in_slot size words mem slot) → from + count ≤ length (unwrap_or (block_in_slot size words mem slot) [])
+      → take count (drop (slot * size + from) mem) ≡ take count (drop from (unwrap_or (block_in_slot size words mem slot) []))
+  moved slot from count live inside =
+      let e = block_length sound slot live in let f = part_fits sound slot live in let l = sound.long in
+      sym (ap (λ o. take count (drop from (unwrap_or o []))) (block_known sound slot live) ∙ part_of mem (slot * size) (word_at words slot) from count (omega (arith, f, l)) (omega (arith, e, inside)))
+
+  pub put_over : (slot from to count : ℕ) → IsSome (block_in_slot size words mem slot) → from + count ≤ length (unwrap_or (block_in_slot size words mem slot) [])
+      → to + count ≤ length (unwrap_or (block_in_slot size words mem slot) []) → (other : ℕ)
+      → block_in_slot size words (shifted mem (slot * size + from) (slot * size + to) count) other ≡ cond (eqb other slot)
+      (Some (shifted (unwrap_or (block_in_slot size words mem slot) []) from to count)) (block_in_slot size words mem other)
+  put_over slot from to count live inside room other =
+      let piece = take count (drop from (unwrap_or (block_in_slot size words mem slot) [])) in
+      ap (λ p. block_in_slot size words (overwritten mem (slot * size + to) p) other) (moved slot from count live inside)
+      ∙ written slot to piece live (omega (arith, length-take count (drop from (unwrap_or (block_in_slot size words mem slot) [])), room)) other
+
+  -- ---- a block gets another length
+
+  small : (len : ℕ) → IsClassOf len class → len < 32768
+  small len fit = (let b = bounds sound in let q : len ≤ size = subst (λ n. len ≤ n) (sym sound.sized) fit.holds in omega (arith, b, q))
+
+  pub sound_resized : (slot len : ℕ) → IsSome (block_in_slot size words mem slot) → IsClassOf len class → IsSlab class size used head (slice_set words slot len) mem
+  sound_resized slot len live fit =
+      let used' = live_used size words mem slot live in let lt = used_there words slot used' in let few = small len fit in
+      let same = length-set words slot len in
+      record {
+        classed = sound.classed;
+        sized = sound.sized;
+        long = sound.long;
+        cut = same ∙ sound.cut;
+        counted =
+            (let c = used_changed words slot len (length words) lt lt in let o : one_if (nat_lt len 32768) ≡ 1 = grind (arith, common_steps, few) in
+            let p : one_if (is_used words slot) ≡ 1 = ap one_if used' in let k = sound.counted in
+            ap (used_below (slice_set words slot len)) same ∙ omega (arith, c, o, p, k));
+        headed = sound.headed;
+        chained = λ s. ap (λ n. occurs s (chain (slice_set words slot len) head (n - used))) same
+            ∙ chain_resized words head (length words - used) slot len sound.chained used' few s;
+        held = λ s h'. by_slot s h' lt (cases_eq s slot);
+      }
+    where
+      by_slot : (s : ℕ) → is_used (slice_set words slot len) s ≡ true → slot < length words → (s ≡ slot) ⊎ (s ≢ slot) → IsClassOf (word_at (slice_set words slot len) s) class
+      by_slot s h' lt (inl same) = subst (λ n. IsClassOf n class) (sym (ap (word_at (slice_set words slot len)) same ∙ get_or-set_same words slot len 65535 lt)) fit
+      by_slot s h' lt (inr other) = (let e = get_or-set_other words slot s len 65535 other in subst (λ n. IsClassOf n class) (sym e) (sound.held s (sym (ap (λ w. nat_lt w 32768) e) ∙ h')))
+
+  pub resized_in : (slot len : ℕ) → IsSome (block_in_slot size words mem slot) → IsClassOf len class → (other : ℕ)
+      → block_in_slot size (slice_set words slot len) mem other ≡ cond (eqb other slot) (Some (take len (drop (slot * size) mem))) (block_in_slot size words mem other)
+  resized_in slot len live fit other =
+      let new = slice_set words slot len in
+      let e : word_at new slot ≡ len = get_or-set_same words slot len 65535 (live_there sound slot live) in let few = small len fit in
+      elim (cases_eq other slot) [
+        | inl same ↦ ap (block_in_slot size new mem) same
+            ∙ (known size new mem slot (grind (arith, common_steps, e, few)) ∙ (ap (λ n. Some (take n (drop (slot * size) mem))) e ∙ sym (pick_same other slot _ _ same)))
+        | inr ne ↦ block_same size new words mem other (get_or-set_other words slot other len 65535 ne) ∙ sym (pick_other other slot _ _ ne)
+      ]
+
+  -- the slot has room for as many bytes as the class holds
+  pub class_fits : (slot len : ℕ) → IsSome (block_in_slot size words mem slot) → IsClassOf len class → slot * size + len ≤ 65536
+  class_fits slot len live fit = (let f = slot_fits sound slot (live_there sound slot live) in let q : len ≤ size = subst (λ n. len ≤ n) (sym sound.sized) fit.holds in omega (arith, f, q))
 
   -- ---- a free slot is taken
 
@@ -159,6 +224,14 @@ module _ {class size used head : ℕ} {words mem : List ℕ} (sound : IsSlab cla
         unused size (slice_set words slot (32768 + head)) mem other (not_used (slice_set words slot (32768 + head)) other (omega (arith, e))) ∙ sym (pick_same other slot _ _ same))
     | inr ne ↦ block_same size (slice_set words slot (32768 + head)) words mem other (get_or-set_other words slot other (32768 + head) 65535 ne) ∙ sym (pick_other other slot _ _ ne)
   ]
+
+-- what stands there where fewer bytes are left
+pub resized_less : (bytes : List ℕ) (old len : ℕ) → len ≤ old → old ≤ length bytes → take len bytes ≡ resized (take old bytes) len
+resized_less bytes old len less long = grind (arith, common_steps, less, long)
+
+-- and where zeros are written behind those that stay
+pub resized_more : (bytes : List ℕ) (old len : ℕ) → old < len → len ≤ length bytes → overwritten (take len bytes) old (replicate (len - old) 0) ≡ resized (take old bytes) len
+resized_more bytes old len more long = grind (arith, common_steps, more, long)
 
 -- a slab in which no slot was taken yet
 pub sound_fresh : (class size : ℕ) (words mem : List ℕ) → class < 36 → size ≡ size_of class → length mem ≡ 65536 → length words ≡ per_slab class → IsFresh words

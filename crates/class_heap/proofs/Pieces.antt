@@ -22,6 +22,14 @@ before bytes piece at k n fit le =
     ∙ (take-append-le n (drop k (take at bytes)) tail (omega (arith, length-drop k (take at bytes), length-take at bytes))
     ∙ (ap (λ q. take n (drop k (take q bytes))) (sym e) ∙ (ap (take n) (drop-take k m bytes) ∙ take_less n m (drop k bytes) (omega arith) (omega (arith, length-drop k bytes))))))
 
+-- a part of a part
+pub part_of : (bytes : List ℕ) (k n from count : ℕ) → k + n ≤ length bytes → from + count ≤ n → take count (drop from (take n (drop k bytes))) ≡ take count (drop (k + from) bytes)
+part_of bytes k n from count long fit =
+    let rest = n - from in let e : from + rest ≡ n = omega arith in
+    ap (λ q. take count (drop from (take q (drop k bytes)))) (sym e)
+    ∙ (ap (take count) (drop-take from rest (drop k bytes))
+    ∙ (take_less count rest (drop from (drop k bytes)) (omega arith) (omega (arith, length-drop from (drop k bytes), length-drop k bytes)) ∙ ap (take count) (drop-drop from k bytes)))
+
 -- the part that the piece lies in
 pub within : (bytes piece : List ℕ) (at k n : ℕ) → k + n ≤ length bytes → k ≤ at → at + length piece ≤ k + n
     → take n (drop k (overwritten bytes at piece)) ≡ overwritten (take n (drop k bytes)) (at - k) piece

@@ -16,7 +16,7 @@ use Rattle.class_heap.specs.declared.slab.Slab.{Slab}
 use Rattle.class_heap.specs.Slots.{is_used, used_below, word_at}
 use Rattle.class_heap.specs.Slab.{use_of, block_at}
 use Rattle.class_heap.specs.Entries.{use_in, block_in, entry_at, blocks_of, heap_of, class_in, IsHeap}
-use Rattle.class_heap.specs.Placing.{IsHeapStep, stays, places, returns, writes}
+use Rattle.class_heap.specs.Placing.{IsHeapStep, stays, places, returns, writes, stretches}
 use Rattle.class_heap.specs.Live.{used_least, live_used, live_there, slots_most, block_length}
 
 -- the slab at a number
@@ -171,7 +171,7 @@ heap_sound {passing = passing} {entries = entries} sound = record {
         (subst (λ u. IsClassOf (word_at t.slab.words.items r.slot) u.class) t.same
         (t.slab.sound.held r.slot (live_used t.slab.size t.slab.words.items t.slab.mem r.slot alive)))
 
--- ---- each step is a placing, a return or a write
+-- ---- each step is a placing, a return, a write or a stretch
 
 pub heap_step : {before after : Blocks} {h later : Heap} → IsHeapStep before h after later
     → step.IsStep before h after later
@@ -179,3 +179,4 @@ heap_step (stays same kept) = step.stayed same kept
 heap_step (places len at p) = step.placed at len p.fresh p.placed p.passing
 heap_step (returns at r) = step.returned at r.was r.ended r.passing
 heap_step (writes at from piece w) = step.written at from piece w.was w.room w.written w.slabs
+heap_step (stretches at len s) = step.stretched at len s.was s.fits s.stretched s.slabs

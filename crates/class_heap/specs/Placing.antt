@@ -1,8 +1,8 @@
 -- Where a class heap places a block, and what it frees.
 use Rattle.std.specs.Prelude.{◌≡◌, ◌≢◌, ℕ, ◌+◌, ◌-◌, ◌<◌, ◌≤◌, ◌==◌, Bool, true, false, ◌&&◌, ◌||◌, not, nat_lt, List, length, replicate, Option, Some, None, IsSome, is_some, if◌then◌else◌}
 use Rattle.blocks.specs.declared.BlockRef.{BlockRef}
-use Rattle.blocks.specs.Blocks.{Blocks, with_block, overwritten, bytes_at}
-use Rattle.blocks.specs.Slabs.{SlabUse, Heap, slab_at, per_slab, IsClassOf, waiting_of, spare_of, one_more_in}
+use Rattle.blocks.specs.Blocks.{Blocks, with_block, overwritten, resized, bytes_at}
+use Rattle.blocks.specs.Slabs.{SlabUse, Heap, slab_at, per_slab, IsClassOf, Stretches, waiting_of, spare_of, one_more_in}
 
 -- the slab takes a block of the class: it has room, and is kept while a pass is open
 abbrev pub takes : Bool → ℕ → Option SlabUse → Bool
@@ -84,10 +84,20 @@ pub record IsWrite (before : Blocks) (h : Heap) (after : Blocks) (later : Heap) 
   pub written : after ≡ with_block before at (Some (overwritten (bytes_at before at) from piece))
   pub slabs : later ≡ h
 
--- One call of `place`, `give_back` or `write`, by the rule above, or a placing that found no memory.
+-- a block has another length in its place, and all slabs stay
+pub record IsStretch (before : Blocks) (h : Heap) (after : Blocks) (later : Heap) (at : BlockRef) (len : ℕ)
+    : Type 0 where
+  pub was : IsSome (before at)
+  pub fits : Stretches h at len
+  pub stretched : after ≡ with_block before at (Some (resized (bytes_at before at) len))
+  pub slabs : later ≡ h
+
+-- One call of `place`, `give_back`, `write`, `shift` or `stretch`, by the rule above, or one that changed nothing: a
+-- placing that found no memory, or a length of another class.
 pub data IsHeapStep (before : Blocks) (h : Heap) (after : Blocks) (later : Heap) : Type 0 where
   stays : after ≡ before → later ≡ h → IsHeapStep before h after later
   places : (len : ℕ) (at : BlockRef) → IsPlacing before h after later len at → IsHeapStep before h after later
   returns : (at : BlockRef) → IsReturn before h after later at → IsHeapStep before h after later
   writes : (at : BlockRef) (from : ℕ) (piece : List ℕ) → IsWrite before h after later at from piece
       → IsHeapStep before h after later
+  stretches : (at : BlockRef) (len : ℕ) → IsStretch before h after later at len → IsHeapStep before h after later

@@ -1,4 +1,4 @@
-ghost use Rattle.std.specs.Prelude.{◌≡◌, ◌<◌, ◌≤◌, ◌/◌, IfSome, IfNone};
+ghost use Rattle.std.specs.Prelude.{◌≡◌, ◌<◌, ◌≤◌, ◌/◌, ◌↔◌, IsTrue, IfSome, IfNone};
 ghost use Rattle.blocks.specs.Slabs.{IsClassOf, per_slab, size_of};
 
 use blocks::CLASS_SIZES;
@@ -24,6 +24,17 @@ pub(crate) fn slots_in(class: usize) -> usize
     ensures most { result ≤ 8192 }
 {
     SLAB_BYTES / size_in(class)
+}
+
+/// Whether the class is the least that holds a block of `len` bytes.
+pub(crate) fn is_class_of(len: usize, class: usize) -> bool
+    requires { class < 36 }
+    ensures { IsTrue result ↔ IsClassOf len class }
+{
+    if size_in(class) < len {
+        return false;
+    }
+    class == 0 || size_in(class - 1) < len
 }
 
 /// The least class that holds a block of `len` bytes; `None` where the block has to stand alone.

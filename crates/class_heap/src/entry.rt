@@ -1,10 +1,10 @@
-ghost use Rattle.std.specs.Prelude.{◌≡◌, ℕ, ◌+◌, ◌<◌, ◌≤◌, ◌&&◌, Bool, false, Some, None, IsSome, is_some, length, replicate, unwrap_or, [], IfSome, OnOk, map};
-ghost use Rattle.blocks.specs.Blocks.{overwritten, widened};
-ghost use Rattle.blocks.specs.Slabs.{per_slab, is_of, is_other, released, used_in};
+ghost use Rattle.std.specs.Prelude.{◌≡◌, ◌↔◌, ℕ, ◌+◌, ◌<◌, ◌≤◌, ◌&&◌, Bool, false, Some, None, IsSome, is_some, IsTrue, length, replicate, unwrap_or, [], IfSome, OnOk, map};
+ghost use Rattle.blocks.specs.Blocks.{overwritten, widened, resized, shifted};
+ghost use Rattle.blocks.specs.Slabs.{per_slab, IsSlabFor, is_of, is_other, released, used_in};
 ghost use Rattle.class_heap.specs.Placing.{returned};
 ghost use Rattle.class_heap.specs.declared.entry.Entry.TheVariants.{Vacant};
 
-use crate::class::slots_in;
+use crate::class::{is_class_of, slots_in};
 use crate::slab::{Leftovers, Slab};
 use blocks::Memory;
 use std::mem::replace;
@@ -95,6 +95,46 @@ impl Entry {
             Entry::Large(bytes) => bytes[from..from + piece.len()].copy_from_slice(piece),
             Entry::Classed(slab) => slab.write(slot as usize, from, piece),
         }
+    }
+
+    /// Puts bytes of a block, from the byte `from` on, over those from the byte `to` on.
+    pub(crate) fn shift(&mut self, slot: u32, from: usize, to: usize, count: usize)
+        requires live { IsSome (block_in self.old slot) }
+        requires inside { from + count ≤ length (unwrap_or (block_in self.old slot) []) }
+        requires room { to + count ≤ length (unwrap_or (block_in self.old slot) []) }
+        ensures shifted { (other : ℕ) → block_in self.new other ≡ with_slot (block_in self.old) slot (Some (shifted (unwrap_or (block_in self.old slot) []) from to count)) other }
+        ensures same { use_in self.new ≡ use_in self.old }
+        ensures labels { (passing : Bool) → labels_of passing self.new ≡ labels_of passing self.old }
+    {
+        match self {
+            Entry::Vacant => unreachable!(),
+            Entry::Large(bytes) => bytes.copy_within(from..from + count, to),
+            Entry::Classed(slab) => slab.shift(slot as usize, from, to, count),
+        }
+    }
+
+    /// Whether there is a slab of the least class that holds a block of `len` bytes.
+    pub(crate) fn is_slab_for(&self, len: usize) -> bool
+        ensures { IsTrue result ↔ IsSlabFor len (use_in self.now) }
+    {
+        match self {
+            Entry::Classed(slab) => is_class_of(len, slab.class),
+            _ => false,
+        }
+    }
+
+    /// Gives a block of a slab another length of the class. Zero bytes stand behind those that stay.
+    pub(crate) fn stretch(&mut self, slot: u32, len: usize)
+        requires live { IsSome (block_in self.old slot) }
+        requires class { IsSlabFor len (use_in self.old) }
+        ensures stretched { (other : ℕ) → block_in self.new other ≡ with_slot (block_in self.old) slot (Some (resized (unwrap_or (block_in self.old slot) []) len)) other }
+        ensures same { use_in self.new ≡ use_in self.old }
+        ensures labels { (passing : Bool) → labels_of passing self.new ≡ labels_of passing self.old }
+    {
+        let Entry::Classed(slab) = self else {
+            unreachable!()
+        };
+        slab.stretch(slot as usize, len);
     }
 
     /// Makes room for a large block to have so many bytes. Where its memory grows it gets room to spare, so that many small

@@ -24,7 +24,8 @@ use std::mem::replace;
 /// memory of at most 24 slabs that went, so that the next ones have some at once.
 ///
 /// A block that stands alone is lengthened in its memory, which at least doubles where it is full: so many short steps
-/// take time linear in the length. A block in a slab is copied.
+/// take time linear in the length. A block in a slab gets another length of its class in its place, and is copied where the
+/// length is of another class.
 #[derive(Drop)]
 pub struct ClassHeap {
     alloc: Global,
@@ -288,6 +289,18 @@ impl BlockStore for ClassHeap {
 
     fn write(&mut self, at: BlockRef, from: usize, piece: &[u8]) {
         self.entries[at.slab].write(at.slot, from, piece);
+    }
+
+    fn shift(&mut self, at: BlockRef, from: usize, to: usize, count: usize) {
+        self.entries[at.slab].shift(at.slot, from, to, count);
+    }
+
+    fn stretch(&mut self, at: BlockRef, len: usize) -> bool {
+        if !self.entries[at.slab].is_slab_for(len) {
+            return false;
+        }
+        self.entries[at.slab].stretch(at.slot, len);
+        true
     }
 
     fn give_back(&mut self, at: BlockRef) {

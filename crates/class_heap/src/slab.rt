@@ -1,5 +1,5 @@
-ghost use Rattle.std.specs.Prelude.{◌≡◌, ◌≢◌, ℕ, ◌+◌, ◌*◌, ◌^◌, ◌<◌, ◌≤◌, Some, None, IsSome, is_some, IfOk, length, replicate, unwrap_or, [], if◌then◌else◌};
-ghost use Rattle.blocks.specs.Blocks.{overwritten};
+ghost use Rattle.std.specs.Prelude.{◌≡◌, ◌≢◌, ℕ, ◌+◌, ◌*◌, ◌^◌, ◌<◌, ◌≤◌, Some, None, IsSome, is_some, IfOk, length, replicate, take, drop, unwrap_or, [], if◌then◌else◌};
+ghost use Rattle.blocks.specs.Blocks.{overwritten, resized, shifted};
 ghost use Rattle.blocks.specs.Slabs.{per_slab, IsClassOf, one_more_in};
 ghost use Rattle.class_heap.specs.Slots.{IsSlab};
 
@@ -161,6 +161,42 @@ impl Slab {
         ensures same { use_of self.new ≡ use_of self.old }
     {
         self.mem.put(slot * self.size + from, piece);
+    }
+
+    /// Puts bytes of a block, from the byte `from` on, over those from the byte `to` on.
+    pub(crate) fn shift(&mut self, slot: usize, from: usize, to: usize, count: usize)
+        requires live { IsSome (block_at self.old slot) }
+        requires inside { from + count ≤ length (bytes_in self.old slot) }
+        requires room { to + count ≤ length (bytes_in self.old slot) }
+        ensures shifted { (other : ℕ) → block_at self.new other ≡ with_slot (block_at self.old) slot (Some (shifted (bytes_in self.old slot) from to count)) other }
+        ensures same { use_of self.new ≡ use_of self.old }
+    {
+        let start = slot * self.size;
+        self.mem.shift(start + from, start + to, count);
+    }
+
+    /// Gives a block another length of the class, and whatever bytes stand in its slot.
+    fn resize(&mut self, slot: usize, len: usize)
+        requires live { IsSome (block_at self.old slot) }
+        requires class { IsClassOf len self.old.class }
+        ensures resized { (other : ℕ) → block_at self.new other ≡ with_slot (block_at self.old) slot (Some (take len (drop (slot * self.old.size) self.old.mem))) other }
+        ensures same { use_of self.new ≡ use_of self.old }
+    {
+        self.words[slot] = len as u16;
+    }
+
+    /// Gives a block another length of the class. Zero bytes stand behind those that stay.
+    pub(crate) fn stretch(&mut self, slot: usize, len: usize)
+        requires live { IsSome (block_at self.old slot) }
+        requires class { IsClassOf len self.old.class }
+        ensures stretched { (other : ℕ) → block_at self.new other ≡ with_slot (block_at self.old) slot (Some (resized (bytes_in self.old slot) len)) other }
+        ensures same { use_of self.new ≡ use_of self.old }
+    {
+        let old_len = self.words[slot] as usize;
+        self.resize(slot, len);
+        if old_len < len {
+            self.write(slot, old_len, zeros(len - old_len));
+        }
     }
 
     /// Takes a free slot for a block of `len` bytes, whatever they are.

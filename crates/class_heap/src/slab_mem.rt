@@ -1,5 +1,5 @@
 ghost use Rattle.std.specs.Prelude.{◌≡◌, ℕ, ◌+◌, ◌≤◌, List, length, take, drop, replicate, IfOk};
-ghost use Rattle.blocks.specs.Blocks.{overwritten};
+ghost use Rattle.blocks.specs.Blocks.{overwritten, shifted};
 
 use crate::held::Held;
 use blocks::Memory;
@@ -44,6 +44,15 @@ impl SlabMem {
         ensures { self.new ≡ overwritten self.old at piece.now }
     {
         self.held.get_mut()[at..at + piece.len()].copy_from_slice(piece);
+    }
+
+    /// Puts the `len` bytes from `at` on over those from `to` on. The two places may overlap.
+    pub fn shift(&mut self, at: usize, to: usize, len: usize)
+        requires from { at + len ≤ 65536 }
+        requires room { to + len ≤ 65536 }
+        ensures { self.new ≡ shifted self.old at to len }
+    {
+        self.held.get_mut().copy_within(at..at + len, to);
     }
 
     /// Copies the `len` bytes from `at` on to the place `to` of another region.

@@ -90,6 +90,14 @@ impl BlockStore for ScarceStore {
         self.plain.write(at, from, piece);
     }
 
+    fn shift(&mut self, at: BlockRef, from: usize, to: usize, count: usize) {
+        self.plain.shift(at, from, to, count);
+    }
+
+    fn stretch(&mut self, at: BlockRef, len: usize) -> bool {
+        self.plain.stretch(at, len)
+    }
+
     fn give_back(&mut self, at: BlockRef) {
         self.plain.give_back(at);
     }
