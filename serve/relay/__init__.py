@@ -1,0 +1,1 @@
+"""The relay between sockets and the core program."""
