@@ -18,7 +18,11 @@ COUNT = re.compile(rb"\*([1-9][0-9]{0,6})\r\n")
 NO_WORDS = re.compile(rb"\*(?:0|-[1-9][0-9]*)\r\n")
 LENGTH = re.compile(rb"\$(0|[1-9][0-9]{0,8})\r\n")
 STATES = {b"QUIT", b"MULTI", b"EXEC", b"DISCARD"}
-LENGTHS = {len(name) for name in STATES | OWN}
+LOOKED_AT = STATES | OWN
+LENGTHS = {len(name) for name in LOOKED_AT}
+# The headers of a request's front, and of a word behind another.
+FRONT = re.compile(COUNT.pattern + LENGTH.pattern)
+NEXT = re.compile(rb"\r\n" + LENGTH.pattern)
 CR, LF, STAR, DOLLAR = b"\r\n*$"
 
 
@@ -67,6 +71,27 @@ def short_words(data, at, count):
     return words, here
 
 
+def pass_whole(data, at):
+    """Passes quickly over whole requests that are the core's, whatever was before; gives where it stands then and how many they were."""
+    count = 0
+    while front := FRONT.match(data, at):
+        words, length = front.groups()
+        length = int(length)
+        here = front.end() + length
+        if length in LENGTHS and data[front.end() : here].upper() in LOOKED_AT:
+            break
+        for _ in range(int(words) - 1):
+            head = NEXT.match(data, here)
+            if head is None:
+                return at, count
+            here = head.end() + int(head[1])
+        if not data.startswith(b"\r\n", here):
+            break
+        at = here + 2
+        count += 1
+    return at, count
+
+
 class Framer:
     """Cuts the bytes of a connection into what is the core's and what is the relay's.
 
@@ -92,6 +117,10 @@ class Framer:
         try:
             while at < len(data) and not self.ended:
                 if not self.words and not self.left:
+                    at, count = pass_whole(data, at)
+                    asked += count
+                    if at == len(data):
+                        break
                     place = self.begin(data, at)
                     if place is None:
                         break

@@ -52,7 +52,7 @@ def read(words):
     options = read_by.parse_args(words)
     if not options.core:
         options.core = os.path.join(TOP, CORE)
-        how = f"build it by `rt build` in {os.path.dirname(os.path.dirname(CORE))}, or name another by --core"
+        how = "`rt ci` at the top of the repository builds it, and --core names another"
     else:
         how = "--core names no program"
     if not os.access(options.core, os.X_OK) or os.path.isdir(options.core):

@@ -18,6 +18,8 @@ NO_ADDRESS = 71  # the status where an address can't be listened on
 AHEAD = 4 << 20
 # So many seconds clients have at the end to take what is left for them.
 LINGER = 5
+# A connection of TCP that was silent for so many seconds is asked whether it is there.
+KEEP_ALIVE = 300
 FILES_BESIDE = 64
 READS, WRITES = selectors.EVENT_READ, selectors.EVENT_WRITE
 FULL = b"-ERR max number of clients reached\r\n"
@@ -146,7 +148,7 @@ class Relay:
             refuse(sock)
             return
         if sock.family != socket.AF_UNIX:
-            sock.setsockopt(socket.IPPROTO_TCP, socket.TCP_NODELAY, 1)
+            set_up_tcp(sock)
         connection.number = number
         self.connections.add(connection)
         self.clients.register(sock, READS, connection)
@@ -281,6 +283,14 @@ class Relay:
         return status
 
 
+def set_up_tcp(sock):
+    """Replies are sent at once, and a peer that is gone without a word is noticed."""
+    sock.setsockopt(socket.IPPROTO_TCP, socket.TCP_NODELAY, 1)
+    sock.setsockopt(socket.SOL_SOCKET, socket.SO_KEEPALIVE, 1)
+    if hasattr(socket, "TCP_KEEPIDLE"):
+        sock.setsockopt(socket.IPPROTO_TCP, socket.TCP_KEEPIDLE, KEEP_ALIVE)
+
+
 def refuse(sock):
     try:
         sock.send(FULL)
@@ -311,4 +321,10 @@ def main(words):
     except listening.Refused as refused:
         note(f"can't listen on {refused}")
         return NO_ADDRESS
-    return Relay(asked, listeners, Core(options.core_words(asked))).run()
+    try:
+        core = Core(options.core_words(asked))
+    except OSError as error:
+        note(f"can't start the core program: {error}")
+        listening.close(listeners)
+        return options.USAGE
+    return Relay(asked, listeners, core).run()

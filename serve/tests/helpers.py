@@ -1,7 +1,10 @@
 """What the tests share: a relay over the stand-in core, its clients, and the stand-ins of one process."""
 import os
+import re
+import select
 import signal
 import socket
+import struct
 import subprocess
 import sys
 import tempfile
@@ -57,24 +60,41 @@ class Client:
         self.sock.close()
 
 
-class Served:
-    """A relay over the stand-in core, in a folder of its own."""
+def broken_off(client):
+    """Closes the client's socket by a reset where it is of TCP."""
+    client.sock.setsockopt(socket.SOL_SOCKET, socket.SO_LINGER, struct.pack("ii", 1, 0))
+    client.close()
 
-    def __init__(self, *words, changes=None, ready=True):
+
+class Served:
+    """A relay over a core, the stand-in where nothing else is said, with a socket in a folder of its own and a port of TCP."""
+
+    def __init__(self, *words, core=STAND_IN, changes=None, ready=True):
+        self.core = core
         self.room = tempfile.TemporaryDirectory()
         self.path = os.path.join(self.room.name, "socket")
         code = CHANGED.format(serve=SERVE, changes=changes)
         start = [sys.executable, "-c", code] if changes else [sys.executable, os.path.join(SERVE, "serve")]
-        ours = ["--port", "0", "--unix", self.path, "--core", STAND_IN]
+        ours = ["--port", "0", "--unix", self.path, "--core", core]
         self.process = subprocess.Popen([*start, *ours, *words], stdout=subprocess.PIPE, stderr=subprocess.PIPE, text=True)
         self.clients = []
-        self.line = self.process.stdout.readline() if ready else ""
+        self.line = ""
+        if ready and select.select([self.process.stdout], [], [], PATIENCE)[0]:
+            self.line = self.process.stdout.readline()
+        found = re.search(r":(\d+)[ ,]", self.line)
+        self.tcp = ("127.0.0.1", int(found[1])) if found else None
 
     def __enter__(self):
         return self
 
     def __exit__(self, *_):
-        self.stop()
+        try:
+            self.stop()
+        finally:
+            self.process.kill()
+            self.forget()
+
+    def forget(self):
         for client in self.clients:
             client.close()
         self.process.stdout.close()

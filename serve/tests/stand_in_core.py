@@ -1,7 +1,7 @@
 #!/usr/bin/env python3
 """Stands in for the core program in the tests: pieces to units over a plain dict.
 
-It knows PING, ECHO, SET, GET, INCR, DEL, SELECT, FLUSHALL, MULTI, EXEC, DISCARD, WATCH and QUIT, and for the tests alone FILL n, which
+It knows PING, ECHO, SET, GET, INCR, INCRBY, DEL, SELECT, FLUSHALL, MULTI, EXEC, DISCARD, WATCH and QUIT, and for the tests alone FILL n, which
 answers n bytes, AWAIT file, which waits until there is such a file, and DIE n, which ends the program with that status.
 """
 import argparse
@@ -149,7 +149,10 @@ class Core:
         return bulk(self.world.get((session.base, key)))
 
     def run_incr(self, session, key):
-        value = int(self.world.get((session.base, key), 0)) + 1
+        return self.run_incrby(session, key, 1)
+
+    def run_incrby(self, session, key, more):
+        value = int(self.world.get((session.base, key), 0)) + int(more)
         self.put(session, key, b"%d" % value)
         return b":%d\r\n" % value
 

@@ -6,23 +6,17 @@ import random
 import re
 import signal
 import socket
-import struct
 import subprocess
 import sys
 import tempfile
 import threading
 import unittest
+from unittest import mock
 
-from helpers import PATIENCE, SERVE, STAND_IN, Served, request
-from relay import options
+from helpers import PATIENCE, SERVE, STAND_IN, Served, broken_off, request
+from relay import options, server
 
 FULL = b"-ERR max number of clients reached\r\n"
-
-
-def broken_off(client):
-    """Closes the client's socket by a reset where it is of TCP."""
-    client.sock.setsockopt(socket.SOL_SOCKET, socket.SO_LINGER, struct.pack("ii", 1, 0))
-    client.close()
 
 
 def touch(path):
@@ -51,8 +45,8 @@ class Serving(unittest.TestCase):
     def test_it_says_where_it_listens_and_takes_tcp_too(self):
         served = self.served
         found = re.fullmatch(r"serve: listening on 127\.0\.0\.1:(\d+) and (\S+), for this machine alone\n", served.line)
-        self.assertEqual(found[2], served.path)
-        self.assertEqual(served.client(("127.0.0.1", int(found[1]))).ask("PING"), b"+PONG\r\n")
+        self.assertEqual((int(found[1]), found[2]), (served.tcp[1], served.path))
+        self.assertEqual(served.client(served.tcp).ask("PING"), b"+PONG\r\n")
 
     def test_many_requests_at_once_and_byte_by_byte(self):
         served = self.served
@@ -131,8 +125,7 @@ class Endings(unittest.TestCase):
     def test_a_broken_connection_loses_nobody_elses_replies(self):
         with Served() as served:
             gate = served.file("gate")
-            port = int(re.search(r":(\d+) ", served.line)[1])
-            first, second = served.client(("127.0.0.1", port)), served.client()
+            first, second = served.client(served.tcp), served.client()
             first.send(request("AWAIT", gate) + request("FILL", 200_000) * 20 + request("SET", "a", "whole") + b"*2\r\n$3\r\nGE")
             second.send(request("ECHO", "mine") * 100)
             self.assertEqual(served.client().ask("INFO")[:1], b"$")
@@ -233,6 +226,22 @@ class Stopping(unittest.TestCase):
             self.assertEqual(served.wait(), 8)
             self.assertEqual(served.notes(), "stand-in: ends with status 8\nserve: the core ended by itself, with status 8\n")
 
+    def test_the_core_that_ends_while_requests_wait_for_it(self):
+        with Served() as served:
+            first, second = served.client(), served.client()
+
+            def push():
+                with contextlib.suppress(OSError):
+                    while True:
+                        first.send(request("SET", "k", b"x" * 100_000))
+
+            pushing = threading.Thread(target=push)
+            pushing.start()
+            second.send(b"DIE 9\r\n")
+            self.assertEqual(second.rest(), b"")
+            pushing.join(PATIENCE)
+            self.assertEqual((served.wait(), pushing.is_alive()), (9, False))
+
     def test_a_file_that_is_not_there_is_the_cores_status(self):
         with Served("--load", "/nowhere/file", ready=False) as served:
             self.assertEqual(served.wait(), 6)
@@ -241,8 +250,7 @@ class Stopping(unittest.TestCase):
 
     def test_an_address_that_is_taken(self):
         with Served() as served:
-            port = re.search(r":(\d+) ", served.line)[1]
-            for words in (["--port", port], ["--port", "0", "--unix", served.path]):
+            for words in (["--port", str(served.tcp[1])], ["--port", "0", "--unix", served.path]):
                 ran = run("--core", STAND_IN, *words)
                 self.assertEqual(ran.returncode, 71)
                 self.assertIn("serve: can't listen on", ran.stderr)
@@ -269,6 +277,15 @@ class Words(unittest.TestCase):
         self.assertEqual((ran.returncode, ran.stdout), (64, ""))
         self.assertEqual(ran.stderr, "serve: there is no core program at /nowhere/core: --core names no program\n")
 
+    def test_a_core_that_is_no_program(self):
+        with tempfile.NamedTemporaryFile("w") as file:
+            file.write("no program")
+            file.flush()
+            os.chmod(file.name, 0o700)
+            with mock.patch.object(options, "core_words", return_value=[file.name]), contextlib.redirect_stderr(io.StringIO()) as told:
+                self.assertEqual(server.main(["--port", "0", "--core", file.name]), 64)
+        self.assertIn("serve: can't start the core program", told.getvalue())
+
     def test_wrong_words(self):
         for words in (["--port", "x"], ["--port", "65536"], ["--max-clients", "0"], ["--effort", "101"], ["more"], ["--loa", "x"]):
             told = io.StringIO()
@@ -288,7 +305,7 @@ class Many(unittest.TestCase):
     def test_connections_that_come_and_go_while_others_count(self):
         """200 connections, some broken off in the middle, and four clients that count: nothing is lost, and nobody gets another's."""
         with Served() as served:
-            wrong, port = [], int(re.search(r":(\d+) ", served.line)[1])
+            wrong = []
 
             def count():
                 client = served.client()
@@ -299,7 +316,7 @@ class Many(unittest.TestCase):
             def come_and_go(seed):
                 dice = random.Random(seed)
                 for at in range(25):
-                    client = served.client(dice.choice((served.path, ("127.0.0.1", port))))
+                    client = served.client(dice.choice((served.path, served.tcp)))
                     word = f"{seed}.{at}".encode()
                     client.send(request("ECHO", word) * 30)
                     for _ in range(dice.choice((0, 1, 30))):
