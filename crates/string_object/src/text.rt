@@ -1,4 +1,4 @@
-ghost use Rattle.std.specs.Prelude.{◌≡◌, ◌+◌, ◌<◌, ◌≤◌, ◌++◌, Some, None, [], ◌∷◌, true, false, IfOk, OnOk, OnErr, IfSome, IfNone, length};
+ghost use Rattle.std.specs.Prelude.{◌≡◌, ◌+◌, ◌<◌, ◌≤◌, ◌++◌, Some, None, [], ◌∷◌, true, false, IfOk, OnOk, OnErr, IsSome, IfSome, IfNone, length};
 ghost use Rattle.blocks.specs.Blocks.{bytes_at, overwritten, widened, with_block, Changes, Owned, Served};
 ghost use Rattle.int_text.specs.Decimal.{canonical, IsI64Text};
 ghost use Rattle.object_codec.specs.Names.{IsNameOf};
@@ -42,6 +42,23 @@ pub(crate) fn raw(at: BlockRef) -> Text
 {
     let BlockRef { slab, slot } = at;
     Text::Raw { slot, slab }
+}
+
+// Lengthens a block: in its place where its slab's class holds the length, else in another place. The answer names its bytes,
+// with zero bytes behind them.
+fn grow<B: BlockStore>(store: &mut B, at: BlockRef, len: usize) -> Result<BlockRef, Memory>
+    requires live { IsSome (B.blocks store.old at) }
+    requires longer { length (bytes_at (B.blocks store.old) at) ≤ len }
+    ensures bytes { IfOk result (λ new. B.blocks store.new new ≡ Some (widened (bytes_at (B.blocks store.old) at) len)) }
+    ensures changes { IfOk result (λ new. Changes (B.blocks store.old) (B.blocks store.new) (at ∷ []) (new ∷ [])) }
+    ensures served { Served B.step store.old store.new }
+    ensures err_blocks { OnErr result (B.blocks store.new ≡ B.blocks store.old) }
+    ensures err_slabs { OnErr result (B.heap store.new ≡ B.heap store.old) }
+{
+    if store.stretch(at, len) {
+        return Ok(at);
+    }
+    store.lengthen(at, len)
 }
 
 impl Text {
@@ -219,7 +236,7 @@ impl Text {
                 if store.bytes(at).len() == len {
                     return Ok(at);
                 }
-                store.lengthen(at, len)
+                grow(store, at, len)
             }
         }
     }

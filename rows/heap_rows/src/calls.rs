@@ -26,6 +26,24 @@ pub fn lengthened(
     Ok(Some(longer))
 }
 
+/// Whether a live block has the length now, in its place.
+pub fn stretched(heap: &mut ClassHeap, at: BlockRef, len: usize) -> bool {
+    heap.is_live(at) && heap.stretch(at, len)
+}
+
+/// Puts bytes of a live block over others of it, where both places lie in it.
+pub fn shifted(heap: &mut ClassHeap, at: BlockRef, from: usize, to: usize, count: usize) -> bool {
+    if !heap.is_live(at) {
+        return false;
+    }
+    let len = heap.bytes(at).len();
+    if count > len || from > len - count || to > len - count {
+        return false;
+    }
+    heap.shift(at, from, to, count);
+    true
+}
+
 /// Ends a block, where it is live.
 pub fn end(heap: &mut ClassHeap, at: BlockRef) -> bool {
     if !heap.is_live(at) {
@@ -108,6 +126,16 @@ impl Calls {
         let at = put_block(&mut self.heap, bytes)?;
         self.named.push(at)?;
         Ok(at.slab)
+    }
+
+    /// Writes bytes over the first of a block, where it has as many.
+    pub fn write(&mut self, number: usize, bytes: &[u8]) -> bool {
+        let at = self.at(number);
+        if !self.heap.is_live(at) || self.heap.bytes(at).len() < bytes.len() {
+            return false;
+        }
+        self.heap.write(at, 0, bytes);
+        true
     }
 
     /// Lengthens a block in steps of one byte, from one length to below another, and answers how many steps were made.

@@ -1,6 +1,6 @@
 //! What each line answers.
 
-use crate::calls::{Calls, bytes, end, runs, uses};
+use crate::calls::{Calls, bytes, end, runs, shifted, stretched, uses};
 use crate::entries::{Entries, move_all};
 use crate::regions::{self, Regions};
 use crate::twin::agree;
@@ -62,6 +62,27 @@ fn on_block(calls: &mut Calls, alloc: Global, words: &[&str]) -> Result<String, 
         "bytes" => runs_shown(alloc, bytes(&calls.heap, block)),
         "end" => told(alloc, end(&mut calls.heap, block)),
         _ => unknown(alloc),
+    }
+}
+
+// A line that changes the block of a number in its place.
+fn in_place(calls: &mut Calls, alloc: Global, words: &[&str]) -> Result<String, Memory> {
+    let number = nth(words, 1) as usize;
+    let block = calls.at(number);
+    match at(words, 0) {
+        "stretch" => told(
+            alloc,
+            stretched(&mut calls.heap, block, nth(words, 2) as usize),
+        ),
+        "shift" => {
+            let (from, to) = (nth(words, 2) as usize, nth(words, 3) as usize);
+            let count = nth(words, 4) as usize;
+            told(alloc, shifted(&mut calls.heap, block, from, to, count))
+        }
+        _ => {
+            let piece = bytes_of(alloc, at(words, 2))?;
+            told(alloc, calls.write(number, piece.as_slice()))
+        }
     }
 }
 
@@ -151,6 +172,7 @@ fn plain(state: &mut State, alloc: Global, words: &[&str]) -> Result<String, Mem
         }
         "uses" => uses_shown(alloc, &state.calls.heap),
         "calm" => told(alloc, state.calls.heap.is_calm()),
+        "stretch" | "shift" | "write" => in_place(&mut state.calls, alloc, words),
         _ => placing(&mut state.calls, alloc, words),
     }
 }

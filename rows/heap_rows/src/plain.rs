@@ -52,6 +52,14 @@ impl Slabs {
         }
     }
 
+    /// Whether a slab stands at the number whose class is the first that holds so many bytes.
+    pub fn is_slab_for(&self, number: usize, len: usize) -> bool {
+        match self.slab(number) {
+            Some(slab) => class_of(len) == Some(slab.class),
+            None => false,
+        }
+    }
+
     // The slab at a number.
     fn slab(&self, number: usize) -> Option<PlainSlab> {
         match self.numbers.get(number) {

@@ -1,6 +1,6 @@
 //! A heap beside a plain model of its slabs.
 
-use crate::calls::{bytes, end, lengthened, moved};
+use crate::calls::{bytes, end, lengthened, moved, stretched};
 use crate::plain::{Slabs, per_slab};
 use blocks::{BlockRef, BlockStore, Memory, put_block};
 use class_heap::ClassHeap;
@@ -72,6 +72,23 @@ impl Twin {
         }
     }
 
+    // Gives the block at a place of the list another length in its place, and tells whether both lengths are of one class just then.
+    fn stretch(&mut self, place: usize, len: usize) -> bool {
+        let Some(block) = self.live.get_mut(place) else {
+            return false;
+        };
+        let wanted = self.slabs.is_slab_for(block.at.slab, len);
+        if stretched(&mut self.heap, block.at, len) != wanted {
+            return false;
+        }
+        let long = match bytes(&self.heap, block.at) {
+            Some(found) => found.len(),
+            None => return false,
+        };
+        block.len = block.len.min(long);
+        long == len || !wanted
+    }
+
     // Moves the block at a place of the list, and tells whether both want it alike and move it to one number.
     fn relocate(&mut self, place: usize) -> bool {
         let Some(block) = self.live.get_mut(place) else {
@@ -120,6 +137,7 @@ impl Twin {
         match kind {
             0..40 => Ok(self.give_back(place)),
             40..46 => self.lengthen(place, LENGTHS[pick / 64 % 12]),
+            46..50 => Ok(self.stretch(place, LENGTHS[pick / 64 % 12])),
             _ => Ok(self.relocate(place)),
         }
     }

@@ -1,4 +1,4 @@
-use Rattle.std.proofs.Common.{◌+◌, ◌≤◌, arith, ap, sym, length, take, drop}
+use Rattle.std.proofs.Common.{arith, ap, sym, take, drop}
 use Rattle.std.proofs.lemmas.List.{length-take}
 use Rattle.blocks.specs.Blocks.{bytes_at, shifted}
 use Rattle.blocks.specs.Plain.{plain_blocks, plain_heap}
