@@ -1,4 +1,4 @@
-use Rattle.std.proofs.Common.{◌∙◌, ap, arith, length, take, drop, unwrap_or, []}
+use Rattle.std.proofs.Common.{◌∙◌, ap, arith, take, drop, unwrap_or, []}
 use Rattle.std.specs.Prelude.{Some}
 use Rattle.std.proofs.lemmas.List.{get_or_read, length-take}
 use Rattle.blocks.specs.Blocks.{shifted, bytes_at}

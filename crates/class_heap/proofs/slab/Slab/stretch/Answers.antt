@@ -1,4 +1,4 @@
-use Rattle.std.proofs.Common.{◌≡◌, ℕ, ◌≤◌, ◌+◌, ◌-◌, ◌*◌, cond, eqb, length, take, drop, replicate, unwrap_or, [], arith, refl, ap, ◌∙◌, sym, subst}
+use Rattle.std.proofs.Common.{◌≡◌, ℕ, ◌≤◌, ◌-◌, ◌*◌, cond, eqb, length, take, drop, replicate, unwrap_or, [], arith, refl, ap, ◌∙◌, sym, subst}
 use Rattle.std.specs.Prelude.{Some}
 use Rattle.std.proofs.lemmas.List.{get_or_read, length-take, length-drop, length-replicate}
 use Rattle.blocks.specs.Blocks.{overwritten, resized}
