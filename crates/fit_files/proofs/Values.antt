@@ -7,7 +7,7 @@ use Rattle.std.proofs.lemmas.Bool.{and_parts, leb-true}
 use Rattle.int_text.specs.Decimal.{canonical}
 use Rattle.int_text.specs.declared.score.ScoreFault.{ScoreFault}
 use Rattle.plain_world.specs.Worlds.{Value, Str, ListOf, SetOf, HashOf, SortedOf, StreamOf}
-use Rattle.plain_model.specs.ScoreTexts.{score_of}
+use Rattle.plain_world.specs.ScoreTexts.{score_of}
 use Rattle.rdb_grammar.specs.declared.fault.LoadKind.{LoadKind}
 use Rattle.rdb_grammar.specs.declared.fault.LoadKind.TheVariants as kinds
 use Rattle.rdb_grammar.specs.declared.values.Collection.{Collection}

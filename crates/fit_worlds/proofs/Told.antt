@@ -11,7 +11,7 @@ use Rattle.int_text.specs.declared.score.ScoreFault.TheVariants.{Malformed, NotW
 use Rattle.plain_world.specs.Words.{Words, in_lower_case}
 use Rattle.plain_world.specs.declared.refusal.Refusal.{Refusal}
 use Rattle.plain_world.specs.declared.refusal.Refusal.TheVariants.{WrongNumberOfArguments, Syntax}
-use Rattle.plain_model.specs.ScoreTexts.{is_infinity_word, is_negative, unsigned, number_in, value_of, with_sign, score_in, score_of}
+use Rattle.plain_world.specs.ScoreTexts.{is_infinity_word, is_negative, unsigned, number_in, value_of, with_sign, score_in, score_of}
 use Rattle.plain_model.specs.Shapes.{Kind, Plain, Amount, Cursor, Score, Picks, Told, told, AllTold, and_then, score, all_told, Row, fixed, second_read, by_second, repeated, NamedOption}
 use Rattle.plain_model.specs.Shapes.{options_read, with_options, with_amount, with_picks, with_picked, counted}
 use Rattle.plain_model.specs.KeyWords.{page_options, no_scan_options, page_words}
