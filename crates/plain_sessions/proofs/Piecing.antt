@@ -12,23 +12,23 @@ use Rattle.plain_sessions.specs.Laws.{PiecesAreThere, PiecesAreOne}
 
 -- ---- the head stands in the first six bytes
 
-number_front : (xs ys : List ℕ) → 2 ≤ length xs → number_in (xs ++ ys) ≡ number_in xs
+pub number_front : (xs ys : List ℕ) → 2 ≤ length xs → number_in (xs ++ ys) ≡ number_in xs
 number_front xs ys two = little_from-append 2 xs ys two
 
-length_front : (xs ys : List ℕ) → 6 ≤ length xs → length_in (xs ++ ys) ≡ length_in xs
+pub length_front : (xs ys : List ℕ) → 6 ≤ length xs → length_in (xs ++ ys) ≡ length_in xs
 length_front xs ys six =
     let front : drop 2 (xs ++ ys) ≡ drop 2 xs ++ ys = drop-append-le 2 xs ys (omega (arith, six)) in
     let left = length-drop 2 xs in
     ap (λ l. little_number 4 l) front ∙ little_from-append 4 (drop 2 xs) ys (omega (arith, six, left))
 
 -- behind the head, what more bytes bring stands behind
-sent_front : (xs ys : List ℕ) → 6 ≤ length xs → sent_in (xs ++ ys) ≡ sent_in xs ++ sent_by (number_in xs) ys
+pub sent_front : (xs ys : List ℕ) → 6 ≤ length xs → sent_in (xs ++ ys) ≡ sent_in xs ++ sent_by (number_in xs) ys
 sent_front xs ys six =
     let number : number_in (xs ++ ys) ≡ number_in xs = number_front xs ys (omega (arith, six)) in
     let behind : drop 6 (xs ++ ys) ≡ drop 6 xs ++ ys = drop-append-le 6 xs ys six in
     ap (λ n. sent_by n (drop 6 (xs ++ ys))) number ∙ ap (sent_by (number_in xs)) behind ∙ map-append (sent_from (number_in xs)) (drop 6 xs) ys
 
-sent_none : (xs : List ℕ) → length xs < 6 → sent_in xs ≡ []
+pub sent_none : (xs : List ℕ) → length xs < 6 → sent_in xs ≡ []
 sent_none xs few = ap (sent_by (number_in xs)) (drop_all 6 xs (omega (arith, few)))
 
 module _ (sessions : ℕ) where
