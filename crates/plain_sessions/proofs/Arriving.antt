@@ -99,7 +99,7 @@ kept_if : {A : Type 0} (b : Bool) (x : A) (xs ys : List A) → (if b then x ∷ 
 kept_if true x xs ys = refl
 kept_if false x xs ys = refl
 
-bytes_both : (number : ℕ) (front back : List Sent) → bytes_of number (front ++ back) ≡ bytes_of number front ++ bytes_of number back
+pub bytes_both : (number : ℕ) (front back : List Sent) → bytes_of number (front ++ back) ≡ bytes_of number front ++ bytes_of number back
 bytes_both number [] back = refl
 bytes_both number (sent ∷ front) back =
     ap (λ l. if sent.session == number then sent.byte ∷ l else l) (bytes_both number front back)
@@ -112,10 +112,10 @@ said_both number (one ∷ front) back =
     ∙ kept_if (one.session == number) one.said (said_by number front) (said_by number back)
 
 -- what is chosen
-if_true : {A : Type 0} (b : Bool) (x y : A) → b ≡ true → (if b then x else y) ≡ x
+pub if_true : {A : Type 0} (b : Bool) (x y : A) → b ≡ true → (if b then x else y) ≡ x
 if_true b x y e = ap (λ c. if c then x else y) e
 
-if_false : {A : Type 0} (b : Bool) (x y : A) → b ≡ false → (if b then x else y) ≡ y
+pub if_false : {A : Type 0} (b : Bool) (x y : A) → b ≡ false → (if b then x else y) ≡ y
 if_false b x y e = ap (λ c. if c then x else y) e
 
 -- what one session says is said by it, and by no other
