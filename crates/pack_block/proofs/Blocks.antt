@@ -1,14 +1,14 @@
 -- What blocks hold after edits of one of them.
-use Rattle.std.proofs.Common.{◌≡◌, ℕ, ◌+◌, ◌-◌, ◌≤◌, List, [], ◌∷◌, ◌++◌, Some, None, IsSome, IsTrue, Bool, true, false, unwrap_or, length, take, drop, replicate, refl, sym, ap, ◌∙◌, subst, inl, inr, arith}
+use Rattle.std.proofs.Common.{◌≡◌, ℕ, ◌+◌, ◌-◌, ◌≤◌, List, [], ◌∷◌, ◌++◌, Some, None, IsSome, IsTrue, Bool, false, unwrap_or, length, take, drop, replicate, refl, sym, ap, ◌∙◌, subst, inl, inr, arith}
 use Rattle.std.proofs.lemmas.Bool.{cond-true, cond-false, cases_Bool}
 use Rattle.std.proofs.lemmas.List.{length-replicate, length-append}
 use Rattle.blocks.specs.declared.BlockRef.{BlockRef}
-use Rattle.blocks.specs.Blocks.{Blocks, with_block, bytes_at, overwritten, resized, shifted, live, times, Changes, Owned, ref_eq}
+use Rattle.blocks.specs.Blocks.{Blocks, with_block, bytes_at, overwritten, resized, shifted, live, times, Changes, Owned}
 use Rattle.blocks.proofs.Refs.{ref_eq_refl, ref_eq_sym, cases_ref, with_block_same, with_block_other, apart_live}
 use Rattle.blocks.proofs.Change.{one, live_some, counts_placed, counts_written, counts_ended, counts_then, changes_counted, with_block_twice}
 use Rattle.blocks.proofs.Copies.{bytes_beside, with_block_apart, with_block_kept, live_bytes}
 use Rattle.blocks.proofs.Written.{bytes_at_placed}
-use Rattle.pack_block.specs.Gap.{spliced, HasGap}
+use Rattle.pack_block.specs.Gap.{HasGap}
 use Rattle.pack_block.proofs.Shapes.{gap_in, gap_wide, resized_same, spliced_same, shifted_wider, shifted_narrower, copied_around, length_around}
 
 pub owned_one : (m : Blocks) (at : BlockRef) → IsSome (m at) → Owned (at ∷ []) m
@@ -108,7 +108,7 @@ placed_blocks m both after at new bytes live fresh put ended =
 
 pub moved_gap : (m after : Blocks) (at new : BlockRef) (len from size room : ℕ) → length (bytes_at m at) ≡ len → from + size ≤ length (bytes_at m at)
     → after ≡ with_block (with_block m at None) new
-        (Some (overwritten (overwritten (replicate (len - size + room) 0) 0 (take from (bytes_at m at))) (from + room) (take (len - from - size) (drop (from + size) (bytes_at m at)))))
+    (Some (overwritten (overwritten (replicate (len - size + room) 0) 0 (take from (bytes_at m at))) (from + room) (take (len - from - size) (drop (from + size) (bytes_at m at)))))
     → HasGap after new (bytes_at m at) from size room
 moved_gap m after at new len from size room same inside is =
     let bs = bytes_at m at in

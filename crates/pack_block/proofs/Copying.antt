@@ -1,9 +1,9 @@
 -- Parts of a block copied into another.
-use Rattle.std.proofs.Common.{◌≡◌, ℕ, ◌+◌, ◌-◌, ◌≤◌, min, false, List, [], ◌++◌, Some, None, IsSome, unwrap_or, length, take, drop, refl, sym, ap, ◌∙◌, arith, take-add}
+use Rattle.std.proofs.Common.{◌≡◌, ℕ, ◌+◌, ◌≤◌, false, List, ◌++◌, Some, length, take, drop, sym, ap, ◌∙◌, arith, take-add}
 use Rattle.std.proofs.lemmas.List.{drop-drop, length-take-le, length-drop, length-append}
 use Rattle.blocks.specs.declared.BlockRef.{BlockRef}
 use Rattle.blocks.specs.Blocks.{Blocks, ref_eq, with_block, bytes_at, overwritten}
-use Rattle.blocks.proofs.Refs.{with_block_same, with_block_other}
+use Rattle.blocks.proofs.Refs.{with_block_other}
 use Rattle.blocks.proofs.Written.{bytes_at_placed}
 use Rattle.pack_block.proofs.Blocks.{written_twice}
 use Rattle.pack_block.proofs.Shapes.{overwritten_next}

@@ -1,6 +1,6 @@
 -- Listpacks in blocks after edits.
-use Rattle.std.proofs.Common.{◌≡◌, ℕ, ◌+◌, ◌-◌, ◌<◌, ◌≤◌, ◌^◌, List, [], ◌∷◌, ◌++◌, Some, None, IsSome, Result, Ok, Err, unwrap_or, length, take, drop, refl, sym, ap, ◌∙◌, subst, arith}
-use Rattle.std.specs.Prelude.{IfOk, Option, min}
+use Rattle.std.proofs.Common.{◌≡◌, ℕ, ◌+◌, ◌-◌, ◌<◌, ◌≤◌, ◌^◌, List, [], ◌∷◌, ◌++◌, Some, IsSome, Result, Ok, Err, unwrap_or, length, take, drop, refl, sym, ap, ◌∙◌, subst, arith}
+use Rattle.std.specs.Prelude.{IfOk, Option}
 use Rattle.std.specs.List.{remove_range}
 use Rattle.std.proofs.lemmas.List.{append_assoc, length-append, length-take-le, length-drop, nil_from_length}
 use Rattle.byteorder.specs.Endian.{little_bytes}
@@ -11,8 +11,8 @@ use Rattle.blocks.proofs.Change.{changes_then}
 use Rattle.listpack.specs.Pack.{IsPack, offset_of, spellings_of, texts, told}
 use Rattle.listpack.specs.Edits.{IsEdited, fewer}
 use Rattle.listpack.proofs.Offsets.{offset_rises, length_offset}
-use Rattle.listpack.proofs.Repacking.{taken_out, texts_taken_out, length-cut}
-use Rattle.pack_block.specs.Gap.{spliced, headed, HasGap}
+use Rattle.listpack.proofs.Repacking.{taken_out, length-cut}
+use Rattle.pack_block.specs.Gap.{headed, HasGap}
 use Rattle.pack_block.proofs.Blocks.{written_changes, holds_written}
 
 pub if_ok : {A E : Type 0} {P Q : A → Type 0} → ((x : A) → P x → Q x) → (r : Result A E) → IfOk r P → IfOk r Q

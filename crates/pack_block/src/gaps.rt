@@ -10,13 +10,7 @@ use crate::part::copy_part;
 use blocks::{BlockRef, BlockStore, Memory};
 
 // Makes a gap that is as wide as what stood there, or wider, in the block's place. False where its class is another then.
-fn widen<B: BlockStore>(
-    store: &mut B,
-    at: BlockRef,
-    from: usize,
-    size: usize,
-    room: usize,
-) -> bool
+fn widen<B: BlockStore>(store: &mut B, at: BlockRef, from: usize, size: usize, room: usize) -> bool
     requires live { IsSome (B.blocks store.old at) }
     requires inside { from + size ≤ length (bytes_at (B.blocks store.old) at) }
     requires wider { size ≤ room }
@@ -50,13 +44,7 @@ fn may_shorten<B: BlockStore>(store: &mut B, at: BlockRef, len: usize) -> bool
 }
 
 // Makes a gap that isn't wider than what stood there, in the block's place. False where its class is another then.
-fn narrow<B: BlockStore>(
-    store: &mut B,
-    at: BlockRef,
-    from: usize,
-    size: usize,
-    room: usize,
-) -> bool
+fn narrow<B: BlockStore>(store: &mut B, at: BlockRef, from: usize, size: usize, room: usize) -> bool
     requires live { IsSome (B.blocks store.old at) }
     requires inside { from + size ≤ length (bytes_at (B.blocks store.old) at) }
     requires narrower { room ≤ size }

@@ -9,12 +9,7 @@ use blocks::{BlockRef, BlockStore};
 const AT_ONCE: usize = 512;
 
 // So many bytes from a place on, in the room given.
-fn piece_of<'a>(
-    bytes: &[u8],
-    start: usize,
-    count: usize,
-    room: &'a mut [u8; AT_ONCE],
-) -> &'a [u8]
+fn piece_of<'a>(bytes: &[u8], start: usize, count: usize, room: &'a mut [u8; AT_ONCE]) -> &'a [u8]
     requires inside { start + count ≤ length bytes.now }
     requires few { count ≤ 512 }
     ensures { result.now ≡ take count (drop start bytes.now) }

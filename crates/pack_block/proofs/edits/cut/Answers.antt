@@ -1,4 +1,4 @@
-use Rattle.std.proofs.Common.{ap, arith}
+use Rattle.std.proofs.Common.{arith}
 use Rattle.blocks.proofs.Serve.{served_then}
 use Rattle.pack_block.proofs.Edited.{cut_bytes, headed_changes, length_gap, live_gap}
 use Rattle.pack_block.proofs.edits.cut.Goals as goal

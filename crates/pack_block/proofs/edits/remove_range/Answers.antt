@@ -1,6 +1,6 @@
-use Rattle.std.proofs.Common.{◌≡◌, ◌+◌, ◌-◌, ◌<◌, ◌≤◌, ◌^◌, ℕ, List, length, sym, ap, subst, ◌∙◌, arith}
+use Rattle.std.proofs.Common.{◌-◌, ℕ, List, length, ap, subst, arith}
 use Rattle.blocks.specs.Blocks.{bytes_at}
-use Rattle.listpack.specs.Pack.{IsPack, texts, offset_of}
+use Rattle.listpack.specs.Pack.{IsPack, texts}
 use Rattle.listpack.proofs.Offsets.{offset_rises}
 use Rattle.listpack.proofs.Repacking.{told_enough, texts_taken_out}
 use Rattle.pack_block.proofs.Edited.{if_ok, seen_is, block_taken_out}
@@ -24,8 +24,8 @@ returns-clause-entries g c =
     let old = bytes_at m c.args.at in
     let same = seen_is m c.args.at c.bytes-bytes.result.now c.bytes-bytes.ensures in
     if_ok (λ new is. block_taken_out old _ c.bytes-bytes.result.now c.args.from c.args.to c.offset_in-start.result c.offset_in-end.result c.fewer_told-count.result c.told_count.result same
-        c.requires.packed (omega (arith, c.offset_in-end.ensures.small, ap length same)) c.requires.order c.requires.inside c.offset_in-start.ensures.place c.offset_in-end.ensures.place c.told_count.ensures c.fewer_told-count.ensures
-        (omega arith) is) c.cut.result c.cut.ensures.cut
+    c.requires.packed (omega (arith, c.offset_in-end.ensures.small, ap length same)) c.requires.order c.requires.inside c.offset_in-start.ensures.place c.offset_in-end.ensures.place c.told_count.ensures c.fewer_told-count.ensures
+    (omega arith) is) c.cut.result c.cut.ensures.cut
 
 pub returns-clause-list : goal.returns-clause-list
 returns-clause-list g c =

@@ -1,4 +1,4 @@
-use Rattle.std.proofs.Common.{◌≡◌, ◌+◌, ◌≤◌, Some, [], length, unwrap_or, refl, sym, ap, ◌∙◌, arith}
+use Rattle.std.proofs.Common.{◌+◌, ◌≤◌, Some, [], unwrap_or, refl, sym, ap, ◌∙◌, arith}
 use Rattle.blocks.specs.Blocks.{with_block, bytes_at, no_step}
 use Rattle.blocks.proofs.Copies.{with_block_kept, live_bytes}
 use Rattle.blocks.proofs.Serve.{served_next}

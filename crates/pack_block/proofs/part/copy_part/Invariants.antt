@@ -1,5 +1,5 @@
-use Rattle.std.proofs.Common.{◌-◌, ◌≡◌, ◌≤◌, length, take, drop}
-use Rattle.blocks.specs.Blocks.{bytes_at, Served}
+use Rattle.std.proofs.Common.{◌-◌, ◌≡◌, ◌≤◌}
+use Rattle.blocks.specs.Blocks.{Served}
 use Rattle.pack_block.proofs.Copying.{HasPart}
 use Rattle.pack_block.proofs.part.copy_part.Given as goal
 
