@@ -8,42 +8,6 @@ cd "$(dirname "$0")/.."
 . bench/beside.sh
 [ -n "$server" ] || { echo "no redis-server on the path"; exit 2; }
 
-# writes the requests that make a dump's keys
-requests() {
-  python3 - "$1" << 'P'
-import sys
-from random import Random
-
-dice, out = Random(1), sys.stdout.buffer.write
-
-
-def request(*words):
-    words = [str(word).encode() for word in words]
-    out(b"*%d\r\n" % len(words) + b"".join(b"$%d\r\n%s\r\n" % (len(word), word) for word in words))
-
-
-def value():
-    return "%032x" % dice.getrandbits(128)
-
-
-if sys.argv[1] == "strings":
-    for n in range(1_000_000):
-        request("SET", "key:%d" % n, value())
-elif sys.argv[1] == "hashes":
-    for n in range(100_000):
-        request("HSET", "hash:%d" % n, *(word for f in range(10) for word in ("field%d" % f, value())))
-elif sys.argv[1] == "sorted_set":
-    for n in range(1_000_000):
-        request("ZADD", "z", dice.randrange(10**9), "member:%d" % n)
-elif sys.argv[1] == "list":
-    for n in range(1_000_000):
-        request("RPUSH", "l", value())
-else:
-    for n in range(1_000_000):
-        request("XADD", "stream:%d" % (n % 1000), "%d-0" % (n + 1), "field", value())
-P
-}
-
 # seconds, best of three, of the program over a file
 best_of_three() {
   python3 - "$program" "$1" << 'P'
@@ -64,7 +28,7 @@ for kind in ${1:-strings hashes sorted_set list streams}; do
   "$server" --port 0 --unixsocket "$folder/socket" --save '' --rdbcompression no --dir "$folder" > "$folder/log" &
   server_pid=$!
   until [ -S "$folder/socket" ]; do sleep 0.1; done
-  requests "$kind" | redis-cli -s "$folder/socket" --pipe > /dev/null
+  bench/kinds.py "$kind" | redis-cli -s "$folder/socket" --pipe > /dev/null
   redis-cli -s "$folder/socket" SAVE > /dev/null
   kill "$server_pid"
   wait "$server_pid" 2> /dev/null || true
