@@ -105,6 +105,18 @@ pub record PutsOn {E : Type 0} (old new : ShelfSeen) (result : Result ℕ E) (pi
   pub tally : Tallies old.faults new.faults ((old.begun ≡ true) × Fits old.room (length piece)) result
   pub room : IfOk result (λ n. new.room ≡ without old.room n)
 
+-- the bytes of the name that is made are kept as they are
+pub record Keeps {E : Type 0} (old new : ShelfSeen) (result : Result (Unit {0}) E) : Type 0 where
+  pub begun : OnOk result (old.begun ≡ true)
+  pub same : new.begun ≡ old.begun
+  pub files : OnOk result (new.files ≡ old.files)
+  pub made : new.made ≡ old.made
+  pub written : OnOk result (new.written ≡ old.written)
+  pub others : (name : List ℕ) → old.made ≡ Some name → KeepsOthers old.files new.files name
+  pub none : old.made ≡ None → new.files ≡ old.files
+  pub tally : Tallies old.faults new.faults ⊥ result
+  pub room : OnOk result (new.room ≡ old.room)
+
 -- a shelf of one name tells that it has these bytes
 abbrev pub one_file : List ℕ → List ℕ → Files
 one_file name bytes = Some (λ n. if bytes_eq n name then Some bytes else None)

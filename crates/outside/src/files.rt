@@ -1,7 +1,7 @@
 //! Files that are read or written by name.
 
 ghost use Rattle.std.specs.Prelude.{◌≤◌, ◌<◌, length, IfOk};
-ghost use Rattle.outside.specs.Files.{HostSeen, ShelfSeen, Begins, TakesOf, Makes, PutsOn};
+ghost use Rattle.outside.specs.Files.{HostSeen, ShelfSeen, Begins, TakesOf, Makes, PutsOn, Keeps};
 
 use crate::HostFault;
 
@@ -47,4 +47,12 @@ pub trait Shelf {
         ensures bound { IfOk result (λ n. n ≤ length piece.now) }
         ensures some { IfOk result (λ n. 0 < length piece.now → 0 < n) }
         ensures puts { PutsOn (seen self.old) (seen self.new) result piece.now };
+
+    /// Ends the bytes of the name that is made: the name has them from now on, in place of those that it had before it was
+    /// made, also where the process ends.
+    ///
+    /// `HostFault` comes only where the count of faults rose, and where no name is made; a call that succeeds leaves the
+    /// count.
+    fn keep(&mut self) -> Result<(), HostFault>
+        ensures { Keeps (seen self.old) (seen self.new) result };
 }

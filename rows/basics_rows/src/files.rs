@@ -6,7 +6,7 @@ use row_words::{done, number, unknown};
 use std::alloc::{AllocError, Global};
 use std::{fs, io};
 
-// Adds whether a name was begun or made.
+// Adds whether a name was begun, made or kept.
 fn add_name(told: &mut String, answer: Result<(), HostFault>) -> Result<(), AllocError> {
     match answer {
         Ok(()) => add(told, " ok;"),
@@ -30,7 +30,7 @@ fn host_calls<H: Host>(alloc: Global, host: &mut H, words: &[&str]) -> Result<St
     Ok(told)
 }
 
-// What calls of a shelf answer: a word behind a `+` is put, and any other is a name that is made.
+// What calls of a shelf answer: a word behind a `+` is put, `keep` keeps what was put, and any other is a name that is made.
 fn shelf_calls<S: Shelf>(
     alloc: Global,
     shelf: &mut S,
@@ -43,6 +43,7 @@ fn shelf_calls<S: Shelf>(
                 let put = shelf.put(piece).ok();
                 add_call(alloc, told, put, &[])?;
             }
+            b"keep" => add_name(told, shelf.keep())?,
             _ => add_name(told, shelf.make(word))?,
         }
     }
@@ -85,13 +86,30 @@ fn mem_shelf(alloc: Global, shelf: &mut MemShelf, words: &[&str]) -> Result<Stri
     Ok(told)
 }
 
-// What calls of a shelf over files answer, and then the bytes of a file.
-fn file_shelf(rt: &HostRuntime, name: &str, words: &[&str]) -> io::Result<String> {
-    let mut shelf = FileShelf::new(rt);
+// Adds the bytes of a file, or that there is none.
+fn add_file(rt: &HostRuntime, told: &mut String, name: &str) -> io::Result<()> {
+    match fs::read(rt, name) {
+        Ok(bytes) => Ok(add_call(rt.alloc(), told, Some(bytes.len()), &bytes)?),
+        Err(_) => Ok(add(told, " none;")?),
+    }
+}
+
+// What calls of a shelf over files answer: a word behind a `-` is a file that is removed, one behind a `/` a folder that is made, and
+// one behind a `?` a file whose bytes are told.
+fn file_shelf(rt: &HostRuntime, words: &[&str]) -> io::Result<String> {
+    let mut shelf = FileShelf::new(rt.alloc(), rt);
     let mut told = no_calls(rt.alloc())?;
-    shelf_calls(rt.alloc(), &mut shelf, words, &mut told)?;
-    let written = fs::read(rt, name)?;
-    add_call(rt.alloc(), &mut told, Some(written.len()), &written)?;
+    for word in words {
+        if let Some(name) = word.strip_prefix("-") {
+            fs::remove_file(rt, name)?;
+        } else if let Some(name) = word.strip_prefix("/") {
+            fs::create_dir(rt, name)?;
+        } else if let Some(name) = word.strip_prefix("?") {
+            add_file(rt, &mut told, name)?;
+        } else {
+            shelf_calls(rt.alloc(), &mut shelf, &[*word], &mut told)?;
+        }
+    }
     Ok(told)
 }
 
@@ -104,6 +122,12 @@ fn write(rt: &HostRuntime, name: &str, bytes: &[u8]) -> io::Result<String> {
 // Removes a file.
 fn remove(rt: &HostRuntime, name: &str) -> io::Result<String> {
     fs::remove_file(rt, name)?;
+    Ok(done(rt.alloc())?)
+}
+
+// Removes a folder that is empty.
+fn remove_folder(rt: &HostRuntime, name: &str) -> io::Result<String> {
+    fs::remove_dir(rt, name)?;
     Ok(done(rt.alloc())?)
 }
 
@@ -135,9 +159,10 @@ fn in_memory(alloc: Global, call: &str, words: &[&str]) -> Result<String, AllocE
 pub fn answer(rt: &HostRuntime, call: &str, words: &[&str]) -> io::Result<String> {
     match (call, words) {
         ("real_host", words) => Ok(host_calls(rt.alloc(), &mut FileHost::new(rt), words)?),
-        ("real_shelf", [name, words @ ..]) => file_shelf(rt, name, words),
+        ("real_shelf", words) => file_shelf(rt, words),
         ("write", [name, text]) => write(rt, name, text.as_bytes()),
         ("remove", [name]) => remove(rt, name),
+        ("remove_folder", [name]) => remove_folder(rt, name),
         _ => Ok(in_memory(rt.alloc(), call, words)?),
     }
 }

@@ -3,7 +3,7 @@
 ghost use Rattle.std.specs.Prelude.{◌≡◌, ◌≤◌, ◌<◌, ◌-◌, ◌&&◌, min, Option, Some, None, IfSome, IfNone, IfOk, [], length, take, drop, vec_len, true, false, is_some, map, bytes_eq, string_bytes};
 ghost use Rattle.std.specs.List.{position};
 ghost use Rattle.outside.specs.Calls.{IsCall, has_place};
-ghost use Rattle.outside.specs.Files.{Begins, TakesOf, Makes, PutsOn, file_of, begun_bytes, one_file, made_of, put_bytes};
+ghost use Rattle.outside.specs.Files.{Begins, TakesOf, Makes, PutsOn, Keeps, file_of, begun_bytes, one_file, made_of, put_bytes};
 ghost use Rattle.outside.specs.Streams.{is_empty, sure_room};
 
 use crate::memory::streams::{copy_front, write_over};
@@ -114,7 +114,7 @@ pub struct MemShelf {
 impl MemShelf {
     /// A shelf of this name, which has no bytes; the bytes of `room` are written over from the first on. It takes no memory.
     ///
-    /// `make` of another name fails, and so does a put with no room left. The calls of both kinds whose numbers, from 0,
+    /// `make` of another name fails, and so does a put with no room left. The calls of all three kinds whose numbers, from 0,
     /// stand in `failing` fail and put nothing.
     pub fn new(name: String, room: Vec<u8>, failing: Vec<u64>) -> MemShelf
         ensures seen { ⟦<MemShelf as Shelf>⟧.seen result ≡ record
@@ -191,6 +191,20 @@ impl Shelf for MemShelf {
         let count = write_over(&mut self.room, self.at, piece);
         self.at += count;
         Ok(count)
+    }
+
+    fn keep(&mut self) -> Result<(), HostFault>
+        ensures keeps { Keeps (⟦<MemShelf as Shelf>⟧.seen self.old) (⟦<MemShelf as Shelf>⟧.seen self.new) result }
+        ensures called { IsCall (record { failing = self.old.failing.items; calls = self.old.calls }) (record { failing = self.new.failing.items; calls = self.new.calls })
+            self.old.begun result }
+    {
+        let call = self.calls;
+        self.calls = self.calls.saturating_add(1);
+        if !self.begun || self.failing.contains(&call) {
+            self.faults = self.faults.saturating_add(1);
+            return Err(HostFault);
+        }
+        Ok(())
     }
 }
 

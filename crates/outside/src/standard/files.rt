@@ -1,10 +1,10 @@
-//! The real host and shelf.
+//! The real host.
 
-ghost use Rattle.std.specs.Prelude.{◌≡◌, None, Some, [], false, is_some};
+ghost use Rattle.std.specs.Prelude.{◌≡◌, None, false, is_some};
 ghost use Rattle.outside.specs.Files.{told_by};
 
-use crate::standard::streams::{read_uninterrupted, write_uninterrupted};
-use crate::{Host, HostFault, Shelf};
+use crate::standard::streams::read_uninterrupted;
+use crate::{Host, HostFault};
 use std::fs;
 use std::fs::Files;
 
@@ -54,60 +54,6 @@ impl<R: Files> Host for FileHost<R> {
         match read_uninterrupted(file, into) {
             Ok(n) => Ok(n),
             Err(_) => {
-                self.faults = self.faults.saturating_add(1);
-                Err(HostFault)
-            }
-        }
-    }
-}
-
-/// A shelf over the files of a runtime, which tells none of them.
-#[derive(Drop)]
-pub struct FileShelf<R: Files> {
-    runtime: R,
-    file: Option<R::File>,
-    faults: u64,
-}
-
-impl<R: Files> FileShelf<R> {
-    /// A shelf over the files of this runtime, or of a `&` of one, with none made and no fault so far.
-    pub fn new(runtime: R) -> FileShelf<R>
-        ensures none { result.file ≡ None }
-        ensures faults { result.faults ≡ 0 }
-    {
-        FileShelf {
-            runtime,
-            file: None,
-            faults: 0,
-        }
-    }
-}
-
-impl<R: Files> Shelf for FileShelf<R> {
-    ghost seen = { λ s. record { files = None; made = None; begun = is_some s.file; written = told_by (λ f. R.File.contents f) s.file; faults = s.faults; room = None } };
-
-    fn make(&mut self, name: &str) -> Result<(), HostFault> {
-        match fs::create(&self.runtime, name) {
-            Ok(file) => {
-                self.file = Some(file);
-                Ok(())
-            }
-            Err(_) => {
-                self.file = None;
-                self.faults = self.faults.saturating_add(1);
-                Err(HostFault)
-            }
-        }
-    }
-
-    fn put(&mut self, piece: &[u8]) -> Result<usize, HostFault> {
-        let written = match &mut self.file {
-            None => None,
-            Some(file) => write_uninterrupted(file, piece).ok(),
-        };
-        match written {
-            Some(n) => Ok(n),
-            None => {
                 self.faults = self.faults.saturating_add(1);
                 Err(HostFault)
             }
