@@ -94,7 +94,7 @@ fn add_file(rt: &HostRuntime, told: &mut String, name: &str) -> io::Result<()> {
     }
 }
 
-// What calls of a shelf over files answer: a word behind a `-` is a file that is removed, one behind a `/` a folder that is made, and
+// What calls of a shelf over files answer: a word behind a `-` is a file that is removed, one behind a `%` a folder that is made, and
 // one behind a `?` a file whose bytes are told.
 fn file_shelf(rt: &HostRuntime, words: &[&str]) -> io::Result<String> {
     let mut shelf = FileShelf::new(rt.alloc(), rt);
@@ -102,7 +102,7 @@ fn file_shelf(rt: &HostRuntime, words: &[&str]) -> io::Result<String> {
     for word in words {
         if let Some(name) = word.strip_prefix("-") {
             fs::remove_file(rt, name)?;
-        } else if let Some(name) = word.strip_prefix("/") {
+        } else if let Some(name) = word.strip_prefix("%") {
             fs::create_dir(rt, name)?;
         } else if let Some(name) = word.strip_prefix("?") {
             add_file(rt, &mut told, name)?;
