@@ -57,7 +57,7 @@ not_both a b moment world what at e file fault = let P : List ℕ → Type 0 = �
 
 module _ (files : Files) (limit : ℕ) (name : List ℕ) (moment : ℕ) where
   -- where a file that can be loaded isn't loaded the host failed or memory wanted
-  loadable_excused : (bytes : List ℕ) (world : World) → IsTold files name bytes → length bytes ≤ limit → IsFile bytes moment world → (ending : Ending)
+  pub loadable_excused : (bytes : List ℕ) (world : World) → IsTold files name bytes → length bytes ≤ limit → IsFile bytes moment world → (ending : Ending)
       → NotLoaded files limit name moment ending → Excused (status_of ending)
   loadable_excused bytes world t few file endings.Host n = inl refl
   loadable_excused bytes world t few file (endings.Refused what at) n = absurd (not_both bytes n.bytes moment world what at (sym (told_file files name bytes n.bytes t n.is)) file n.fault)

@@ -8,6 +8,6 @@ pub mod laws;
 mod lent;
 pub mod notes;
 pub mod process;
-mod starting;
+pub mod starting;
 pub mod top_call;
 pub mod words;
