@@ -1,6 +1,6 @@
 //! Bytes of one session are heard.
 
-ghost use Rattle.std.specs.Prelude.{◌≡◌, ◌≤◌, ◌+◌, ◌^◌, length};
+ghost use Rattle.std.specs.Prelude.{◌≤◌, ◌+◌, ◌^◌, length};
 ghost use Rattle.outside.specs.Pacing.{following};
 ghost use Rattle.serving.specs.Timed.{Timed};
 ghost use Rattle.serving.specs.Output.{pending_bytes};

@@ -1,6 +1,6 @@
 //! What is kept of a session's input.
 
-ghost use Rattle.std.specs.Prelude.{◌≡◌, ◌≤◌, ℕ, List, IfOk, length};
+ghost use Rattle.std.specs.Prelude.{◌≡◌, IfOk};
 ghost use Rattle.sessions.specs.Slots.{Opens, AreIdle, HasCut};
 
 use plain_world::Memory;
