@@ -71,7 +71,7 @@ bytes_other session number [] e = refl
 bytes_other session number (byte ∷ bytes) e =
     if_false (session == number) (byte ∷ bytes_of number (sent_by session bytes)) (bytes_of number (sent_by session bytes)) e ∙ bytes_other session number bytes e
 
-others_leave : (session number : ℕ) (sent : List Sent) (bytes : List ℕ) → (session == number) ≡ false → bytes_of number sent ≡ bytes_of number (sent ++ sent_by session bytes)
+pub others_leave : (session number : ℕ) (sent : List Sent) (bytes : List ℕ) → (session == number) ≡ false → bytes_of number sent ≡ bytes_of number (sent ++ sent_by session bytes)
 others_leave session number sent bytes e =
     sym (bytes_both number sent (sent_by session bytes) ∙ ap (λ l. bytes_of number sent ++ l) (bytes_other session number bytes e) ∙ append-nil (bytes_of number sent))
 
@@ -101,7 +101,7 @@ heard_first number sent feeder none gone kept =
 
 -- ---- bytes of the session
 
-own_bytes : (number : ℕ) (sent : List Sent) (bytes : List ℕ) → bytes_of number sent ++ bytes ≡ bytes_of number (sent ++ sent_by number bytes)
+pub own_bytes : (number : ℕ) (sent : List Sent) (bytes : List ℕ) → bytes_of number sent ++ bytes ≡ bytes_of number (sent ++ sent_by number bytes)
 own_bytes number sent bytes = sym (bytes_both number sent (sent_by number bytes) ∙ ap (λ l. bytes_of number sent ++ l) (bytes_own number bytes))
 
 module _ (number : ℕ) (sent : List Sent) (bytes : List ℕ) where
@@ -122,10 +122,10 @@ module _ (number : ℕ) (sent : List Sent) (bytes : List ℕ) where
     said_before : Says (bytes_of number sent) (map Asks (requests h.items))
     said_before = says_open (bytes_of number sent) feeder.kept h.items h.framed h.go_on unread
 
-    framed_all : Framed (bytes_of number sent ++ bytes) (h.items ++ more) rest
+    pub framed_all : Framed (bytes_of number sent ++ bytes) (h.items ++ more) rest
     framed_all = framed_append (bytes_of number sent ++ bytes) (feeder.kept ++ bytes) rest h.items more (framed_more (bytes_of number sent) feeder.kept bytes h.items h.framed) f
 
-    asked_all : requests (h.items ++ more) ≡ requests h.items ++ requests more
+    pub asked_all : requests (h.items ++ more) ≡ requests h.items ++ requests more
     asked_all = flat_map-append asked h.items more
 
     told_all : map Asks (requests (h.items ++ more)) ≡ map Asks (requests h.items) ++ map Asks (requests more)
@@ -134,7 +134,7 @@ module _ (number : ℕ) (sent : List Sent) (bytes : List ℕ) where
     go_on_all : GoOn (requests more) → GoOn (requests (h.items ++ more))
     go_on_all g = subst GoOn (sym asked_all) (all_append (λ words. asks_to_quit words ≡ false) (requests h.items) (requests more) h.go_on g)
 
-    brings_new : (new : List Said) → Says (bytes_of number sent ++ bytes) (map Asks (requests h.items) ++ new) → Arrive sent (sent_by number bytes) (map (arrival number) new)
+    pub brings_new : (new : List Said) → Says (bytes_of number sent ++ bytes) (map Asks (requests h.items) ++ new) → Arrive sent (sent_by number bytes) (map (arrival number) new)
     brings_new new says = stretch_arrives number sent bytes (map Asks (requests h.items)) new said_before says
 
     -- none of them ends the session, and no rule is broken
@@ -159,7 +159,7 @@ module _ (number : ℕ) (sent : List Sent) (bytes : List ℕ) where
 
     -- behind them a rule is broken
     module _ (g : GoOn (requests more)) (rule : Rule) (at : ℕ) (from : List ℕ) (fault : RequestFault rest rule from) (place : at + length from ≡ feeder.gone + length (feeder.kept ++ bytes)) where
-      breaks : BreaksAt (bytes_of number sent ++ bytes) rest rule at
+      pub breaks : BreaksAt (bytes_of number sent ++ bytes) rest rule at
       breaks =
           let long = length-append feeder.kept bytes in
           let all = length-append (bytes_of number sent) bytes in
