@@ -1,0 +1,4 @@
+pub mod Told
+pub mod Codes
+pub mod Reading
+pub mod Entries
