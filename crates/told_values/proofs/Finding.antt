@@ -1,5 +1,5 @@
 -- What is found at a key, as it is read out.
-use Rattle.std.proofs.Common.{◌≡◌, ◌∙◌, ℕ, List, [], Option, None, Some, sym, ap, subst}
+use Rattle.std.proofs.Common.{◌≡◌, ◌∙◌, ℕ, List, [], Option, Some, sym, ap, subst}
 use Rattle.std.proofs.lemmas.Option.{same_Some}
 use Rattle.blocks.specs.Blocks.{Blocks}
 use Rattle.object_codec.specs.declared.limits.Limits.{Limits}

@@ -1,22 +1,22 @@
 -- The groups of a stream, read out one after the other.
-use Rattle.std.proofs.Common.{◌≡◌, inl, inr, ℕ, zero, suc, ◌+◌, ◌-◌, ◌<◌, ◌≤◌, Bool, true, false, cond, List, [], ◌∷◌, ◌++◌, map, length, take, drop, get_or, Option, None, Some, IsSome, refl, sym, ap, subst, ◌∙◌, arith}
+use Rattle.std.proofs.Common.{◌≡◌, inl, inr, ℕ, zero, suc, ◌+◌, ◌<◌, ◌≤◌, Bool, List, [], ◌∷◌, ◌++◌, map, length, take, drop, Option, None, Some, IsSome, refl, sym, ap, subst, ◌∙◌, arith}
 use Rattle.std.specs.Prelude.{T, slice_get}
 use Rattle.std.specs.List.{filter, AllByRecursion}
 use Rattle.std.specs.Option.{option_map}
 use Rattle.std.specs.Ordering.{is_lt, is_eq, eq_by_cmp, ordering_reverse}
 use Rattle.std.specs.declared.cmp.Ordering.{Ordering}
-use Rattle.std.specs.declared.cmp.Ordering.TheVariants.{Less, Equal, Greater}
+use Rattle.std.specs.declared.cmp.Ordering.TheVariants.{Less, Greater}
 use Rattle.std.specs.Cmp.{IsTotalOrder, tied_itself}
 use Rattle.std.specs.FinMap.{FinMap, empty, entries, entries_sorted, find, from_sorted, get, get-entries, is_sorted, keys, len, len-entries, same_entries_map, entries-from_sorted, values}
 use Rattle.std.specs.FinMap.Entries.{below_all}
 use Rattle.std.proofs.lemmas.Bool.{cases_Bool, cond-true, cond-false}
-use Rattle.std.proofs.lemmas.List.{map_push, map-id, take_more, take_all, length-map}
-use Rattle.std.proofs.lemmas.Option.{slice_get-map, slice_get-get_or, slice_get_within, get_or_from_slice_get, same_Some}
+use Rattle.std.proofs.lemmas.List.{map_push, take_more, take_all, length-map}
+use Rattle.std.proofs.lemmas.Option.{slice_get-map, slice_get_within, get_or_from_slice_get, same_Some}
 use Rattle.stream_groups.proofs.Maps.{first, second, equal, less, find_below}
 use Rattle.stream_groups.proofs.Orders.{id_total, name_total}
 use Rattle.stream_groups.specs.Groups as groups
 use Rattle.stream_groups.specs.Groups.{Names, Pending, Pendings, Group, Groups, id_cmp, name_cmp, is_above, later, last_of}
-use Rattle.stream_groups.specs.Waits.{consumer_at, TellsEntry, TellsAfter, IsEntry}
+use Rattle.stream_groups.specs.Waits.{consumer_at, TellsEntry, TellsAfter}
 use Rattle.stream_groups.specs.Kept.{Name, bytes_of}
 use Rattle.stream_object.specs.declared.groups.PendingEntry.{PendingEntry}
 use Rattle.stream_object.specs.Groups.{entry_of}

@@ -1,5 +1,5 @@
 -- Members, and fields with their values, that are gathered in a map of std.
-use Rattle.std.proofs.Common.{◌≡◌, ℕ, ◌+◌, ◌<◌, List, [], ◌∷◌, ◌++◌, length, take, get_or, refl, sym, ap, ◌∙◌}
+use Rattle.std.proofs.Common.{◌≡◌, ℕ, ◌+◌, ◌<◌, List, [], ◌∷◌, ◌++◌, length, take, get_or, sym, ap, ◌∙◌}
 use Rattle.std.proofs.lemmas.List.{take_more, map_push}
 use Rattle.blocks.specs.Blocks.{Blocks}
 use Rattle.std.specs.BTreeMap.{insert_entry}

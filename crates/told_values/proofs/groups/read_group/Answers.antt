@@ -1,4 +1,4 @@
-use Rattle.std.proofs.Common.{◌≡◌, ◌∙◌, List, ℕ, Some, sym, ap}
+use Rattle.std.proofs.Common.{◌∙◌, List, ℕ, Some, sym, ap}
 use Rattle.std.specs.FinMap.{get}
 use Rattle.stream_groups.specs.Groups.{last_of}
 use Rattle.told_values.proofs.Grouped.{group_tells, last_there, named_there}

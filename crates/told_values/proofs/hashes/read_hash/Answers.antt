@@ -1,9 +1,8 @@
-use Rattle.std.proofs.Common.{◌≡◌, ◌<◌, ◌≤◌, ◌∙◌, ap, sym, [], length, get_or, arith}
+use Rattle.std.proofs.Common.{◌≡◌, ◌<◌, ◌≤◌, ◌∙◌, ap, [], length, get_or, arith}
 use Rattle.std.proofs.lemmas.List.{take_all}
-use Rattle.listpack.specs.Element.{element_text}
 use Rattle.hash_object.specs.Fields.{listed}
 use Rattle.hash_object.proofs.Depends.{fields_laws_hold}
-use Rattle.pack_pairs.specs.Pairs.{Pair, map_of_pairs}
+use Rattle.pack_pairs.specs.Pairs.{map_of_pairs}
 use Rattle.quicklist.proofs.Going.{match_as}
 use Rattle.told_values.proofs.Named.{hash_begun, hash_count, hash_more}
 use Rattle.told_values.proofs.hashes.read_hash.Goals as goal

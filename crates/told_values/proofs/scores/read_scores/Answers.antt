@@ -1,9 +1,8 @@
-use Rattle.std.proofs.Common.{rules, ◌≡◌, ◌<◌, ◌≤◌, ◌∙◌, ap, sym, ℕ, List, length, FitsSigned, Some, slice_get, arith}
+use Rattle.std.proofs.Common.{rules, ◌≡◌, ◌≤◌, ◌∙◌, ap, sym, ℕ, List, length, FitsSigned, Some, slice_get, arith}
 use Rattle.std.specs.Int.{w64}
 use Rattle.std.specs.FinMap.{empty, len}
 use Rattle.std.proofs.lemmas.Int.{to_z-of_z}
 use Rattle.std.proofs.lemmas.List.{take_all}
-use Rattle.listpack.specs.Element.{element_text}
 use Rattle.zset_object.specs.Scored.{scores, ranked}
 use Rattle.zset_object.proofs.Depends.{scored_laws_hold}
 use Rattle.quicklist.proofs.Going.{match_as}

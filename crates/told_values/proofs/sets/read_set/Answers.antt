@@ -1,4 +1,4 @@
-use Rattle.std.proofs.Common.{◌≡◌, ◌<◌, ◌≤◌, ◌∙◌, ap, sym, [], length, get_or, arith}
+use Rattle.std.proofs.Common.{◌<◌, ◌≤◌, ◌∙◌, ap, [], length, get_or, arith}
 use Rattle.std.proofs.lemmas.List.{take_all}
 use Rattle.set_object.specs.Members.{listed}
 use Rattle.set_object.specs.Strings.{set_of}

@@ -1,5 +1,4 @@
-use Rattle.std.proofs.Common.{◌≡◌, sym}
-use Rattle.stream_object.specs.Streams.{stream_of}
+use Rattle.std.proofs.Common.{sym}
 use Rattle.told_values.proofs.streams.read_stream.Goals as goal
 
 pub returns-clause-told : goal.returns-clause-told
