@@ -3,6 +3,7 @@ use Rattle.std.proofs.Common.{◌≡◌, ℕ, zero, suc, ◌<◌, ◌≤◌, Boo
 use Rattle.std.proofs.Common.{refl, sym, ap, subst, ◌∙◌, arith}
 use Rattle.std.specs.Prelude.{T, slice_get, map as list_map}
 use Rattle.std.specs.List.{insert, remove as removed}
+use Rattle.std.proofs.lemmas.List.{length-map}
 use Rattle.std.proofs.lemmas.Bool.{cond-true, cond-false, cases_Bool}
 use Rattle.std.specs.Cmp.{tied_itself}
 use Rattle.std.specs.Option.{option_map}
@@ -104,6 +105,11 @@ names_keys names rise = ap (list_map (λ (e : List ℕ × Unit {0}). e.0)) (map.
     firsts : (xs : List Name) → list_map (λ (e : List ℕ × Unit {0}). e.0) (listed xs) ≡ list_map bytes_of xs
     firsts [] = refl
     firsts (x ∷ xs) = ap (λ ys. bytes_of x ∷ ys) (firsts xs)
+
+-- As many as the names.
+pub names_len : (names : List Name) → Rise names → map.len (names_of names) ≡ length names
+names_len names rise = map.len-entries (names_of names) ∙ sym (length-map (map.entries (names_of names)) (λ (e : List ℕ × Unit {0}). e.0))
+    ∙ ap length (names_keys names rise) ∙ length-map names bytes_of
 
 -- To put a name that is there changes nothing.
 pub put_known : (names : Names) (name : List ℕ) → map.get names name ≡ Some tt → map.insert names name tt ≡ names

@@ -6,6 +6,7 @@ pub mod Gaps
 pub mod Undoing
 pub mod Changing
 pub mod Listing
+pub mod Owns
 pub mod Tallies
 pub mod Places
 pub mod Copies

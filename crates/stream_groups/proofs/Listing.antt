@@ -17,7 +17,7 @@ use Rattle.std.specs.declared.ops.Bound.TheVariants.{Excluded, Unbounded}
 use Rattle.std.proofs.lemmas.List.{length-map}
 use Rattle.std.proofs.lemmas.Option.{slice_get-map}
 use Rattle.stream_groups.specs.declared.pendings.Handed.{Handed}
-use Rattle.stream_groups.specs.Groups.{Id, Pending, Pendings, id_cmp, is_of, is_above, later, ids_of}
+use Rattle.stream_groups.specs.Groups.{Id, Pending, Pendings, id_cmp, is_of, is_above, later, own_ids}
 use Rattle.stream_groups.specs.Kept.{pending_of, pendings_of, IdsRise}
 use Rattle.stream_groups.proofs.Uses.{numbered_entries}
 
@@ -50,14 +50,10 @@ later_seen (Some above) es pending rising view = ap (λ p. filter (is_above abov
 abbrev pub owned_ids : List ℕ → List (Id × Handed) → List Id
 owned_ids consumer es = list_map (λ e. e.0) (filter (is_of consumer) (list_map seen_as es))
 
--- The ids that are asked for, as they are seen.
-pub ids_seen : (consumer : List ℕ) (above : Id) (limit : ℕ) (es : List (Id × Handed)) (pending : Pendings) → IdsRise es → pendings_of es ≡ pending
-    → ids_of pending consumer above limit ≡ take limit (owned_ids consumer (kept_later (Some above) es))
-ids_seen consumer above limit es pending rising view = ap (λ xs. take limit (list_map (λ (e : Id × Pending). e.0) (filter (is_of consumer) xs))) (later_seen (Some above) es pending rising view)
-
--- One more id of the consumer.
-pub owned_hit : (consumer : List ℕ) (e : Id × Handed) (es : List (Id × Handed)) → is_of consumer (seen_as e) ≡ true → owned_ids consumer (e ∷ es) ≡ e.0 ∷ owned_ids consumer es
-owned_hit consumer e es hit = ap (λ b. list_map (λ (x : Id × Pending). x.0) (cond b (seen_as e ∷ filter (is_of consumer) (list_map seen_as es)) (filter (is_of consumer) (list_map seen_as es)))) hit
+-- The ids of a consumer, as they are seen.
+pub own_seen : (consumer : List ℕ) (above : Option Id) (es : List (Id × Handed)) (pending : Pendings) → IdsRise es → pendings_of es ≡ pending
+    → own_ids pending consumer above ≡ owned_ids consumer (kept_later above es)
+own_seen consumer above es pending rising view = ap (λ xs. list_map (λ (e : Id × Pending). e.0) (filter (is_of consumer) xs)) (later_seen above es pending rising view)
 
 -- One more id is listed.
 pub listed_hit : (ids : List Id) (id : Id) (left : ℕ) (rest all : List Id) → 0 < left → ids ++ take left (id ∷ rest) ≡ all → (ids ++ id ∷ []) ++ take (left - 1) rest ≡ all
@@ -100,7 +96,7 @@ module _ (es : List (Id × Handed)) (pending : Pendings) (rising : IdsRise es) (
   key_seen k = ap (λ m. slice_get (map.keys m) k) (sym view) ∙ ap (λ xs. slice_get (list_map (λ (e : Id × Pending). e.0) xs) k) (numbered_entries pending_of es rising)
       ∙ ap (λ xs. slice_get xs k) (firsts es) ∙ slice_get-map (λ (e : Id × Handed). e.0) es k
 
-same_entry : (y z : Id × Pending) → Some y ≡ Some z → y ≡ z
+pub same_entry : (y z : Id × Pending) → Some y ≡ Some z → y ≡ z
 same_entry y z h = cc
 
 found_nowhere : (o : Option Pending) (y : Pending) → o ≡ Some y → o ≡ None → ⊥

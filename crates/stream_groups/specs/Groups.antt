@@ -148,10 +148,13 @@ abbrev pub later : Option Id → Pendings → List (Id × Pending)
 later None pending = map.entries pending
 later (Some above) pending = filter (is_above above) (map.entries pending)
 
+-- the ids that are pending for a consumer above another id, or all, by rising ids
+abbrev pub own_ids : Pendings → List ℕ → Option Id → List Id
+own_ids pending consumer above = list_map (λ e. e.0) (filter (is_of consumer) (later above pending))
+
 -- the first ids, up to a limit, that are pending for a consumer above another id
 abbrev pub ids_of : Pendings → List ℕ → Id → ℕ → List Id
-ids_of pending consumer above limit =
-    take limit (list_map (λ e. e.0) (filter (is_of consumer) (later (Some above) pending)))
+ids_of pending consumer above limit = take limit (own_ids pending consumer (Some above))
 
 -- a number, where it isn't 0
 abbrev pub some_if_any : ℕ → Option ℕ

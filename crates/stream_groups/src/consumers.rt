@@ -2,7 +2,7 @@
 
 ghost use Rattle.std.specs.Prelude.{◌≡◌, ◌<◌, ℕ, not, is_some, IfOk, IfErr, IfSome, OnOk, OnErr, Some, slice_get, length};
 ghost use Rattle.std.specs.Option.{option_copied, option_map};
-ghost use Rattle.std.specs.FinMap.{empty, contains_key, insert, remove, keys};
+ghost use Rattle.std.specs.FinMap.{empty, contains_key, insert, remove, len, keys};
 ghost use Rattle.stream_groups.specs.Consumers.{bytes_of, IsAt, IsGap, Rise};
 ghost use Rattle.stream_groups.specs.Groups.{name_cmp};
 ghost use Rattle.std.specs.Ordering.{eq_by_cmp};
@@ -90,6 +90,13 @@ impl Consumers {
             Ok(at) => Some(at),
             Err(_) => None,
         }
+    }
+
+    // How many names there are.
+    pub(crate) fn len(&self) -> usize
+        ensures { result ≡ len self.now }
+    {
+        self.names.len()
     }
 
     // The name at a place, by rising bytes. None comes exactly past the last.

@@ -1,10 +1,10 @@
 //! One group.
 
-ghost use Rattle.std.specs.Prelude.{◌≡◌, slice_get, not, IfOk, OnOk, OnErr, IsTrue};
-ghost use Rattle.std.specs.FinMap.{contains_key, keys};
+ghost use Rattle.std.specs.Prelude.{◌≡◌, None, length, slice_get, not, IfOk, OnOk, OnErr, IsTrue};
+ghost use Rattle.std.specs.FinMap.{contains_key, keys, len};
 ghost use Rattle.std.specs.Option.{option_copied};
 ghost use Rattle.stream_groups.specs.Waits.{IsWaiting, TellsEntry};
-ghost use Rattle.stream_groups.specs.Groups.{IsOwned, new_group, has_consumer, with_consumer, with_pending, with_again, without, delivered, last_among, ids_of, later};
+ghost use Rattle.stream_groups.specs.Groups.{IsOwned, new_group, has_consumer, with_consumer, with_pending, with_again, without, delivered, last_among, ids_of, later, own_ids};
 
 use crate::consumers::Consumers;
 use crate::pendings::Pendings;
@@ -13,9 +13,9 @@ use crate::{Id, Memory};
 use std::alloc::Global;
 use std::marker::Model;
 
-// A group.
+/// A consumer group of a stream: the last id that it handed out, its consumers, and the entries that are pending for them.
 #[derive(Drop)]
-pub(crate) struct Group {
+pub struct Group {
     last: Id,
     consumers: Consumers,
     pending: Pendings,
@@ -60,8 +60,8 @@ impl Group {
         }
     }
 
-    // The last id.
-    pub(crate) fn last(&self) -> Id
+    /// The last id that the group handed out. Each pending entry is of one of the group's consumers.
+    pub fn last(&self) -> Id
         ensures value { result ≡ self.now.last }
         ensures owned { IsOwned self.now }
     {
@@ -166,15 +166,29 @@ impl Group {
         })
     }
 
-    // The name of a consumer by its place among rising names. None comes exactly past the last.
-    pub(crate) fn consumer_name(&self, index: usize) -> Option<&[u8]>
+    /// How many consumers the group has.
+    pub fn consumers(&self) -> usize
+        ensures { result ≡ len self.now.consumers }
+    {
+        self.consumers.len()
+    }
+
+    /// The name of a consumer by its place among rising bytes of names. `None` comes exactly past the last.
+    pub fn consumer_name(&self, index: usize) -> Option<&[u8]>
         ensures { option_copied result ≡ slice_get (keys self.now.consumers) index }
     {
         self.consumers.at(index)
     }
 
-    // The first pending entry above an id, or of all.
-    pub(crate) fn pending_after(&self, above: Option<Id>) -> Option<WaitingEntry>
+    /// How many entries are pending.
+    pub fn pending_len(&self) -> u64
+        ensures { result ≡ len self.now.pending }
+    {
+        self.pending.count()
+    }
+
+    /// The first pending entry above an id, or of all. `None` comes exactly where there is none.
+    pub fn pending_after(&self, above: Option<Id>) -> Option<WaitingEntry>
         ensures { TellsEntry self.now.consumers (slice_get (later above self.now.pending) 0) result }
     {
         let (id, handed) = match self.pending.after(above) {
@@ -188,6 +202,21 @@ impl Group {
             moment: handed.moment,
             count: handed.count,
         })
+    }
+
+    /// How many entries are pending for a consumer.
+    pub fn own_len(&self, consumer: &[u8]) -> u64
+        ensures { result ≡ length (own_ids self.now.pending consumer.now None) }
+    {
+        self.pending.own_len(consumer)
+    }
+
+    /// The id of the first entry above an id, or of all, that is pending for a consumer. `None` comes exactly where there is
+    /// none.
+    pub fn own_after(&self, consumer: &[u8], above: Option<Id>) -> Option<Id>
+        ensures { result ≡ slice_get (own_ids self.now.pending consumer.now above) 0 }
+    {
+        self.pending.own_after(consumer, above)
     }
 }
 

@@ -255,8 +255,8 @@ impl Groups {
         }
     }
 
-    // The group at a place among rising bytes of names.
-    fn group_at(&self, index: usize) -> Option<&Group>
+    /// The group at a place among rising bytes of names. `None` comes exactly past the last.
+    pub fn group_at(&self, index: usize) -> Option<&Group>
         ensures { option_copied result ≡ slice_get (values self.now) index }
     {
         match self.groups.iter().nth(index) {

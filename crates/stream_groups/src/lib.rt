@@ -14,6 +14,7 @@ mod tally;
 mod waiting;
 
 pub use bytes::Bytes;
+pub use group::Group;
 pub use groups::Groups;
 pub use waiting::{Owner, Waiting, WaitingEntry};
 

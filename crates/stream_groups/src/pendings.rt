@@ -3,7 +3,7 @@
 ghost use Rattle.std.specs.Prelude.{◌≡◌, ◌-◌, ◌≤◌, ℕ, List, is_some, take, length, IfOk, IfSome, OnOk, OnErr, Some, None, slice_get};
 ghost use Rattle.std.specs.Option.{option_copied, option_map};
 ghost use Rattle.std.specs.FinMap.{empty, get, contains_key, insert, remove, len, keys};
-ghost use Rattle.stream_groups.specs.Groups.{again_in, placed, ids_of, later, tallied};
+ghost use Rattle.stream_groups.specs.Groups.{again_in, placed, ids_of, later, own_ids, tallied};
 ghost use Rattle.stream_groups.specs.Kept.{pending_of, restored, undone, logged};
 
 use crate::consumers::{Name, is_named};
@@ -183,22 +183,53 @@ impl Pendings {
         ensures { IfOk result (λ ids. ids.items ≡ ids_of self.now consumer.now above limit) }
     {
         let mut ids = Vec::new(alloc);
-        let mut rest = self
-            .entries
-            .range((Bound::Excluded(above), Bound::Unbounded));
+        let mut above = above;
         let mut left = limit;
         while left > 0 {
-            match rest.next() {
+            match self.own_after(consumer, Some(above)) {
                 None => return Ok(ids),
-                Some((id, handed)) => {
-                    if is_named(&handed.consumer, consumer) {
-                        ids.push(*id)?;
-                        left -= 1;
-                    }
+                Some(id) => {
+                    ids.push(id)?;
+                    above = id;
+                    left -= 1;
                 }
             }
         }
         Ok(ids)
+    }
+
+    // The id of the first entry above an id, or of all, that is pending for a consumer.
+    pub(crate) fn own_after(&self, consumer: &[u8], above: Option<Id>) -> Option<Id>
+        ensures { result ≡ slice_get (own_ids self.now consumer.now above) 0 }
+    {
+        let start = match above {
+            None => Bound::Unbounded,
+            Some(id) => Bound::Excluded(id),
+        };
+        let mut rest = self.entries.range((start, Bound::Unbounded));
+        while let Some((id, handed)) = rest.next() {
+            if is_named(&handed.consumer, consumer) {
+                return Some(*id);
+            }
+        }
+        None
+    }
+
+    // How many entries are pending for a consumer.
+    pub(crate) fn own_len(&self, consumer: &[u8]) -> u64
+        ensures { result ≡ length (own_ids self.now consumer.now None) }
+    {
+        let most = self.count();
+        let mut count = 0;
+        let mut above = None;
+        while count < most {
+            match self.own_after(consumer, above) {
+                None => return count,
+                Some(id) => above = Some(id),
+            }
+            count += 1;
+        }
+        count
     }
 
     // The first entry above an id, or of all.

@@ -10,7 +10,7 @@ ghost use Rattle.stream_object.specs.Streams.{pair_of};
 
 use crate::Memory;
 use crate::stream::Stream;
-use stream_groups::{Id as Pair, Owner};
+use stream_groups::{Group, Id as Pair, Owner};
 use stream_node::Id;
 
 /// What is pending in a group: how many ids, the least and the greatest of them, and the consumers for which some are
@@ -187,5 +187,12 @@ impl Stream {
                 count: entry.count,
             }),
         }
+    }
+
+    /// The group at a place among rising bytes of names. `None` comes exactly past the last.
+    pub fn group_at(&self, index: usize) -> Option<&Group>
+        ensures { option_copied result ≡ slice_get (values self.now.groups) index }
+    {
+        self.groups.group_at(index)
     }
 }

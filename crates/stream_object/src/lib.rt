@@ -35,7 +35,7 @@ pub use groups::{Pending, PendingEntry};
 pub use laws::stream_laws;
 pub use owned::Owned;
 pub use stream::Stream;
-pub use stream_groups::{Bytes, Owner};
+pub use stream_groups::{Bytes, Group, Owner};
 pub use stream_node::{Id, Pairs};
 
 /// Want of memory.
