@@ -17,3 +17,4 @@ pub mod Putting
 pub mod Giving
 pub mod Feeds
 pub mod FeederSteps
+pub mod Longer

@@ -10,7 +10,7 @@ use itoa::Buffer;
 use outside::{Sink, WriteFault};
 
 // What is wrong where this rule is broken.
-fn text_of_rule(rule: Rule) -> &'static [u8]
+pub(crate) fn text_of_rule(rule: Rule) -> &'static [u8]
     ensures { result.now ≡ rule_text rule }
 {
     match rule {

@@ -26,7 +26,7 @@ pub fn put_all<O: Sink>(sink: &mut O, piece: &[u8]) -> Result<(), WriteFault>
 }
 
 // The line of a refusal.
-fn refusal_line(refusal: Refusal) -> &'static [u8]
+pub(crate) fn refusal_line(refusal: Refusal) -> &'static [u8]
     ensures { result.now ≡ refusal_text refusal ++ line_end }
 {
     match refusal {

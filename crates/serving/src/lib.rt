@@ -11,5 +11,7 @@ mod writing;
 
 pub use answering::moment_of;
 pub use ending::Ended;
+pub use pending::{Pending, flush};
 pub use pieces::serve_input;
 pub use server::{Done, Server};
+pub use writing::write_parts;

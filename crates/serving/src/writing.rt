@@ -77,8 +77,8 @@ fn write_part<O: Sink>(part: &Part, pending: &mut Pending, output: &mut O) -> Re
     put_part(output, part)
 }
 
-// Writes the parts of a reply one by one. The end of the reply may be pending.
-fn write_parts<O: Sink>(
+/// Writes the parts of a reply one by one, behind what is pending. The end of the reply may be pending. It takes no memory.
+pub fn write_parts<O: Sink>(
     reply: &Reply,
     pending: &mut Pending,
     output: &mut O,
