@@ -1,0 +1,12 @@
+//! Sessions at one engine, each with a database of its own, a queue inside MULTI, and watched keys.
+#![tactic(auto)]
+
+mod answering;
+mod asking;
+mod desk;
+mod engine;
+mod session;
+mod watching;
+
+pub use desk::Desk;
+pub use engine::DeskEngine;
