@@ -1,10 +1,10 @@
 #!/usr/bin/env python3
-"""Asks the built program what no row can: its real streams, files, clock and pacers, and what is too large for `./test`.
+"""Asks the built programs what no row can: their real streams, files, clock and pacers, and what is too large for `./test`.
 
 usage: bench/built.py
 
 Rows of words, input, output, standard error and status; a hundred thousand generated commands, twice, by the lines of generated.py;
-a packed hash, set and sorted set at the greatest limit; and a sorted set of 1,200,000 members, each of which came into its middle.
+a packed hash, set and sorted set at the greatest limit; and a sorted set of 1,200,000 members, each of which came into its middle. Then the program of several sessions, by sessions.py.
 The last line is 'N passed, M failed', and the status 0 where none failed.
 """
 import os
@@ -15,6 +15,7 @@ import tempfile
 
 # nothing is left beside the sources
 sys.dont_write_bytecode = True
+import sessions  # noqa: E402
 from resp import request  # noqa: E402
 
 HERE = os.path.dirname(os.path.abspath(__file__))
@@ -135,9 +136,9 @@ def middle():
 
 
 def main():
-    if not os.access(PROGRAM, os.X_OK):
-        sys.exit("build the program first: rt ci")
-    cases = [rows, full_device, steady_work, generated, packed_hash, packed_set, packed_sorted_set, middle]
+    if not all(os.access(program, os.X_OK) for program in (PROGRAM, sessions.PROGRAM)):
+        sys.exit("build the programs first: rt ci")
+    cases = [rows, full_device, steady_work, generated, packed_hash, packed_set, packed_sorted_set, middle, *sessions.CASES]
     failed = 0
     for case in cases:
         right = case()

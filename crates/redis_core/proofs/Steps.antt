@@ -4,7 +4,7 @@ use Rattle.std.specs.Prelude.{MatchResult, IfErr, codes}
 use Rattle.blocks.specs.Blocks.{Blocks, Served, no_step}
 use Rattle.plain_world.specs.Words.{Words}
 use Rattle.plain_world.specs.Worlds.{World, live}
-use Rattle.plain_model.specs.Meant.{meant, asks_to_quit, IsAsked, is_quit}
+use Rattle.plain_model.specs.Meant.{meant, quits, IsAsked, is_quit}
 use Rattle.plain_model.specs.Outcomes.{IsRefusal}
 use Rattle.plain_model.proofs.Asked.{FitsCommand, command_fits}
 use Rattle.plain_model.specs.declared.command.Command.TheVariants.{Strings, Lists, Sets, Hashes, Zsets, Streams, Keys, Connection}
@@ -39,7 +39,7 @@ use Rattle.redis_core.specs.Walking.{connection_tends, Tends, IsDefragged}
 use Rattle.redis_core.proofs.Settled.{settles_none, settles_means}
 use Rattle.redis_core.proofs.Walks.{ends_once, table_of_slabs}
 use Rattle.redis_core.specs.declared.answering.Executed.{Executed}
-use Rattle.redis_core.specs.Engines.{State, keyspace_of, world_of, Keeps, Executes, Stands, Answers, answered_with}
+use Rattle.redis_core.specs.Engines.{State, keyspace_of, world_of, Keeps, Performs, Executes, Stands, Answers, answered_with}
 
 -- what is told of a line that is known
 pub ok_told : {E : Type 0} (result : Result (List Part) E) (line : List ℕ) → line ≡ codes "OK" → IfOk result (λ reply. reply ≡ Simple line ∷ [])
@@ -254,10 +254,10 @@ observed_served step_of engine inside last e = subst (Served step_of engine.stor
 
 module _ {S : Type 0} (blocks : S → Blocks) (heap : S → Heap) (step_of : S → S → Type 0) where
   -- a reply that came says the same whatever else might have come
-  came_alone : {E : Type 0} (old new : Keyspace S) (before after : Option Walk) (at : Ctx) (words : Words) (answered : Executed)
-      → Answers {E = E} blocks heap step_of old new before after at (meant words) (Ok answered)
-      → Answers {E = ⊥} blocks heap step_of old new before after at (meant words) (Ok (record { reply = answered.reply; selected = answered.selected; quit = asks_to_quit words }))
-  came_alone old new before after at words answered a = record {
+  came_alone : {E : Type 0} (old new : Keyspace S) (before after : Option Walk) (at : Ctx) (asked : Result Command Refusal) (answered : Executed)
+      → Answers {E = E} blocks heap step_of old new before after at asked (Ok answered)
+      → Answers {E = ⊥} blocks heap step_of old new before after at asked (Ok (record { reply = answered.reply; selected = answered.selected; quit = quits asked }))
+  came_alone old new before after at asked answered a = record {
     answers = a.answers;
     quits = refl;
     served = a.served;
@@ -271,17 +271,17 @@ module _ {S : Type 0} (blocks : S → Blocks) (heap : S → Heap) (step_of : S �
   }
 
   -- an engine answers as its keyspace does, at the moment that it used
-  pub executes : {E : Type 0} (engine inside : State S) (moment : ℕ) (words : Words) (answered : Executed) (bases : Bases) (store : S) (walk : Option Walk)
+  pub performs : {E : Type 0} (engine inside : State S) (moment : ℕ) (asked : Result Command Refusal) (answered : Executed) (bases : Bases) (store : S) (walk : Option Walk)
       → inside ≡ record engine { last = max engine.last moment } → inside.is_spent ≡ false
       → Answers {E = E} blocks heap step_of (record { bases = inside.bases; store = inside.store }) (record { bases = bases; store = store }) inside.walk walk
-      (record { db = inside.selected; moment = inside.last }) (meant words) (Ok answered)
-      → Executes blocks heap step_of moment engine words answered.reply (record inside { bases = bases; store = store; selected = answered.selected; walk = walk })
-  executes engine inside moment words answered bases store walk e alive a = record {
+      (record { db = inside.selected; moment = inside.last }) asked (Ok answered)
+      → Performs blocks heap step_of moment engine asked answered.reply (record inside { bases = bases; store = store; selected = answered.selected; walk = walk })
+  performs engine inside moment asked answered bases store walk e alive a = record {
     last = ap (λ x. x.last) e;
     answers = subst
         (λ (x : State S). Answers {E = ⊥} blocks heap step_of (keyspace_of x) (record { bases = bases; store = store }) x.walk walk (record { db = x.selected; moment = inside.last })
-        (meant words) (Ok (record { reply = answered.reply; selected = answered.selected; quit = asks_to_quit words }))) e
-        (came_alone (keyspace_of inside) (record { bases = bases; store = store }) inside.walk walk (record { db = inside.selected; moment = inside.last }) words answered a);
+        asked (Ok (record { reply = answered.reply; selected = answered.selected; quit = quits asked }))) e
+        (came_alone (keyspace_of inside) (record { bases = bases; store = store }) inside.walk walk (record { db = inside.selected; moment = inside.last }) asked answered a);
     alive = alive;
   }
 

@@ -18,6 +18,7 @@ use Rattle.plain_model.specs.declared.command.Command.TheVariants.{Connection}
 use Rattle.plain_model.specs.declared.connection.ConnectionCommand.TheVariants as connection
 use Rattle.keyspace.specs.Databases.{Keyspace}
 use Rattle.keyspace.specs.Shown.{class_slabs, has_slab, used_classes, ListsSlabs}
+use Rattle.redis_core.specs.Engines.{State, Performs, keyspace_of}
 use Rattle.redis_core.specs.Walking.{WalksOn, IsTidy, HasLeastSlabs, Defrags, TendsMeant, EndsPass}
 use Rattle.redis_core.specs.Walking.{Defrags as defrags}
 use Rattle.redis_core.proofs.Tidy.{step_tidy, step_least}
@@ -107,3 +108,8 @@ module _ {S : Type 0} (blocks : S → Blocks) (heap : S → Heap) where
   ends_least (Ok (Connection (connection.DebugDefrag steps))) old new before after reply tends none ends =
       pass_least steps old new before after tends.ended tends.defrags (one_told tends.ended (sym tends.is ∙ ends)) (subst (λ (walk : Option Walk). IsTidy blocks heap old walk) (sym none) tt)
   ends_least other old new before after reply tends none ends = absurd ends
+
+  -- the same of a step of an engine
+  pub performs_least : (step_of : S → S → Type 0) (moment : ℕ) (old : State S) (asked : Result Command Refusal) (reply : List Part) (new : State S)
+      → Performs blocks heap step_of moment old asked reply new → old.walk ≡ None → EndsPass asked reply → HasLeastSlabs blocks heap (keyspace_of new)
+  performs_least step_of moment old asked reply new x none ends = ends_least asked (keyspace_of old) (keyspace_of new) old.walk new.walk reply x.answers.tends none ends

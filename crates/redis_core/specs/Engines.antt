@@ -6,7 +6,7 @@ use Rattle.defrag.specs.declared.walk.Walk.{Walk}
 use Rattle.plain_world.specs.Words.{Words}
 use Rattle.plain_world.specs.Worlds.{World, live, new_world}
 use Rattle.plain_model.specs.Outcomes.{IsRefusal}
-use Rattle.plain_model.specs.Meant.{meant, asks_to_quit}
+use Rattle.plain_model.specs.Meant.{meant}
 use Rattle.plain_model.specs.Meant as meaning
 use Rattle.plain_model.specs.Steps.{may_meant}
 use Rattle.plain_model.specs.declared.command.Command.{Command}
@@ -138,12 +138,18 @@ pub record Answers {S E : Type 0} (blocks : S → Blocks) (heap : S → Heap) (s
   pub settles : IfOk result (λ answered. Settles old.bases new.bases (blocks old.store) (blocks new.store))
   pub stands : Stands blocks old new at result
 
--- The step of an engine: the moment counts as the last one used where that is later, and what the words mean is
--- answered at the last one, from the databases and the walk that it has to those that it has then.
-pub record Executes {S : Type 0} (blocks : S → Blocks) (heap : S → Heap) (step_of : S → S → Type 0) (moment : ℕ)
-    (old : State S) (words : Words) (reply : List Part) (new : State S) : Type 0 where
+-- The step of an engine: the moment counts as the last one used where that is later, and what was asked, a command or a
+-- refusal, is answered at the last one, from the databases and the walk that it has to those that it has then.
+pub record Performs {S : Type 0} (blocks : S → Blocks) (heap : S → Heap) (step_of : S → S → Type 0) (moment : ℕ)
+    (old : State S) (asked : Result Command Refusal) (reply : List Part) (new : State S) : Type 0 where
   pub last : new.last ≡ max old.last moment
   pub answers : Answers {E = ⊥} blocks heap step_of (keyspace_of old) (keyspace_of new) old.walk new.walk
-      (record { db = old.selected; moment = new.last }) (meant words)
-      (Ok (record { reply = reply; selected = new.selected; quit = asks_to_quit words }))
+      (record { db = old.selected; moment = new.last }) asked
+      (Ok (record { reply = reply; selected = new.selected; quit = meaning.quits asked }))
   pub alive : new.is_spent ≡ false
+
+-- the same of what the words of a request mean
+abbrev pub Executes : {S : Type 0} → (S → Blocks) → (S → Heap) → (S → S → Type 0) → ℕ → State S → Words → List Part
+    → State S → Type 0
+Executes blocks heap step_of moment old words reply new =
+    Performs blocks heap step_of moment old (meant words) reply new

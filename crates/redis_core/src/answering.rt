@@ -175,8 +175,8 @@ fn replied(reply: Result<Reply, Memory>, selected: usize, quit: bool) -> Result<
     }
 }
 
-// Runs a command of any family. No table is made smaller after DEBUG.
-fn run<B: BlockStore>(
+/// Runs a command of any family. No table is made smaller after DEBUG.
+pub fn run<B: BlockStore>(
     keyspace: &mut Keyspace<B>,
     walk: &mut Option<Walk>,
     at: &Ctx,

@@ -1,9 +1,9 @@
 //! The engine, and what a request led to.
 
-ghost use Rattle.std.specs.Prelude.{◌≡◌, ◌<◌, ◌⊎◌, None, false, true, max, IfOk, OnErr, is_err};
+ghost use Rattle.std.specs.Prelude.{◌≡◌, ◌<◌, ◌⊎◌, None, Ok, false, true, max, IfOk, OnErr, is_err};
 ghost use Rattle.outside.specs.Files.{IsListed};
 ghost use Rattle.blocks.specs.Blocks.{no_blocks, Served};
-ghost use Rattle.plain_model.specs.Meant.{meant, asks_to_quit};
+ghost use Rattle.plain_model.specs.Meant.{meant, asks_to_quit, is_quit, IsAsked};
 ghost use Rattle.object_codec.specs.Limits.{AreInRange};
 ghost use Rattle.keyspace.specs.Sound.{Sound};
 ghost use Rattle.keyspace.specs.Scopes.{Within};
@@ -11,20 +11,20 @@ ghost use Rattle.rdb_reader.specs.Forms.{AreNew};
 ghost use Rattle.rdb_reader.specs.Fetching.{Counts, has_failed};
 ghost use Rattle.rdb_reader.specs.Taken.{TakesFile};
 ghost use Rattle.rdb_reader.specs.Loads.{Loads, load_scope};
-ghost use Rattle.redis_core.specs.Engines.{world_of, keyspace_of, HasNoKey, IsNew, Stays, Keeps, Executes, is_memory};
+ghost use Rattle.redis_core.specs.Engines.{world_of, keyspace_of, HasNoKey, IsNew, Stays, Keeps, Performs, Executes, is_memory};
 ghost use Rattle.redis_core.specs.Background.{EngineRests, no_steps};
-ghost use Rattle.redis_core.specs.Touched.{AsksNoMoves};
+ghost use Rattle.redis_core.specs.Touched.{AsksNoMoves, MovesNone};
 ghost use Rattle.redis_core.specs.Walking.{IsTidy, HasLeastSlabs, EndsPass};
 ghost use Rattle.redis_core.specs.declared.background.StepsDone.{StepsDone};
 
-use crate::answering::answer;
+use crate::answering::{answer, run};
 use crate::background::{StepsDone, work};
 use blocks::BlockStore;
 use defrag::Walk;
 use keyspace::Keyspace;
 use object_codec::Limits;
 use outside::{Host, Plan};
-use plain_model::{Ctx, Memory};
+use plain_model::{Command, Ctx, Memory};
 use rand_core::SeedableRng;
 use rand_pcg::Pcg32;
 use rdb_reader::{LoadFault, Loaded, load};
@@ -109,6 +109,21 @@ impl<B: BlockStore> Engine<B> {
         }
         self.observe(moment);
         work(&mut self.keyspace, &mut self.walk, plan, self.last)
+    }
+
+    /// Its databases and their store.
+    pub fn keyspace(&self) -> &Keyspace<B>
+        ensures keyspace { result.now ≡ keyspace_of self.now }
+        ensures sound { Sound result.now.bases (B.blocks result.now.store) }
+    {
+        &self.keyspace
+    }
+
+    /// The last moment that it used, in milliseconds; 0 where it used none yet.
+    pub fn moment(&self) -> u64
+        ensures { result ≡ self.now.last }
+    {
+        self.last
     }
 
     /// Whether a call answered `Memory`.
@@ -203,6 +218,68 @@ impl<B: BlockStore> Engine<B> {
                 Err(AllocError)
             }
         }
+    }
+}
+
+impl<B: BlockStore> Engine<B> {
+    /// Runs one command, which is what the words of some request mean, as `execute` runs that request.
+    ///
+    /// `Memory` where memory was refused in this call or an earlier one; then the open walk, or that none is open, stays.
+    pub fn perform(&mut self, command: &Command<'_>, moment: u64) -> Result<Done, Memory>
+        requires { IsAsked command.now }
+        ensures executes { IfOk result (λ done. Performs B.blocks B.heap B.step moment self.old (Ok command.now) done.reply self.new) }
+        ensures quit { IfOk result (λ done. done.quit ≡ is_quit command.now) }
+        ensures moment { self.new.last ≡ max self.old.last moment }
+        ensures spent { self.new.is_spent ≡ is_err result }
+        ensures spent_before { self.old.is_spent ≡ true → (is_err result ≡ true) × Stays self.old self.new }
+        ensures walk { is_err result ≡ true → self.new.walk ≡ self.old.walk }
+        ensures keeps { Keeps B.blocks self.old self.new }
+        ensures served { MovesNone command.now → Served B.step self.old.store self.new.store }
+        ensures least { self.old.walk ≡ None → IfOk result (λ done. EndsPass (Ok command.now) done.reply → HasLeastSlabs B.blocks B.heap (keyspace_of self.new)) }
+    {
+        self.observe(moment);
+        if self.is_spent {
+            return Err(AllocError);
+        }
+        let at = Ctx {
+            db: self.selected,
+            moment: self.last,
+        };
+        match run(
+            &mut self.keyspace,
+            &mut self.walk,
+            &at,
+            command,
+            &mut self.dice,
+        ) {
+            Ok(answered) => {
+                self.selected = answered.selected;
+                Ok(Done {
+                    reply: answered.reply,
+                    quit: answered.quit,
+                })
+            }
+            Err(_) => {
+                self.is_spent = true;
+                Err(AllocError)
+            }
+        }
+    }
+
+    /// The number of the database that is selected.
+    pub fn db(&self) -> usize
+        ensures is { result ≡ self.now.selected }
+        ensures within { result < 16 }
+    {
+        self.selected
+    }
+
+    /// Selects a database.
+    pub fn set_db(&mut self, db: usize)
+        requires { db < 16 }
+        ensures { self.new ≡ record self.old { selected = db } }
+    {
+        self.selected = db;
     }
 }
 

@@ -4,6 +4,7 @@
 mod answering;
 mod background;
 mod engine;
+mod entry;
 mod laws;
 mod settling;
 
@@ -11,3 +12,4 @@ pub use background::StepsDone;
 pub use engine::Engine;
 pub use laws::refusals_change_nothing;
 pub use serving::Done;
+pub use told_values::Entry;

@@ -1,0 +1,292 @@
+//! What a session is answered (Redis documentation, "Transactions").
+
+ghost use Rattle.std.specs.Prelude.{◌≡◌, ◌++◌, ◌∷◌, [], map, drop, None, Some, false, max, IfOk};
+ghost use Rattle.plain_world.specs.Parts.{IsReply};
+ghost use Rattle.plain_model.specs.Meant.{asks_to_quit};
+ghost use Rattle.plain_sessions.specs.Transactions.{asked_of, ok};
+ghost use Rattle.session_desk.specs.Kept.{kept_of, looks, queueing, watching};
+ghost use Rattle.session_desk.specs.Engines.{seen};
+ghost use Rattle.session_desk.specs.Watching.{watch, IsWithin};
+ghost use Rattle.session_desk.specs.Answered.{Answers, RunsOne, RunsQueue, Executes, Queues};
+
+use crate::asking::{Asks, Queueing, asks_of, queueing_of};
+use crate::engine::DeskEngine;
+use crate::session::Session;
+use crate::watching::{any_moved, watch_keys};
+use plain_world::{Line, Memory, Part, Parts, Refusal, Reply};
+use request_queue::Queue;
+use resp_frames::Request;
+use serving::Done;
+use std::alloc::{AllocError, Global};
+
+/// What a request led to, and whether a command was run.
+#[derive(Drop)]
+pub struct Answered {
+    pub done: Done,
+    pub ran: bool,
+}
+
+// A reply of one part, for which nothing was run.
+fn told(alloc: Global, part: Part) -> Result<Answered, Memory>
+    requires { IsReply (part ∷ []) }
+    ensures reply { IfOk result (λ answered. answered.done.reply ≡ part ∷ []) }
+    ensures quit { IfOk result (λ answered. answered.done.quit ≡ false) }
+    ensures ran { IfOk result (λ answered. answered.ran ≡ false) }
+{
+    let mut parts = Parts::new(alloc);
+    parts.push(part)?;
+    Ok(Answered {
+        done: Done {
+            reply: parts.into_reply(),
+            quit: false,
+        },
+        ran: false,
+    })
+}
+
+// Runs a command at once, in the session's database.
+fn run_one<E: DeskEngine>(
+    engine: &mut E,
+    session: &mut Session<E::Told>,
+    request: &Request<'_>,
+    moment: u64,
+) -> Result<Answered, Memory>
+    requires within { IsWithin session.old }
+    ensures runs { IfOk result (λ answered. RunsOne E.model E.executes moment engine.old (kept_of E.told session.old) request.now
+        (record { engine = engine.new; reply = answered.done.reply; kept = kept_of E.told session.new })) }
+    ensures quit { IfOk result (λ answered. answered.done.quit ≡ asks_to_quit request.now) }
+    ensures within { IfOk result (λ answered. IsWithin session.new) }
+    ensures alive { IfOk result (λ answered. E.spent engine.new ≡ false) }
+    ensures ran { IfOk result (λ answered. answered.ran ≡ false → engine.new ≡ engine.old) }
+{
+    engine.select(session.db);
+    let done = engine.execute(request, moment)?;
+    session.db = engine.db();
+    Ok(Answered { done, ran: true })
+}
+
+// Runs the queued commands at once, in the session's database; without any nothing is done.
+fn run_queue<E: DeskEngine>(
+    alloc: Global,
+    engine: &mut E,
+    session: &mut Session<E::Told>,
+    queue: &Queue,
+    moment: u64,
+) -> Result<Answered, Memory>
+    requires within { IsWithin session.old }
+    requires alive { E.spent engine.old ≡ false }
+    ensures runs { IfOk result (λ answered. RunsQueue E.model E.executes moment engine.old (kept_of E.told session.old) queue.now
+        (record { engine = engine.new; reply = answered.done.reply; kept = kept_of E.told session.new })) }
+    ensures quit { IfOk result (λ answered. answered.done.quit ≡ false) }
+    ensures within { IfOk result (λ answered. IsWithin session.new) }
+    ensures alive { IfOk result (λ answered. E.spent engine.new ≡ false) }
+    ensures ran { IfOk result (λ answered. answered.ran ≡ false → engine.new ≡ engine.old) }
+{
+    session.close();
+    if queue.len() == 0 {
+        return told(alloc, Part::Array(0));
+    }
+    engine.select(session.db);
+    let reply = queue.run(alloc, engine, moment)?;
+    if engine.is_spent() {
+        return Err(AllocError);
+    }
+    session.db = engine.db();
+    Ok(Answered {
+        done: Done { reply, quit: false },
+        ran: true,
+    })
+}
+
+// EXEC inside MULTI, behind these commands.
+fn exec<E: DeskEngine>(
+    alloc: Global,
+    engine: &mut E,
+    session: &mut Session<E::Told>,
+    queue: &Queue,
+    moment: u64,
+) -> Result<Answered, Memory>
+    requires within { IsWithin session.old }
+    requires alive { E.spent engine.old ≡ false }
+    ensures executes { IfOk result (λ answered. Executes E.model E.executes moment engine.old (kept_of E.told session.old) queue.now
+        (record { engine = engine.new; reply = answered.done.reply; kept = kept_of E.told session.new })) }
+    ensures quit { IfOk result (λ answered. answered.done.quit ≡ false) }
+    ensures within { IfOk result (λ answered. IsWithin session.new) }
+    ensures alive { IfOk result (λ answered. E.spent engine.new ≡ false) }
+    ensures ran { IfOk result (λ answered. answered.ran ≡ false → engine.new ≡ engine.old) }
+{
+    if session.is_spoilt {
+        session.close();
+        return told(alloc, Part::Refused(Refusal::ExecAbort));
+    }
+    let late = engine.moment().max(moment);
+    if any_moved(alloc, engine, &session.watched, late)? {
+        session.close();
+        return told(alloc, Part::NullArray);
+    }
+    run_queue(alloc, engine, session, queue, moment)
+}
+
+// WATCH outside MULTI, with the keys behind the request's first word.
+fn watch<E: DeskEngine>(
+    alloc: Global,
+    engine: &E,
+    session: &mut Session<E::Told>,
+    request: &Request<'_>,
+    moment: u64,
+) -> Result<Answered, Memory>
+    requires within { IsWithin session.old }
+    requires alive { E.spent engine.now ≡ false }
+    ensures kept { IfOk result (λ answered. kept_of E.told session.new ≡ watching (kept_of E.told session.old)
+        (looks E.told session.old.watched.items ++ map (watch (seen E.model (max (E.model.last engine.now) moment) engine.now) session.old.db) (drop 1 request.now))) }
+    ensures reply { IfOk result (λ answered. answered.done.reply ≡ ok) }
+    ensures quit { IfOk result (λ answered. answered.done.quit ≡ false) }
+    ensures ran { IfOk result (λ answered. answered.ran ≡ false) }
+    ensures within { IfOk result (λ answered. IsWithin session.new) }
+{
+    let late = engine.moment().max(moment);
+    watch_keys(
+        alloc,
+        engine,
+        &mut session.watched,
+        session.db,
+        request,
+        late,
+    )?;
+    let answered = told(alloc, Part::Simple(Line::ok()))?;
+    Ok(answered)
+}
+
+// A request outside MULTI.
+fn answer_outside<E: DeskEngine>(
+    alloc: Global,
+    engine: &mut E,
+    session: &mut Session<E::Told>,
+    request: &Request<'_>,
+    moment: u64,
+) -> Result<Answered, Memory>
+    requires within { IsWithin session.old }
+    requires alive { E.spent engine.old ≡ false }
+    requires outside { session.old.queue ≡ None }
+    ensures answers { IfOk result (λ answered. Answers E.model E.executes moment engine.old (kept_of E.told session.old) None request.now (asked_of request.now)
+        (record { engine = engine.new; reply = answered.done.reply; kept = kept_of E.told session.new })) }
+    ensures quit { IfOk result (λ answered. answered.done.quit ≡ asks_to_quit request.now) }
+    ensures within { IfOk result (λ answered. IsWithin session.new) }
+    ensures alive { IfOk result (λ answered. E.spent engine.new ≡ false) }
+    ensures ran { IfOk result (λ answered. answered.ran ≡ false → engine.new ≡ engine.old) }
+{
+    match asks_of(request) {
+        Asks::Multi => {
+            session.queue = Some(Queue::new(alloc));
+            session.is_spoilt = false;
+            told(alloc, Part::Simple(Line::ok()))
+        }
+        Asks::Exec => told(alloc, Part::Refused(Refusal::ExecWithoutMulti)),
+        Asks::Discard => told(alloc, Part::Refused(Refusal::DiscardWithoutMulti)),
+        Asks::Watch => watch(alloc, engine, session, request, moment),
+        Asks::Misnumbered => told(alloc, Part::Refused(Refusal::WrongNumberOfArguments)),
+        Asks::Common => run_one(engine, session, request, moment),
+    }
+}
+
+// A command that is none of the session's own inside MULTI, behind these.
+fn enqueue<E: DeskEngine>(
+    alloc: Global,
+    engine: &mut E,
+    session: &mut Session<E::Told>,
+    queue: Queue,
+    request: &Request<'_>,
+    moment: u64,
+) -> Result<Answered, Memory>
+    requires within { IsWithin session.old }
+    requires alive { E.spent engine.old ≡ false }
+    ensures queues { IfOk result (λ answered. Queues E.model E.executes moment engine.old (queueing (kept_of E.told session.old) queue) queue request.now (asks_to_quit request.now)
+        (record { engine = engine.new; reply = answered.done.reply; kept = kept_of E.told session.new })) }
+    ensures quit { IfOk result (λ answered. answered.done.quit ≡ asks_to_quit request.now) }
+    ensures within { IfOk result (λ answered. IsWithin session.new) }
+    ensures alive { IfOk result (λ answered. E.spent engine.new ≡ false) }
+    ensures ran { IfOk result (λ answered. answered.ran ≡ false → engine.new ≡ engine.old) }
+{
+    match queueing_of(alloc, request)? {
+        Queueing::Quits => {
+            session.queue = Some(queue);
+            run_one(engine, session, request, moment)
+        }
+        Queueing::Waits => {
+            let mut queue = queue;
+            queue.push(alloc, request)?;
+            session.queue = Some(queue);
+            told(alloc, Part::Simple(Line::queued()))
+        }
+        Queueing::Wrong(refusal) => {
+            session.queue = Some(queue);
+            session.is_spoilt = true;
+            told(alloc, Part::Refused(refusal))
+        }
+    }
+}
+
+// A request inside MULTI, behind these commands.
+fn answer_inside<E: DeskEngine>(
+    alloc: Global,
+    engine: &mut E,
+    session: &mut Session<E::Told>,
+    queue: Queue,
+    request: &Request<'_>,
+    moment: u64,
+) -> Result<Answered, Memory>
+    requires within { IsWithin session.old }
+    requires alive { E.spent engine.old ≡ false }
+    ensures answers { IfOk result (λ answered. Answers E.model E.executes moment engine.old (queueing (kept_of E.told session.old) queue) (Some queue) request.now (asked_of request.now)
+        (record { engine = engine.new; reply = answered.done.reply; kept = kept_of E.told session.new })) }
+    ensures quit { IfOk result (λ answered. answered.done.quit ≡ asks_to_quit request.now) }
+    ensures within { IfOk result (λ answered. IsWithin session.new) }
+    ensures alive { IfOk result (λ answered. E.spent engine.new ≡ false) }
+    ensures ran { IfOk result (λ answered. answered.ran ≡ false → engine.new ≡ engine.old) }
+{
+    match asks_of(request) {
+        Asks::Multi => {
+            session.queue = Some(queue);
+            told(alloc, Part::Refused(Refusal::NestedMulti))
+        }
+        Asks::Exec => exec(alloc, engine, session, &queue, moment),
+        Asks::Discard => {
+            session.close();
+            told(alloc, Part::Simple(Line::ok()))
+        }
+        Asks::Watch => {
+            session.queue = Some(queue);
+            told(alloc, Part::Refused(Refusal::WatchInsideMulti))
+        }
+        Asks::Misnumbered => {
+            session.queue = Some(queue);
+            session.is_spoilt = true;
+            told(alloc, Part::Refused(Refusal::WrongNumberOfArguments))
+        }
+        Asks::Common => enqueue(alloc, engine, session, queue, request, moment),
+    }
+}
+
+/// Answers a request of a session, by what is kept of it. `Memory` where memory was refused; then some of the queued commands may
+/// have been run.
+pub fn answer_session<E: DeskEngine>(
+    alloc: Global,
+    engine: &mut E,
+    session: &mut Session<E::Told>,
+    request: &Request<'_>,
+    moment: u64,
+) -> Result<Answered, Memory>
+    requires within { IsWithin session.old }
+    requires alive { E.spent engine.old ≡ false }
+    ensures answers { IfOk result (λ answered. Answers E.model E.executes moment engine.old (kept_of E.told session.old) session.old.queue request.now (asked_of request.now)
+        (record { engine = engine.new; reply = answered.done.reply; kept = kept_of E.told session.new })) }
+    ensures quit { IfOk result (λ answered. answered.done.quit ≡ asks_to_quit request.now) }
+    ensures within { IfOk result (λ answered. IsWithin session.new) }
+    ensures alive { IfOk result (λ answered. E.spent engine.new ≡ false) }
+    ensures ran { IfOk result (λ answered. answered.ran ≡ false → engine.new ≡ engine.old) }
+{
+    match session.queue.take() {
+        None => answer_outside(alloc, engine, session, request, moment),
+        Some(queue) => answer_inside(alloc, engine, session, queue, request, moment),
+    }
+}

@@ -1,0 +1,3 @@
+mod Deeds
+mod Worlds
+mod Whole

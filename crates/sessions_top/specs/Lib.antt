@@ -1,0 +1,7 @@
+pub mod Plain
+pub mod Statuses
+pub mod Running
+pub mod Headline
+pub mod Stepped
+pub mod TopAnswers
+pub mod Ends
