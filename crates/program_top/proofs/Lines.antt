@@ -1,12 +1,12 @@
 -- Lines of the notes, piece by piece.
-use Rattle.std.proofs.Common.{◌≡◌, ℕ, List, ◌++◌, Result, sym, ap, subst, ◌∙◌}
+use Rattle.std.proofs.Common.{◌≡◌, ℕ, List, [], ◌∷◌, ◌++◌, Result, Ok, Err, sym, ap, subst, ◌∙◌, inl, inr}
 use Rattle.std.specs.Prelude.{codes}
 use Rattle.std.specs.Fmt.{decimal}
 use Rattle.std.proofs.lemmas.List.{append_assoc}
 use Rattle.outside.specs.Streams.{SinkSeen}
 use Rattle.resp_frames.specs.Puts.{Puts, PutsAll, PutsFront}
 use Rattle.resp_frames.proofs.Putting.{puts_then, fault_stops}
-use Rattle.program_top.specs.Notes.{line_feed, numbered_fault_line, line_of}
+use Rattle.program_top.specs.Notes.{Notes, PutsLine, line_feed, numbered_fault_line, line_of}
 use Rattle.program_top.specs.declared.ending.Ending.{Ending}
 
 -- the place of a fault, and the line's end
@@ -27,6 +27,16 @@ number_then o m n text number at r p q = let P : List ℕ → Type 0 = λ l. Put
 pub number_stops : (o m : SinkSeen) (text : List ℕ) (number at : ℕ) → PutsFront o m (text ++ decimal number) → PutsFront o m (numbered_fault_line text number at)
 number_stops o m text number at p = let P : List ℕ → Type 0 = λ l. PutsFront o m l in subst P (line_is text number at) (fault_stops o m (text ++ decimal number) (place_text at) p)
 
--- the line of an ending is that of its variant
-pub line_as : {T E : Type 0} (o m : SinkSeen) (ending is : Ending) (r : Result T E) → ending ≡ is → Puts o m (line_of is) r → Puts o m (line_of ending) r
-line_as o m ending is r e p = let P : Ending → Type 0 = λ x. Puts o m (line_of x) r in subst P (sym e) p
+-- the line of an ending is that of its variant, which isn't empty
+pub line_as : {T E : Type 0} (o m : SinkSeen) (ending is : Ending) (byte : ℕ) (rest : List ℕ) (r : Result T E) → ending ≡ is → line_of is ≡ byte ∷ rest → Puts o m (line_of is) r
+    → PutsLine o m (line_of ending) r
+line_as o m ending is byte rest r e some p =
+    let P : Ending → Type 0 = λ x. PutsLine o m (line_of x) r in
+    let Q : List ℕ → Type 0 = λ l. PutsLine o m l r in
+    subst P (sym e) (subst Q (sym some) (let R : List ℕ → Type 0 = λ l. Puts o m l r in subst R some p))
+
+-- a line that was put, or a front of it, stands in the notes
+pub notes_line : {T E : Type 0} (o m : SinkSeen) (line : List ℕ) (r : Result T E) → PutsLine o m line r → Notes o m line
+notes_line o m [] r p = p
+notes_line o m (byte ∷ line) (Ok x) p = inl p
+notes_line o m (byte ∷ line) (Err e) p = inr p

@@ -1,14 +1,7 @@
 -- A whole run: when each status comes, what is counted, and its notes.
 use Rattle.std.proofs.Common.{◌≡◌, ◌<◌, ◌≤◌, ℕ, List, Option, Some, None, false, length, refl, sym, ap, subst, ◌∙◌, inl, inr, arith}
-use Rattle.std.specs.Prelude.{◌⊎◌, IsSome}
-use Rattle.outside.specs.Files.{Files, IsListed}
-use Rattle.outside.specs.Streams.{SinkSeen}
+use Rattle.std.specs.Prelude.{◌⊎◌}
 use Rattle.plain_world.specs.Words.{Words}
-use Rattle.plain_world.specs.Worlds.{World}
-use Rattle.rdb_grammar.specs.Files.{IsFile, IsFault}
-use Rattle.rdb_grammar.specs.declared.fault.LoadKind.{LoadKind}
-use Rattle.rdb_grammar.proofs.OneWorld.{exactly_one}
-use Rattle.rdb_reader.specs.Named.{IsFileOf}
 use Rattle.plain_model.specs.Meant.{asks_to_quit}
 use Rattle.resp_frames.specs.Ends.{End, Frames}
 use Rattle.serving.specs.Exactly as exactly
@@ -20,111 +13,18 @@ use Rattle.serving.proofs.Wholes.{NoWriteFault, EndsWhole}
 use Rattle.program_top.specs.Generating as generating
 use Rattle.program_top.specs.Generating.{may_generate, Writes, WritesLines}
 use Rattle.program_top.specs.Given.{Options, Given, Wrong, Run, Generate, Outside, LeavesAll}
-use Rattle.program_top.specs.Notes.{Notes, refused_line, line_of}
+use Rattle.program_top.specs.Notes.{Notes, line_of}
 use Rattle.program_top.specs.Running.{Fails, RunsOptions, begun, not_begun, RunsOf, RunsWords, read, unread}
-use Rattle.program_top.specs.Starting.{Standing, IsLoaded, BeginsWith, Begins, NotLoaded, NotBegun, UsesHost, is_host}
+use Rattle.program_top.specs.Starting.{Standing, Begins, NotBegun, UsesHost, is_host}
 use Rattle.program_top.specs.Statuses.{status_of, ending_of}
-use Rattle.program_top.specs.Headline.{may_answer, standing_clock, Concludes, NoHostFault, NoOutputFault, CountsFaults, NotesStatus, IsTold, IsAbsent, AtFirst, CanBegin, Excused}
-use Rattle.program_top.specs.Headline.{HostStops, IsRefused, Exactly, NoLinesFault, Completes, RoseAt}
+use Rattle.program_top.specs.Headline.{may_answer, standing_clock, Concludes, NoHostFault, NoOutputFault, CountsFaults, NotesStatus, CanBegin, Excused}
+use Rattle.program_top.specs.Headline.{Exactly, NoLinesFault, Completes, RoseAt}
 use Rattle.program_top.specs.Stepped.{StepsStatus}
 use Rattle.program_top.specs.TopAnswers.{TopAnswers}
 use Rattle.program_top.specs.declared.ending.Ending.{Ending}
 use Rattle.program_top.specs.declared.ending.Ending.TheVariants as endings
-use Rattle.program_top.proofs.Counted.{stayed, reads_at, reads_surely, writes_at, not_served, not_begun_status, six_is_host, host_at, host_same, host_surely, host_stops, host_alone}
-
--- ---- the bytes of a file that is told
-
--- the bytes of a name's file are those that the host tells
-told_file : (files : Files) (name bytes other : List ℕ) → IsTold files name bytes → IsFileOf files name other → other ≡ bytes
-told_file None name bytes other t o = absurd t
-told_file (Some all) name bytes other t o = cc
-
--- where the host tells that a name has no file it has no bytes
-no_file : (files : Files) (name bytes : List ℕ) → IsAbsent files name → IsFileOf files name bytes → ⊥
-no_file None name bytes none p = absurd none
-no_file (Some all) name bytes none p = cc
-
--- a name whose bytes the host tells has a file
-is_listed : (files : Files) (name bytes : List ℕ) → IsTold files name bytes → IsListed files name
-is_listed None name bytes t = absurd t
-is_listed (Some all) name bytes t = let P : Option (List ℕ) → Type 0 = λ o. IsSome o in subst P (sym t) refl
-
--- the same bytes aren't both a file of a world and at fault at one moment
-not_both : (a b : List ℕ) (moment : ℕ) (world : World) (what : LoadKind) (at : ℕ) → a ≡ b → IsFile a moment world → IsFault b moment what at → ⊥
-not_both a b moment world what at e file fault = let P : List ℕ → Type 0 = λ x. IsFile x moment world in (exactly_one b moment).not_both world what at (subst P e file) fault
-
--- ---- a file that is not loaded
-
-module _ (files : Files) (limit : ℕ) (name : List ℕ) (moment : ℕ) where
-  -- where a file that can be loaded isn't loaded the host failed or memory wanted
-  pub loadable_excused : (bytes : List ℕ) (world : World) → IsTold files name bytes → length bytes ≤ limit → IsFile bytes moment world → (ending : Ending)
-      → NotLoaded files limit name moment ending → Excused (status_of ending)
-  loadable_excused bytes world t few file endings.Host n = inl refl
-  loadable_excused bytes world t few file (endings.Refused what at) n = absurd (not_both bytes n.bytes moment world what at (sym (told_file files name bytes n.bytes t n.is)) file n.fault)
-  loadable_excused bytes world t few file endings.Limit n = absurd (omega (arith, ap length (told_file files name bytes n.bytes t n.is), few, n.long))
-  loadable_excused bytes world t few file endings.Memory n = inr refl
-  loadable_excused bytes world t few file endings.Whole n = absurd n
-  loadable_excused bytes world t few file endings.Quit n = absurd n
-  loadable_excused bytes world t few file endings.Usage n = absurd n
-  loadable_excused bytes world t few file (endings.Protocol rule at) n = absurd n
-  loadable_excused bytes world t few file endings.Cut n = absurd n
-  loadable_excused bytes world t few file endings.ReadFault n = absurd n
-  loadable_excused bytes world t few file endings.WriteFault n = absurd n
-
-  -- where the name has no file to be loaded the host failed or memory wanted
-  absent_excused : IsAbsent files name → (ending : Ending) → NotLoaded files limit name moment ending → Excused (status_of ending)
-  absent_excused none endings.Host n = inl refl
-  absent_excused none (endings.Refused what at) n = absurd (no_file files name n.bytes none n.is)
-  absent_excused none endings.Limit n = absurd (no_file files name n.bytes none n.is)
-  absent_excused none endings.Memory n = inr refl
-  absent_excused none endings.Whole n = absurd n
-  absent_excused none endings.Quit n = absurd n
-  absent_excused none endings.Usage n = absurd n
-  absent_excused none (endings.Protocol rule at) n = absurd n
-  absent_excused none endings.Cut n = absurd n
-  absent_excused none endings.ReadFault n = absurd n
-  absent_excused none endings.WriteFault n = absurd n
-
-  -- a file longer than the limit that isn't loaded gives status 9, unless the host failed or memory wanted
-  long_ends : (bytes : List ℕ) → IsTold files name bytes → limit < length bytes → (ending : Ending) → NotLoaded files limit name moment ending → (status_of ending ≡ 9)
-      ⊎ ((status_of ending ≡ 8) ⊎ (status_of ending ≡ 6))
-  long_ends bytes t long endings.Host n = inr (inr refl)
-  long_ends bytes t long (endings.Refused what at) n = absurd (omega (arith, ap length (told_file files name bytes n.bytes t n.is), n.few))
-  long_ends bytes t long endings.Limit n = inl refl
-  long_ends bytes t long endings.Memory n = inr (inl refl)
-  long_ends bytes t long endings.Whole n = absurd n
-  long_ends bytes t long endings.Quit n = absurd n
-  long_ends bytes t long endings.Usage n = absurd n
-  long_ends bytes t long (endings.Protocol rule at) n = absurd n
-  long_ends bytes t long endings.Cut n = absurd n
-  long_ends bytes t long endings.ReadFault n = absurd n
-  long_ends bytes t long endings.WriteFault n = absurd n
-
-  module _ (noted noted' : SinkSeen) where
-    -- the line of a fault is that of the file's one fault
-    line_is : (a b : List ℕ) (k l : LoadKind) (m n : ℕ) → a ≡ b → IsFault a moment k m → IsFault b moment l n → Notes noted noted' (refused_line k m) → Notes noted noted' (refused_line l n)
-    line_is a b k l m n e f g h =
-        let F : List ℕ → Type 0 = λ x. IsFault x moment k m in
-        let one = (exactly_one b moment).one_fault k l m n (subst F e f) g in
-        let P : LoadKind → Type 0 = λ x. Notes noted noted' (refused_line x m) in
-        let Q : ℕ → Type 0 = λ x. Notes noted noted' (refused_line l x) in
-        subst Q one.1 (subst P one.0 h)
-
-    -- a file within the limit with a fault gives status 7 and its line, unless the host failed or memory wanted
-    refused_ends : (bytes : List ℕ) (what : LoadKind) (at : ℕ) → IsTold files name bytes → length bytes ≤ limit → IsFault bytes moment what at → (ending : Ending)
-        → NotLoaded files limit name moment ending → Notes noted noted' (line_of ending)
-        → Excused (status_of ending) ⊎ ((status_of ending ≡ 7) × Notes noted noted' (refused_line what at))
-    refused_ends bytes what at t few fault endings.Host n w = inl (inl refl)
-    refused_ends bytes what at t few fault (endings.Refused k m) n w = inr (refl, line_is n.bytes bytes k what m at (told_file files name bytes n.bytes t n.is) n.fault fault w)
-    refused_ends bytes what at t few fault endings.Limit n w = absurd (omega (arith, ap length (told_file files name bytes n.bytes t n.is), n.long))
-    refused_ends bytes what at t few fault endings.Memory n w = inl (inr refl)
-    refused_ends bytes what at t few fault endings.Whole n w = absurd n
-    refused_ends bytes what at t few fault endings.Quit n w = absurd n
-    refused_ends bytes what at t few fault endings.Usage n w = absurd n
-    refused_ends bytes what at t few fault (endings.Protocol rule at') n w = absurd n
-    refused_ends bytes what at t few fault endings.Cut n w = absurd n
-    refused_ends bytes what at t few fault endings.ReadFault n w = absurd n
-    refused_ends bytes what at t few fault endings.WriteFault n w = absurd n
+use Rattle.program_top.proofs.Unloaded.{is_listed, excuse, Came, began, failed, files_of, eight_files}
+use Rattle.program_top.proofs.Counted.{stayed, reads_at, reads_surely, writes_at, not_served, not_begun_status, six_is_host, host_at, host_same, host_surely, host_alone}
 
 -- ---- the clauses
 
@@ -265,90 +165,16 @@ module _ (before after : Outside) (ending : Ending) (line : Notes before.notes a
   wrong_alone (Run options) (not_begun f) e = absurd (fails_read options f 1 (omega arith) e)
   wrong_alone (Generate n options) w e = absurd (not_lines n options w 1 (λ e. omega (arith, e)) (λ e. omega (arith, e)) (λ e. omega (arith, e)) e)
 
-  -- the file is this one
-  loaded_as : (options : Options) (name : List ℕ) (first : Standing) → options.file ≡ Some name → Begins options before first → IsLoaded before.host.files options.max_input name first.last first.world
-  loaded_as options name first is b = let P : Option (List ℕ) → Type 0 = λ o. BeginsWith before.host.files options.max_input o first.last first.world in subst P is b.world
+  -- how a run with these options came to its status
+  came : (options : Options) → Ran options → Came before after (status_of ending) options
+  came options (begun first last ended b host s reads is) = began first b (λ e. not_served ended 7 refl (ap status_of (sym is) ∙ e))
+  came options (not_begun f) = failed ending f refl line
 
-  -- a run that doesn't begin didn't load the file that its options name
-  not_loaded_as : (options : Options) (name : List ℕ) → options.file ≡ Some name → (f : Fails options before after ending) → NotLoaded before.host.files options.max_input name f.moment ending
-  not_loaded_as options name is f = let P : Option (List ℕ) → Type 0 = λ o. NotBegun before.host.files options.max_input o f.moment ending in subst P is f.why
-
-  -- a file within the limit that has a fault ends with status 7 and its line, or the host failed or memory wanted
-  refused : (options : Options) → Ran options → (name bytes : List ℕ) (what : LoadKind) (at : ℕ) → options.file ≡ Some name → IsTold before.host.files name bytes → length bytes ≤ options.max_input
-      → AtFirst before.clock (λ moment. IsFault bytes moment what at) → Excused (status_of ending) ⊎ ((status_of ending ≡ 7) × Notes before.notes after.notes (refused_line what at))
-  refused options (begun first last ended b host s reads is) name bytes what at file t few fault =
-      let l = loaded_as options name first file b in
-      absurd (not_both l.bytes bytes first.last first.world what at (told_file before.host.files name bytes l.bytes t l.is) l.file (fault first.last first.clock b.moment))
-  refused options (not_begun f) name bytes what at file t few fault =
-      refused_ends before.host.files options.max_input name f.moment before.notes after.notes bytes what at t few (fault f.moment after.clock f.read) ending (not_loaded_as options name file f) line
-
-  -- the file that a refusal is of
-  refusal : (options : Options) (f : Fails options before after ending) (file : Option (List ℕ)) → options.file ≡ file → NotBegun before.host.files options.max_input file f.moment ending
-      → (e : Ending) → ending ≡ e → status_of e ≡ 7 → IsRefused (Run options) before after
-  refusal options f None is n e same seven = absurd (omega (arith, ap status_of (sym n ∙ same), seven))
-  refusal options f (Some name) is n (endings.Refused what at) same seven =
-      let N : Ending → Type 0 = λ x. NotLoaded before.host.files options.max_input name f.moment x in
-      let L : Ending → Type 0 = λ x. Notes before.notes after.notes (line_of x) in
-      record {
-        options = options;
-        name = name;
-        given_is = refl;
-        file_is = is;
-        what = what;
-        at = at;
-        moment = f.moment;
-        clock = after.clock;
-        read = f.read;
-        refused = subst N same n;
-        line =
-            subst L same line;
-      }
-  refusal options f (Some name) is n endings.Host same seven = absurd (omega (arith, seven))
-  refusal options f (Some name) is n endings.Limit same seven = absurd (omega (arith, seven))
-  refusal options f (Some name) is n endings.Memory same seven = absurd (omega (arith, seven))
-  refusal options f (Some name) is n endings.Whole same seven = absurd (omega (arith, seven))
-  refusal options f (Some name) is n endings.Quit same seven = absurd (omega (arith, seven))
-  refusal options f (Some name) is n endings.Usage same seven = absurd (omega (arith, seven))
-  refusal options f (Some name) is n (endings.Protocol rule at) same seven = absurd (omega (arith, seven))
-  refusal options f (Some name) is n endings.Cut same seven = absurd (omega (arith, seven))
-  refusal options f (Some name) is n endings.ReadFault same seven = absurd (omega (arith, seven))
-  refusal options f (Some name) is n endings.WriteFault same seven = absurd (omega (arith, seven))
-
-  -- status 7 comes only of a file that is refused
-  refused_alone : (given : Given) → RanOf given → status_of ending ≡ 7 → IsRefused given before after
-  refused_alone Wrong r e = absurd (omega (arith, ap status_of r.0, e))
-  refused_alone (Run options) (begun first last ended b host s reads is) e = absurd (not_served ended 7 refl (ap status_of (sym is) ∙ e))
-  refused_alone (Run options) (not_begun f) e = refusal options f options.file refl f.why ending refl e
-  refused_alone (Generate n options) w e = absurd (not_lines n options w 7 (λ e. omega (arith, e)) (λ e. omega (arith, e)) (λ e. omega (arith, e)) e)
-
-  -- a file of more bytes than the limit ends the run with status 9, unless memory wanted or the host failed before
-  long : (options : Options) → Ran options → (name bytes : List ℕ) → options.file ≡ Some name → IsTold before.host.files name bytes → options.max_input < length bytes
-      → (status_of ending ≡ 9) ⊎ ((status_of ending ≡ 8) ⊎ HostStops before after options.max_input name (status_of ending))
-  long options (begun first last ended b host s reads is) name bytes file t h = let l = loaded_as options name first file b in
-      absurd (omega (arith, ap length (told_file before.host.files name bytes l.bytes t l.is), l.few, h))
-  long options (not_begun f) name bytes file t h = by (long_ends before.host.files options.max_input name f.moment bytes t h ending (not_loaded_as options name file f))
-    where
-      used : UsesHost options.max_input (Some name) before.host after.host (is_host ending)
-      used = let H : Option (List ℕ) → Type 0 = λ o. UsesHost options.max_input o before.host after.host (is_host ending) in subst H file f.host
-
-      by : (status_of ending ≡ 9) ⊎ ((status_of ending ≡ 8) ⊎ (status_of ending ≡ 6)) → (status_of ending ≡ 9)
-          ⊎ ((status_of ending ≡ 8) ⊎ HostStops before after options.max_input name (status_of ending))
-      by (inl nine) = inl nine
-      by (inr (inl eight)) = inr (inl eight)
-      by (inr (inr six)) = inr (inr (six, host_stops options.max_input before.host after.host name (is_host ending) used (six_is_host ending six)))
-
-  -- a run whose name has no file ends by a fault of the host, or by want of memory
-  absent : (options : Options) → Ran options → (name : List ℕ) → options.file ≡ Some name → IsAbsent before.host.files name → Excused (status_of ending)
-  absent options (begun first last ended b host s reads is) name file none = let l = loaded_as options name first file b in absurd (no_file before.host.files name l.bytes none l.is)
-  absent options (not_begun f) name file none = absent_excused before.host.files options.max_input name f.moment none ending (not_loaded_as options name file f)
-
-  -- a run that could begin
-  could_begin : (options : Options) (f : Fails options before after ending) (file : Option (List ℕ)) → CanBegin before options file
-      → NotBegun before.host.files options.max_input file f.moment ending → Excused (status_of ending)
-  could_begin options f None can n = inr (ap status_of n)
-  could_begin options f (Some name) can n =
-      let file = can.file f.moment after.clock f.read in
-      loadable_excused before.host.files options.max_input name f.moment can.bytes file.0 can.is can.few file.1 ending n
+  -- status 7 comes only where options were given
+  seven_runs : (given : Given) → RanOf given → status_of ending ≡ 7 → (options : Options) × (given ≡ Run options)
+  seven_runs Wrong r e = absurd (omega (arith, ap status_of r.0, e))
+  seven_runs (Run options) r e = (options, refl)
+  seven_runs (Generate n options) w e = absurd (not_lines n options w 7 (λ e. omega (arith, e)) (λ e. omega (arith, e)) (λ e. omega (arith, e)) e)
 
   -- a run that can begin ends as its input does, unless the host failed or memory wanted
   served : (options : Options) → Ran options → CanBegin before options options.file → Excused (status_of ending)
@@ -360,17 +186,14 @@ module _ (before after : Outside) (ending : Ending) (line : Notes before.notes a
         ends_exactly (may_answer options first) (may_answer options first) asks_to_quit options.max_input before.input after.input before.output after.output last
             ended s,
       )
-  served options (not_begun f) can = inl (could_begin options f options.file can f.why)
+  served options (not_begun f) can = inl (excuse before after options options.file ending f.moment after.clock can f.read f.why)
 
   -- each status of a run whose words were read comes exactly when it is due
   exactly_of : (given : Given) → RanOf given → Exactly given before after (status_of ending)
   exactly_of given r = record {
     wrong = λ e. let P : Given → Type 0 = RanOf in inl (ap status_of (subst P e r).0);
     wrong_alone = wrong_alone given r;
-    refused = λ options name bytes what at e. refused options (ran_as given options r e) name bytes what at;
-    refused_alone = refused_alone given r;
-    long = λ options name bytes e. long options (ran_as given options r e) name bytes;
-    absent = λ options name e. absent options (ran_as given options r e) name;
+    files = files_of before after (status_of ending) given (λ options e. came options (ran_as given options r e)) (seven_runs given r);
     generated = λ n options e. lines_status n options (wrote_as given n options r e);
     served = λ options e. served options (ran_as given options r e);
   }
@@ -383,10 +206,7 @@ module _ (before after : Outside) (ending : Ending) (line : Notes before.notes a
       record {
         wrong = λ e. inr eight;
         wrong_alone = λ one. absurd (omega (arith, one, eight));
-        refused = λ options name bytes what at e f t few fault. inl (inr eight);
-        refused_alone = λ seven. absurd (omega (arith, seven, eight));
-        long = λ options name bytes e f t h. inr (inl eight);
-        absent = λ options name e f none. inr eight;
+        files = eight_files before after (status_of ending) given eight;
         generated = λ n options e. inr (inr eight);
         served = λ options e can. inl (inr eight);
       }
@@ -431,7 +251,7 @@ module _ (before after : Outside) (ending : Ending) (line : Notes before.notes a
       asked end told frames well few no_read (no_put_fault options first b asked no_write) in
       subst P (sym is) (whole_status ended whole)
   run_completes options (not_begun f) bytes asked end can told frames well few no_host no_read no_write =
-      excused_whole (could_begin options f options.file can f.why) (no_host_fault options f options.file refl can f.why no_host)
+      excused_whole (excuse before after options options.file ending f.moment after.clock can f.read f.why) (no_host_fault options f options.file refl can f.why no_host)
 
   -- generated commands complete where the output doesn't fail, unless memory wanted
   lines_complete : (n : ℕ) (options : Options) → Wrote n options → NoLinesFault options n before after → (status_of ending ≡ 0) ⊎ (status_of ending ≡ 8)

@@ -137,10 +137,8 @@ pub record IsRefused (given : Given) (before after : Outside) : Type 0 where
   pub refused : RefusesFile before.host.files name options.max_input moment what at
   pub line : Notes before.notes after.notes (refused_line what at)
 
--- exactly when each status comes, unless the host failed or memory wanted
-pub record Exactly (given : Given) (before after : Outside) (status : ℕ) : Type 0 where
-  pub wrong : given ≡ Wrong → (status ≡ 1) ⊎ (status ≡ 8)
-  pub wrong_alone : status ≡ 1 → given ≡ Wrong
+-- what a file comes to that can't be loaded, unless the host failed or memory wanted
+pub record OfFiles (given : Given) (before after : Outside) (status : ℕ) : Type 0 where
   -- a file of at most the limit's bytes with this first fault
   pub refused : (options : Options) (name bytes : List ℕ) (what : LoadKind) (at : ℕ) → given ≡ Run options
       → options.file ≡ Some name → IsTold before.host.files name bytes → length bytes ≤ options.max_input
@@ -154,6 +152,12 @@ pub record Exactly (given : Given) (before after : Outside) (status : ℕ) : Typ
   -- a name that the host has no file of
   pub absent : (options : Options) (name : List ℕ) → given ≡ Run options → options.file ≡ Some name
       → IsAbsent before.host.files name → Excused status
+
+-- exactly when each status comes, unless the host failed or memory wanted
+pub record Exactly (given : Given) (before after : Outside) (status : ℕ) : Type 0 where
+  pub wrong : given ≡ Wrong → (status ≡ 1) ⊎ (status ≡ 8)
+  pub wrong_alone : status ≡ 1 → given ≡ Wrong
+  pub files : OfFiles given before after status
   -- generated commands end, unless the output failed
   pub generated : (n : ℕ) (options : Options) → given ≡ Generate n options
       → (status ≡ 0) ⊎ ((status ≡ 5) ⊎ (status ≡ 8))

@@ -1,10 +1,10 @@
 -- What is written to the notes.
-use Rattle.std.specs.Prelude.{ℕ, List, [], ◌∷◌, ◌++◌, ◌⊎◌, codes}
+use Rattle.std.specs.Prelude.{◌≡◌, ℕ, List, [], ◌∷◌, ◌++◌, ◌⊎◌, Result, codes}
 use Rattle.std.specs.Fmt.{decimal}
 use Rattle.outside.specs.Streams.{SinkSeen}
 use Rattle.rdb_grammar.specs.Numbers.{number_of}
 use Rattle.rdb_grammar.specs.declared.fault.LoadKind.{LoadKind}
-use Rattle.resp_frames.specs.Puts.{PutsAll, PutsFront}
+use Rattle.resp_frames.specs.Puts.{Puts, PutsAll, PutsFront}
 use Rattle.resp_frames.specs.Rules.{rule_number}
 use Rattle.resp_frames.specs.declared.rule.Rule.{Rule}
 use Rattle.program_top.specs.declared.ending.Ending.{Ending}
@@ -40,6 +40,12 @@ line_of (endings.Refused what at) = refused_line what at
 line_of endings.Memory = codes "redis-core: out of memory" ++ line_feed
 line_of endings.Limit = codes "redis-core: input limit reached" ++ line_feed
 
--- this line is put, or a front of it where the notes failed
+-- this line is put, or a front of it where the notes failed; no line touches nothing
 abbrev pub Notes : SinkSeen → SinkSeen → List ℕ → Type 0
-Notes noted noted' line = PutsAll noted noted' line ⊎ PutsFront noted noted' line
+Notes noted noted' [] = noted' ≡ noted
+Notes noted noted' (byte ∷ line) = PutsAll noted noted' (byte ∷ line) ⊎ PutsFront noted noted' (byte ∷ line)
+
+-- what putting a line answers
+abbrev pub PutsLine : {T E : Type 0} → SinkSeen → SinkSeen → List ℕ → Result T E → Type 0
+PutsLine noted noted' [] result = noted' ≡ noted
+PutsLine noted noted' (byte ∷ line) result = Puts noted noted' (byte ∷ line) result

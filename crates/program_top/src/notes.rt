@@ -3,7 +3,7 @@
 ghost use Rattle.std.specs.Prelude.{◌≡◌, ◌++◌, codes};
 ghost use Rattle.std.specs.Fmt.{decimal};
 ghost use Rattle.resp_frames.specs.Puts.{Puts};
-ghost use Rattle.program_top.specs.Notes.{Notes, line_feed, numbered_fault_line, line_of};
+ghost use Rattle.program_top.specs.Notes.{Notes, PutsLine, line_feed, numbered_fault_line, line_of};
 
 use crate::ending::Ending;
 use itoa::Buffer;
@@ -48,13 +48,13 @@ fn put_numbered_fault<N: Sink>(
     }
 }
 
-// Puts the line of an ending.
+// Puts the line of an ending, if it has one.
 fn put_line<N: Sink>(notes: &mut N, ending: Ending) -> Result<(), WriteFault>
-    ensures { Puts (N.seen notes.old) (N.seen notes.new) (line_of ending) result }
+    ensures { PutsLine (N.seen notes.old) (N.seen notes.new) (line_of ending) result }
 {
     match ending {
-        Ending::Whole => put_all(notes, b""),
-        Ending::Quit => put_all(notes, b""),
+        Ending::Whole => Ok(()),
+        Ending::Quit => Ok(()),
         Ending::Usage => put_all(notes, b"redis-core: wrong usage\n"),
         Ending::Protocol { rule, at } => put_numbered_fault(
             notes,

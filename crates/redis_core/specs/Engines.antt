@@ -1,5 +1,5 @@
 -- What contracts see of an engine, and what its calls do.
-use Rattle.std.specs.Prelude.{◌≡◌, ℕ, ◌<◌, List, Bool, max, true, false, Option, None, Result, Ok, Err, IfOk, MatchResult}
+use Rattle.std.specs.Prelude.{◌≡◌, ℕ, ◌<◌, List, Bool, replicate, max, true, false, Option, None, Result, Ok, Err, IfOk, MatchResult}
 use Rattle.blocks.specs.Blocks.{Blocks, Served}
 use Rattle.blocks.specs.Slabs.{Heap}
 use Rattle.defrag.specs.declared.walk.Walk.{Walk}
@@ -16,6 +16,7 @@ use Rattle.redis_core.specs.declared.answering.Executed.{Executed}
 use Rattle.plain_model.specs.declared.ctx.Ctx.{Ctx}
 use Rattle.plain_world.specs.declared.refusal.Refusal.{Refusal}
 use Rattle.plain_world.specs.declared.reply.Part.{Part}
+use Rattle.held.specs.Databases.{no_base}
 use Rattle.keyspace.specs.Databases.{Bases, means, SameSettings}
 use Rattle.keyspace.specs.Sound.{Sound}
 use Rattle.keyspace.specs.Databases.{Keyspace}
@@ -50,7 +51,7 @@ module _ {S : Type 0} (blocks : S → Blocks) where
   HasNoKey engine = means 0 engine.bases (blocks engine.store) ≡ new_world
 
   -- database 0 is selected, no database has a key, no moment was used yet and no memory refused, the first expiry step
-  -- is database 0's, and no table was made but by edits
+  -- is database 0's, and no database has a table
   pub record IsNew (engine : State S) : Type 0 where
     pub empty : HasNoKey engine
     pub selected : engine.selected ≡ 0
@@ -58,6 +59,7 @@ module _ {S : Type 0} (blocks : S → Blocks) where
     pub walk : engine.walk ≡ None
     pub alive : engine.is_spent ≡ false
     pub turn : engine.bases.turn ≡ 0
+    pub bases : engine.bases.bases ≡ replicate 16 (no_base engine.bases.seed)
     pub grown : AreGrown engine.bases (blocks engine.store)
 
   -- The databases are sound, one of them is selected, and a walk that is open stands in one.

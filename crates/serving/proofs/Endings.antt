@@ -120,7 +120,7 @@ module _ {E : Type 0} (X C : E → Words → List Part → E → Type 0) (quits 
           asked = f.0;
           end = f.1;
           frames = f.2;
-          ends = no_memory (record { some = requests s.items; others = r.0; split = r.1; replies = s.replies; last = w; may = s.went; wrote = wrote }) refl;
+          ends = no_memory (record { some = requests s.items; others = r.0; split = r.1; go_on = s.go_on; replies = s.replies; last = w; may = s.went; wrote = wrote }) refl;
           reads = reads;
           writes = wrote.faults;
         }

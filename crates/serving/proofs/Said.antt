@@ -63,7 +63,7 @@ module _ {E F : Type 0} (P PC : List Words → List (List Part) → E → Type 0
                 a.behind;
             wrote = a.wrote;
           }) is
-      | no_memory a is ↦ no_memory (record { some = a.some; others = a.others; split = a.split; replies = a.replies; last = see a.last; may = turn a.some a.replies a.last a.may; wrote = a.wrote }) is
+      | no_memory a is ↦ no_memory (record { some = a.some; others = a.others; split = a.split; go_on = a.go_on; replies = a.replies; last = see a.last; may = turn a.some a.replies a.last a.may; wrote = a.wrote }) is
     ];
     reads = s.reads;
     writes = s.writes;

@@ -70,11 +70,12 @@ module _ {E : Type 0} (Allowed AllowedCut : List Words → List (List Part) → 
     pub may : Allowed (front ++ quit ∷ []) replies last
     pub wrote : PutsAll old new (spelled replies)
 
-  -- the first of the requests are answered, each whole
+  -- the first of the requests are answered, each whole, and none of them ends the run
   pub record AnswersFirst (asked : List Words) (old new : SinkSeen) : Type 0 where
     pub some : List Words
     pub others : List Words
     pub split : asked ≡ some ++ others
+    pub go_on : GoOn quits some
     pub replies : List (List Part)
     pub last : E
     pub may : Allowed some replies last
