@@ -7,8 +7,11 @@
 
 mod bytes;
 mod consumers;
+mod entries;
 mod group;
 mod groups;
+mod id_set;
+mod index;
 mod pendings;
 mod tally;
 mod waiting;

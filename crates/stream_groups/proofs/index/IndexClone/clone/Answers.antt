@@ -1,0 +1,6 @@
+use Rattle.std.proofs.Common.{◌∙◌}
+use Rattle.stream_groups.proofs.Copies.{same_under_names}
+use Rattle.stream_groups.proofs.index.IndexClone.clone.Goals as goal
+
+pub returns : goal.returns
+returns c = record { cases = same_under_names c.self.inside.sets.entries c.in_ok-clone.field-0.entries c.in_ok-clone.ensures.cases ∙ c.self.view_is }
