@@ -1,0 +1,9 @@
+//! What stands in the slabs of a keyspace: nodes of the trees of streams, and other blocks.
+#![tactic(auto)]
+
+mod auditing;
+mod rows;
+mod tally;
+
+pub use auditing::audit;
+pub use rows::AuditRow;
