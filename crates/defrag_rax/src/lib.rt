@@ -2,8 +2,10 @@
 #![tactic(auto)]
 
 mod auditing;
+mod lines;
 mod rows;
 mod tally;
 
 pub use auditing::audit;
+pub use lines::audit_lines;
 pub use rows::AuditRow;
