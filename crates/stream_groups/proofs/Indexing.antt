@@ -1,7 +1,8 @@
 -- What an index holds after each of its calls.
-use Rattle.std.proofs.Common.{◌≡◌, ℕ, ◌+◌, ◌<◌, Bool, true, false, cond, not, List, [], ◌∷◌, ◌++◌, drop, length, get_or, Option, Some, None, is_some, refl, sym, ap, ◌∙◌}
-use Rattle.std.specs.Prelude.{◌&&◌, ◌||◌, slice_get}
-use Rattle.std.proofs.lemmas.Bool.{true≢false}
+use Rattle.std.proofs.Common.{◌≡◌, ℕ, zero, suc, arith, ◌+◌, ◌<◌, Bool, true, false, cond, not, List, [], ◌∷◌, ◌++◌, drop, length, get_or, Option, Some, None, is_some, refl, sym, ap, subst, ◌∙◌}
+use Rattle.std.specs.Prelude.{◌==◌, ◌&&◌, ◌||◌, slice_get}
+use Rattle.std.proofs.Math.Bool.{or-false}
+use Rattle.std.proofs.lemmas.Bool.{cond-true, cond-false, true≢false}
 use Rattle.std.proofs.lemmas.Iterator.Adapters.{option_map_id}
 use Rattle.std.proofs.lemmas.List.{drop_more}
 use Rattle.std.specs.Cmp.{tied_itself, eq_by_cmp_equiv}
@@ -11,7 +12,7 @@ use Rattle.std.specs.Ordering.{eq_by_cmp, is_eq}
 use Rattle.std.specs.FinMap as map
 use Rattle.stream_groups.specs.declared.entries.Handed.{Handed}
 use Rattle.stream_groups.specs.Groups.{Id, Pending, id_cmp, name_cmp}
-use Rattle.stream_groups.specs.Index.{IdSet, Index, ids_above, is_in, holds, is_one, marked, Marks, HoldSame, is_for, has_left, stays, Leaves}
+use Rattle.stream_groups.specs.Index.{NoneIsEmpty, IdSet, Index, ids_above, is_in, holds, is_one, marked, Marks, HoldSame, is_for, has_left, stays, Leaves}
 use Rattle.stream_groups.specs.Kept.{Name, named, NamesRise, pending_of, logged}
 use Rattle.stream_groups.proofs.Changing.{put_same_in_changing}
 use Rattle.stream_groups.proofs.Maps.{equal}
@@ -42,10 +43,6 @@ turned_name n name = (eq_by_cmp_equiv name_total).symm n name
 pub unmarked : (a b h : Bool) → cond (a && false) b h ≡ h
 unmarked true b h = refl
 unmarked false b h = refl
-
-pub or_none : (e : Bool) → (e || false) ≡ e
-or_none true = refl
-or_none false = refl
 
 -- one of several, and then the others
 one_and_others : (a e m b h : Bool) → cond (a && m) b (cond (a && (e || false)) b h) ≡ cond (a && (e || m)) b h
@@ -81,7 +78,7 @@ module _ (mark : Bool) (old new : Index) (name : List ℕ) (id : Id) where
   set_marks now is at n q = ap (λ i. holds i n q) is ∙ ap (λ o. is_in o q) (map.get-insert name_total old name now n) ∙ by (same_name n name) refl
     where
       by : (b : Bool) → same_name n name ≡ b → is_in (cond b (Some now) (map.get old n)) q ≡ cond (b && (same_id q id || false)) mark (holds old n q)
-      by true same = at q ∙ ap (λ e. cond e mark (holds old name q)) (sym (or_none (same_id q id))) ∙ ap (λ x. cond (same_id q id || false) mark (holds old x q)) (sym (one_name n name same))
+      by true same = at q ∙ ap (λ e. cond e mark (holds old name q)) (sym (or-false (same_id q id))) ∙ ap (λ x. cond (same_id q id || false) mark (holds old x q)) (sym (one_name n name same))
       by false other = refl
 
 -- what is found in a set, where an id was put or taken
@@ -139,6 +136,50 @@ dropped_marks old new after name ids marks none is n q = ap (λ i. holds i n q) 
 pub none_held : (index : Index) (name : List ℕ) (ids : IdSet) (q : Id) → map.get index name ≡ Some ids → map.len ids ≡ 0 → holds index name q ≡ false
 none_held index name ids q is none = ap (λ o. is_in o q) is ∙ ap (λ s. map.contains_key s q) (map.empty_of_len ids none) ∙ ap is_some (map.get-empty id_cmp q)
 
+-- A consumer's new set is there.
+pub set_there : (old new : Index) (name : List ℕ) (now : IdSet) → new ≡ map.insert old name now → map.get new name ≡ Some now
+set_there old new name now is = ap (λ m. map.get m name) is ∙ map.get-insert name_total old name now name ∙ cond-true _ _ _ (name_itself name)
+
+-- ---- no set is empty
+
+two_sets : (o : Option IdSet) (ids : IdSet) → o ≡ Some ids → o ≡ None → ⊥
+two_sets o ids is none = cc
+
+-- A set with an id isn't empty.
+pub some_in : (ids : IdSet) (id : Id) → map.contains_key ids id ≡ true → 0 < map.len ids
+some_in ids id there = by (map.len ids) refl
+  where
+    by : (n : ℕ) → map.len ids ≡ n → 0 < n
+    by zero none = absurd (true≢false (sym there ∙ ap (λ s. map.contains_key s id) (map.empty_of_len ids none) ∙ ap is_some (map.get-empty id_cmp id)))
+    by (suc n) is = omega arith
+
+-- A set that an id was put into isn't empty.
+pub some_put_in : (ids now : IdSet) (id : Id) → now ≡ map.insert ids id tt → 0 < map.len now
+some_put_in ids now id is = some_in now id (ap (λ s. map.contains_key s id) is ∙ put_in ids id id ∙ cond-true _ _ _ (ap is_eq (tied_itself id_total id)))
+
+-- A number that isn't 0 is above it.
+pub above_none : (n : ℕ) → (n == 0) ≡ false → 0 < n
+above_none zero h = absurd (true≢false h)
+above_none (suc n) h = omega arith
+
+pub some_at_first : (index : Index) → index ≡ map.empty → NoneIsEmpty index
+some_at_first index nobody n ids is = absurd (two_sets (map.get index n) ids is (ap (λ m. map.get m n) nobody ∙ map.get-empty name_cmp n))
+
+module _ (old new : Index) (name : List ℕ) (now : IdSet) (some : NoneIsEmpty old) (is : new ≡ map.insert old name now) where
+  others : (n : List ℕ) (ids : IdSet) (b : Bool) → (b ≡ true → 0 < map.len now) → cond b (Some now) (map.get old n) ≡ Some ids → 0 < map.len ids
+  others n ids true full h = let one : now ≡ ids = cc in subst (λ s. 0 < map.len s) one (full refl)
+  others n ids false full h = some n ids h
+
+  pub some_put : 0 < map.len now → NoneIsEmpty new
+  some_put full n ids h = others n ids (same_name n name) (λ _. full) (sym (map.get-insert name_total old name now n) ∙ sym (ap (λ m. map.get m n) is) ∙ h)
+
+  pub some_dropped : (after : Index) → after ≡ map.remove new name → NoneIsEmpty after
+  some_dropped after gone n ids h = by (same_name n name) refl (sym (map.get-remove name_total new name n) ∙ sym (ap (λ m. map.get m n) gone) ∙ h)
+    where
+      by : (b : Bool) → same_name n name ≡ b → cond b None (map.get new n) ≡ Some ids → 0 < map.len ids
+      by true same g = absurd (two_sets (Some ids) ids refl (sym g))
+      by false other g = some n ids (sym (cond-false _ _ _ other) ∙ sym (map.get-insert name_total old name now n) ∙ sym (ap (λ m. map.get m n) is) ∙ g)
+
 -- There is no first one among no ids.
 pub none_above_any : (above : Option Id) → ◌≡◌ {A = Option Id} None (slice_get (ids_above above []) 0)
 none_above_any None = refl
@@ -193,7 +234,7 @@ module _ (name : List ℕ) (id : Id) (former : Pending) where
 -- ---- ids that are added, and those of them that are new
 
 one_behind : (ids : List Id) (id q : Id) → is_one (ids ++ id ∷ []) q ≡ (is_one ids q || same_id q id)
-one_behind [] id q = or_none (same_id q id)
+one_behind [] id q = or-false (same_id q id)
 one_behind (x ∷ ids) id q = by (same_id q x) (one_behind ids id q)
   where
     by : (b : Bool) → is_one (ids ++ id ∷ []) q ≡ (is_one ids q || same_id q id) → (b || is_one (ids ++ id ∷ []) q) ≡ ((b || is_one ids q) || same_id q id)

@@ -1,5 +1,5 @@
 -- Which ids are pending for each consumer, as it is kept beside the pending entries.
-use Rattle.std.specs.Prelude.{◌≡◌, ℕ, List, [], ◌∷◌, Bool, false, not, ◌&&◌, ◌||◌, Option, Some, None, if◌then◌else◌}
+use Rattle.std.specs.Prelude.{◌≡◌, ◌<◌, ℕ, map as list_map, List, [], ◌∷◌, Bool, false, not, ◌&&◌, ◌||◌, Option, Some, None, if◌then◌else◌}
 use Rattle.std.specs.List.{filter}
 use Rattle.std.specs.Ordering.{eq_by_cmp, is_lt}
 use Rattle.std.specs.FinMap as map
@@ -22,6 +22,14 @@ ids_in (Some ids) = map.keys ids
 -- the ids of a consumer, by rising ids
 abbrev pub held : Index → List ℕ → List Id
 held index name = ids_in (map.get index name)
+
+-- each consumer in the index has an id
+abbrev pub NoneIsEmpty : Index → Type 0
+NoneIsEmpty index = (name : List ℕ) (ids : IdSet) → map.get index name ≡ Some ids → 0 < map.len ids
+
+-- the consumers by rising names, each with how many ids it has
+abbrev pub counted : Index → List (List ℕ × ℕ)
+counted index = list_map (λ e. (e.0, map.len e.1)) (map.entries index)
 
 -- whether an id is in a set, where there is one
 abbrev pub is_in : Option IdSet → Id → Bool

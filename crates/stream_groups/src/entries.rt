@@ -3,12 +3,11 @@
 ghost use Rattle.std.specs.Prelude.{◌≡◌, ◌-◌, ◌≤◌, ℕ, List, is_some, take, length, IfOk, IfSome, OnOk, OnErr, Some, None, slice_get};
 ghost use Rattle.std.specs.Option.{option_copied, option_map};
 ghost use Rattle.std.specs.FinMap.{empty, get, contains_key, insert, remove, len, keys};
-ghost use Rattle.stream_groups.specs.Groups.{again_in, placed, later, tallied};
+ghost use Rattle.stream_groups.specs.Groups.{again_in, placed, later};
 ghost use Rattle.stream_groups.specs.Index.{were};
 ghost use Rattle.stream_groups.specs.Kept.{pending_of, restored, undone, logged};
 
 use crate::consumers::Name;
-use crate::tally::Tally;
 use crate::{Id, Memory};
 use std::alloc::Global;
 use std::collections::BTreeMap;
@@ -215,17 +214,5 @@ impl Entries {
             None => None,
             Some((id, _)) => Some(*id),
         }
-    }
-
-    // How many ids are pending for each consumer.
-    pub(crate) fn tally(&self, alloc: Global) -> Result<Tally, Memory>
-        ensures { IfOk result (λ counts. (name : List ℕ) → get counts name ≡ tallied self.now name) }
-    {
-        let mut counts = Tally::new(alloc);
-        let mut rest = self.entries.iter();
-        while let Some((_, handed)) = rest.next() {
-            counts.add(handed.consumer.as_slice())?;
-        }
-        Ok(counts)
     }
 }

@@ -154,15 +154,14 @@ impl Group {
     }
 
     // What is pending as a whole.
-    pub(crate) fn pending(&self, alloc: Global) -> Result<Waiting, Memory>
+    pub(crate) fn pending(&self) -> Result<Waiting, Memory>
         ensures { IfOk result (IsWaiting self.now.pending) }
     {
-        let owners = self.pending.tally(alloc)?.owners()?;
         Ok(Waiting {
             count: self.pending.count(),
             least: self.pending.least(),
             greatest: self.pending.greatest(),
-            owners,
+            owners: self.pending.owners()?,
         })
     }
 

@@ -16,9 +16,9 @@ use std::marker::Model;
 /// The consumer groups of one stream, which contracts see as a finite map from their names.
 ///
 /// Groups, pending entries and the ids of each consumer stand in ordered maps of std, and a consumer is found by a binary search,
-/// so a call takes steps logarithmic in what it looks through, and for each id that it takes or answers. A new consumer shifts
-/// a reference for each consumer behind it, what is pending as a whole passes over the pending entries, and what is asked by the
-/// place of a group walks through the groups. No clause says so.
+/// so a call takes steps logarithmic in what it looks through, and that for each id that it takes or answers. A new consumer
+/// shifts a reference for each consumer behind it, what is pending as a whole passes over the consumers and not over their
+/// entries, and what is asked by the place of a group walks through the groups. No clause says so.
 #[derive(Drop)]
 pub struct Groups {
     alloc: Global,
@@ -205,13 +205,14 @@ impl Groups {
         }
     }
 
-    /// What is pending in the group, as a whole. None comes exactly where there is no such group.
+    /// What is pending in the group, as a whole, by going through the consumers for which some are. None comes exactly where
+    /// there is no such group.
     pub fn pending(&self, name: &[u8]) -> Result<Option<Waiting>, Memory>
         ensures { IfOk result (Tells (get self.now name.now)) }
     {
         match self.groups.get(name) {
             None => Ok(None),
-            Some(group) => match group.pending(self.alloc) {
+            Some(group) => match group.pending() {
                 Ok(waiting) => Ok(Some(waiting)),
                 Err(memory) => Err(memory),
             },

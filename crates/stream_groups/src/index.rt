@@ -1,16 +1,17 @@
 //! Which ids are pending for each consumer.
 
-ghost use Rattle.std.specs.Prelude.{◌≡◌, ℕ, [], ◌∷◌, true, false, not, length, IfOk, OnOk, OnErr, IsTrue, slice_get};
+ghost use Rattle.std.specs.Prelude.{◌≡◌, ℕ, [], ◌∷◌, true, false, not, length, IfOk, OnOk, OnErr, slice_get};
 ghost use Rattle.std.specs.Option.{option_map};
 ghost use Rattle.std.specs.FinMap.{empty, insert};
-ghost use Rattle.stream_groups.specs.Groups.{Id as Id_};
-ghost use Rattle.stream_groups.specs.Index.{held, holds, ids_above, Marks, HoldSame, Leaves};
+ghost use Rattle.stream_groups.specs.Index.{counted, held, holds, ids_above, Marks, HoldSame, Leaves, NoneIsEmpty};
 ghost use Rattle.stream_groups.specs.Kept.{pending_of, logged};
+ghost use Rattle.stream_groups.specs.Waits.{owner_pairs};
 
 use crate::consumers::is_named;
 use crate::entries::Handed;
 use crate::id_set::IdSet;
-use crate::{Id, Memory};
+use crate::waiting::Owner;
+use crate::{Bytes, Id, Memory};
 use std::alloc::Global;
 use std::collections::BTreeMap;
 use std::marker::Model;
@@ -30,11 +31,12 @@ impl Model for Index {
 
     ghost coded = { index_code };
 
+    ghost use Rattle.stream_groups.specs.Index.{NoneIsEmpty};
     ghost use Rattle.stream_groups.specs.Kept.{named, NamesRise};
 
     ghost view = { λ i. named (λ ids. ids) i.sets.entries };
 
-    ghost invariant = { λ i. NamesRise i.sets.entries };
+    ghost invariant = { λ i. NamesRise i.sets.entries × NoneIsEmpty (named (λ ids. ids) i.sets.entries) };
 }
 
 impl Clone for Index {
@@ -68,7 +70,10 @@ impl Index {
         ensures err { OnErr result (self.new ≡ self.old) }
     {
         match self.sets.get_mut(name) {
-            None => self.start(name, id),
+            None => {
+                self.start(name, id)?;
+                Ok(true)
+            }
             Some(ids) => match ids.add(id) {
                 Ok(fresh) => Ok(fresh),
                 Err(memory) => Err(memory),
@@ -76,9 +81,8 @@ impl Index {
         }
     }
 
-    // Gives a consumer an id alone. Memory leaves all as it was.
-    fn start(&mut self, name: &[u8], id: Id) -> Result<bool, Memory>
-        ensures fresh { IfOk result (λ fresh. fresh ≡ true) }
+    // Gives a consumer this id alone. Memory leaves all as it was.
+    fn start(&mut self, name: &[u8], id: Id) -> Result<(), Memory>
         ensures ok { OnOk result (self.new ≡ insert self.old name.now (insert empty id tt)) }
         ensures err { OnErr result (self.new ≡ self.old) }
     {
@@ -86,29 +90,22 @@ impl Index {
         ids.add(id)?;
         let key = Vec::from_slice(self.alloc, name)?;
         self.sets.insert(key, ids)?;
-        Ok(true)
+        Ok(())
     }
 
     // Takes an id from those of a consumer. A consumer with no id left is not kept.
     pub(crate) fn take(&mut self, name: &[u8], id: Id)
         ensures { Marks false name.now (id ∷ []) self.old self.new }
     {
-        if self.empties(name, id) {
-            drop(self.sets.remove(name));
-        }
-    }
-
-    // Takes an id from those of a consumer, and tells whether it leaves the consumer with none.
-    fn empties(&mut self, name: &[u8], id: Id) -> bool
-        ensures new { Marks false name.now (id ∷ []) self.old self.new }
-        ensures none { IsTrue result → (q : Id_) → holds self.new name.now q ≡ false }
-    {
-        match self.sets.get_mut(name) {
+        let emptied = match self.sets.get_mut(name) {
             None => false,
             Some(ids) => {
                 ids.take(id);
                 ids.len() == 0
             }
+        };
+        if emptied {
+            drop(self.sets.remove(name));
         }
     }
 
@@ -185,5 +182,21 @@ impl Index {
             None => 0,
             Some(ids) => ids.len(),
         }
+    }
+
+    // The consumers by rising bytes of their names, each with how many ids it has.
+    pub(crate) fn owners(&self) -> Result<Vec<Owner>, Memory>
+        ensures counted { IfOk result (λ owners. owner_pairs owners.items ≡ counted self.now) }
+        ensures some { NoneIsEmpty self.now }
+    {
+        let mut owners = Vec::new(self.alloc);
+        let mut rest = self.sets.iter();
+        while let Some((name, ids)) = rest.next() {
+            owners.push(Owner {
+                name: Bytes::new(self.alloc, name)?,
+                count: ids.len(),
+            })?;
+        }
+        Ok(owners)
     }
 }

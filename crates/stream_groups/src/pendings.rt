@@ -1,15 +1,16 @@
 //! The pending entries of a group, with each consumer's own.
 
-ghost use Rattle.std.specs.Prelude.{◌≡◌, ◌-◌, ℕ, List, [], ◌∷◌, length, take, IfOk, OnOk, OnErr, None, slice_get};
+ghost use Rattle.std.specs.Prelude.{T, ◌≡◌, ◌-◌, ℕ, List, [], ◌∷◌, length, take, IfOk, OnOk, OnErr, None, slice_get};
 ghost use Rattle.std.specs.Option.{option_map};
-ghost use Rattle.std.specs.FinMap.{empty, get, contains_key, insert, remove, len, keys};
-ghost use Rattle.stream_groups.specs.Groups.{again_in, placed, ids_of, later, own_ids, tallied};
+ghost use Rattle.std.specs.FinMap.{empty, contains_key, insert, remove, len, keys, find, is_sorted};
+ghost use Rattle.stream_groups.specs.Groups.{again_in, name_cmp, placed, ids_of, later, own_ids, tallied};
 ghost use Rattle.stream_groups.specs.Kept.{pending_of};
+ghost use Rattle.stream_groups.specs.Waits.{owner_pairs};
 
 use crate::consumers::Name;
 use crate::entries::{Entries, Handed};
 use crate::index::Index;
-use crate::tally::Tally;
+use crate::waiting::Owner;
 use crate::{Id, Memory};
 use std::alloc::Global;
 use std::marker::Model;
@@ -199,10 +200,11 @@ impl Pendings {
         self.entries.greatest()
     }
 
-    // How many ids are pending for each consumer.
-    pub(crate) fn tally(&self, alloc: Global) -> Result<Tally, Memory>
-        ensures { IfOk result (λ counts. (name : List ℕ) → get counts name ≡ tallied self.now name) }
+    // The consumers for which some are pending, by rising bytes of their names, with how many.
+    pub(crate) fn owners(&self) -> Result<Vec<Owner>, Memory>
+        ensures rising { IfOk result (λ owners. T (is_sorted name_cmp (owner_pairs owners.items))) }
+        ensures counts { IfOk result (λ owners. (name : List ℕ) → find name_cmp name (owner_pairs owners.items) ≡ tallied self.now name) }
     {
-        self.entries.tally(alloc)
+        self.index.owners()
     }
 }

@@ -6,8 +6,8 @@ use Rattle.stream_groups.proofs.index.Index.after.Goals as goal
 
 pub returns-in-None : goal.returns-in-None
 returns-in-None c = none_above_any c.args.above
-    ∙ ap (λ o. slice_get (ids_above c.args.above (ids_in o)) 0) (c.in-None.ensures.value ∙ set_found c.self.inside.sets.entries c.args.self.now c.args.name.now c.self.invariant c.self.view_is)
+    ∙ ap (λ o. slice_get (ids_above c.args.above (ids_in o)) 0) (c.in-None.ensures.value ∙ set_found c.self.inside.sets.entries c.args.self.now c.args.name.now c.self.invariant.0 c.self.view_is)
 
 pub returns-in-Some : goal.returns-in-Some
 returns-in-Some c = c.after.ensures
-    ∙ ap (λ o. slice_get (ids_above c.args.above (ids_in o)) 0) (c.in-Some.ensures.value ∙ set_found c.self.inside.sets.entries c.args.self.now c.args.name.now c.self.invariant c.self.view_is)
+    ∙ ap (λ o. slice_get (ids_above c.args.above (ids_in o)) 0) (c.in-Some.ensures.value ∙ set_found c.self.inside.sets.entries c.args.self.now c.args.name.now c.self.invariant.0 c.self.view_is)

@@ -7,8 +7,8 @@ use Rattle.stream_groups.proofs.Indexing.{set_found}
 use Rattle.stream_groups.proofs.index.Index.len.Goals as goal
 
 pub returns-in-None : goal.returns-in-None
-returns-in-None c = ap (λ o. length (ids_in o)) (c.in-None.ensures.value ∙ set_found c.self.inside.sets.entries c.args.self.now c.args.name.now c.self.invariant c.self.view_is)
+returns-in-None c = ap (λ o. length (ids_in o)) (c.in-None.ensures.value ∙ set_found c.self.inside.sets.entries c.args.self.now c.args.name.now c.self.invariant.0 c.self.view_is)
 
 pub returns-in-Some : goal.returns-in-Some
 returns-in-Some c = c.len.ensures ∙ map.len-entries c.in-Some.ids.now ∙ sym (length-map (map.entries c.in-Some.ids.now) (λ (e : Id × Unit {0}). e.0))
-    ∙ ap (λ o. length (ids_in o)) (c.in-Some.ensures.value ∙ set_found c.self.inside.sets.entries c.args.self.now c.args.name.now c.self.invariant c.self.view_is)
+    ∙ ap (λ o. length (ids_in o)) (c.in-Some.ensures.value ∙ set_found c.self.inside.sets.entries c.args.self.now c.args.name.now c.self.invariant.0 c.self.view_is)
