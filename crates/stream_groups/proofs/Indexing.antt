@@ -1,6 +1,7 @@
 -- What an index holds after each of its calls.
 use Rattle.std.proofs.Common.{◌≡◌, ℕ, zero, suc, arith, ◌+◌, ◌<◌, Bool, true, false, cond, not, List, [], ◌∷◌, ◌++◌, drop, length, get_or, Option, Some, None, is_some, refl, sym, ap, subst, ◌∙◌}
 use Rattle.std.specs.Prelude.{◌==◌, ◌&&◌, ◌||◌, slice_get}
+use Rattle.std.proofs.Math.Bool.{or-false}
 use Rattle.std.proofs.lemmas.Bool.{cond-true, cond-false, true≢false}
 use Rattle.std.proofs.lemmas.Iterator.Adapters.{option_map_id}
 use Rattle.std.proofs.lemmas.List.{drop_more}
@@ -43,10 +44,6 @@ pub unmarked : (a b h : Bool) → cond (a && false) b h ≡ h
 unmarked true b h = refl
 unmarked false b h = refl
 
-pub or_none : (e : Bool) → (e || false) ≡ e
-or_none true = refl
-or_none false = refl
-
 -- one of several, and then the others
 one_and_others : (a e m b h : Bool) → cond (a && m) b (cond (a && (e || false)) b h) ≡ cond (a && (e || m)) b h
 one_and_others false e m b h = refl
@@ -81,7 +78,7 @@ module _ (mark : Bool) (old new : Index) (name : List ℕ) (id : Id) where
   set_marks now is at n q = ap (λ i. holds i n q) is ∙ ap (λ o. is_in o q) (map.get-insert name_total old name now n) ∙ by (same_name n name) refl
     where
       by : (b : Bool) → same_name n name ≡ b → is_in (cond b (Some now) (map.get old n)) q ≡ cond (b && (same_id q id || false)) mark (holds old n q)
-      by true same = at q ∙ ap (λ e. cond e mark (holds old name q)) (sym (or_none (same_id q id))) ∙ ap (λ x. cond (same_id q id || false) mark (holds old x q)) (sym (one_name n name same))
+      by true same = at q ∙ ap (λ e. cond e mark (holds old name q)) (sym (or-false (same_id q id))) ∙ ap (λ x. cond (same_id q id || false) mark (holds old x q)) (sym (one_name n name same))
       by false other = refl
 
 -- what is found in a set, where an id was put or taken
@@ -237,7 +234,7 @@ module _ (name : List ℕ) (id : Id) (former : Pending) where
 -- ---- ids that are added, and those of them that are new
 
 one_behind : (ids : List Id) (id q : Id) → is_one (ids ++ id ∷ []) q ≡ (is_one ids q || same_id q id)
-one_behind [] id q = or_none (same_id q id)
+one_behind [] id q = or-false (same_id q id)
 one_behind (x ∷ ids) id q = by (same_id q x) (one_behind ids id q)
   where
     by : (b : Bool) → is_one (ids ++ id ∷ []) q ≡ (is_one ids q || same_id q id) → (b || is_one (ids ++ id ∷ []) q) ≡ ((b || is_one ids q) || same_id q id)
