@@ -1,1 +1,9 @@
+pub mod Maps
+pub mod Walks
+pub mod Written
+pub mod SpelledParts
+pub mod SpelledClaims
+pub mod SpelledGroups
+pub mod SpelledNodes
+pub mod SpelledStreams
 pub mod Keyed
