@@ -1,5 +1,5 @@
 -- A stream's bytes behind its key.
-use Rattle.std.proofs.Common.{ℕ, ◌≤◌, List, [], ◌∷◌, ◌++◌, length, refl, sym}
+use Rattle.std.proofs.Common.{ℕ, ◌≤◌, List, [], ◌∷◌, length, refl, sym}
 use Rattle.std.proofs.lemmas.List.{append-nil}
 use Rattle.plain_world.specs.Words.{longest}
 use Rattle.plain_world.specs.Streams.{Stream}

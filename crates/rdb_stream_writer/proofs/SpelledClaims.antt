@@ -1,15 +1,15 @@
 -- What is pending in a group is spelled, and then whose it is.
-use Rattle.std.proofs.Common.{◌≡◌, ℕ, ◌<◌, ◌≤◌, Bool, true, false, cond, not, List, [], ◌∷◌, ◌++◌, length, map, Option, Some, None, is_some, refl, sym, ap, subst, ◌∙◌, append_assoc, arith}
+use Rattle.std.proofs.Common.{◌≡◌, ℕ, Bool, true, not, List, [], ◌∷◌, ◌++◌, length, map, Option, Some, None, refl, sym, ap, ◌∙◌}
 use Rattle.std.specs.Prelude.{T, is_none, flat_map}
-use Rattle.std.specs.List.{filter, AllByRecursion}
+use Rattle.std.specs.List.{AllByRecursion}
 use Rattle.std.specs.Option.{option_map}
-use Rattle.std.specs.FinMap.{get, insert, remove, entries, is_sorted}
+use Rattle.std.specs.FinMap.{get, insert, is_sorted}
 use Rattle.std.proofs.lemmas.List.{append-nil}
-use Rattle.stream_groups.specs.Groups.{Id, Pending, Pendings, Group, id_cmp, with_pending}
+use Rattle.stream_groups.specs.Groups.{Id, Pending, Pendings, id_cmp}
 use Rattle.stream_groups.proofs.Maps.{first, second}
 use Rattle.stream_groups.proofs.Orders.{id_total, id_same}
 use Rattle.rdb_grammar.specs.Format.{in_turn}
-use Rattle.rdb_grammar.specs.StreamParts.{Begun, handed, pending_id, with_unclaimed, claimed, claimed_id, with_claim}
+use Rattle.rdb_grammar.specs.StreamParts.{Begun, handed, with_unclaimed, claimed, with_claim}
 use Rattle.rdb_parts.specs.Words.{length_word}
 use Rattle.rdb_parts.proofs.Spelled.{length_spelled}
 use Rattle.rdb_stream_writer.specs.Ids.{id_word}

@@ -4,11 +4,9 @@ use Rattle.std.specs.Prelude.{T, is_none, flat_map, ◌==◌}
 use Rattle.std.specs.List.{filter, AllByRecursion}
 use Rattle.std.specs.Option.{option_map}
 use Rattle.std.specs.FinMap as maps
-use Rattle.std.specs.FinMap.{get, insert, entries, entries_sorted, get-entries, is_sorted, keys, len, len-entries, len-empty, find}
-use Rattle.std.proofs.lemmas.Bool.{cond-true, cond-false}
+use Rattle.std.specs.FinMap.{get, insert, entries, entries_sorted, get-entries, is_sorted, keys, len, len-entries, len-empty}
 use Rattle.std.proofs.lemmas.List.{append-nil, length-map}
-use Rattle.std.proofs.lemmas.Option.{same_Some}
-use Rattle.stream_groups.specs.Groups.{Id, Names, Pending, Pendings, Group, Groups, AreOwned, IsOwned, id_cmp, name_cmp, is_of, has_consumer, own_ids, with_consumer as with_name, new_group}
+use Rattle.stream_groups.specs.Groups.{Id, Names, Pending, Pendings, Group, Groups, id_cmp, name_cmp, is_of, with_consumer as with_name}
 use Rattle.stream_groups.proofs.Maps.{first, second, equal}
 use Rattle.stream_groups.proofs.Orders.{id_total, id_same, name_total, name_same}
 use Rattle.fit_worlds.specs.Fit.{IsShort, EachIs, IsFitGroup}
@@ -22,7 +20,7 @@ use Rattle.rdb_stream_writer.specs.Consumers.{moment_word, consumer_word}
 use Rattle.rdb_stream_writer.specs.Groups.{pending_word, group_word, IsStoredEntry, IsStoredGroup}
 use Rattle.rdb_stream_writer.proofs.Maps.{each_got, sorted_filter, taking, taking_all, AreFree, still_free, none_taken, taken_is, found_filter, Shows, shows_nothing, shows_more, shows_alike, shows_all, shows_none, not_there}
 use Rattle.rdb_stream_writer.proofs.SpelledParts.{lengths_spelled, turns_none, turns_more, counted_spelled}
-use Rattle.rdb_stream_writer.proofs.SpelledClaims.{handed_of, handed_in, ids_in, AreOf, Pended, pendings_spelled, Split, Claimed, IsMine, claims_spelled}
+use Rattle.rdb_stream_writer.proofs.SpelledClaims.{handed_of, handed_in, ids_in, Pended, pendings_spelled, Split, Claimed, IsMine, claims_spelled}
 
 -- ---- lists
 

@@ -1,31 +1,28 @@
 -- Nodes of a stream are spelled, and the marks.
-use Rattle.std.proofs.Common.{◌≡◌, ℕ, ◌+◌, ◌<◌, ◌≤◌, ◌^◌, Bool, true, false, cond, not, List, [], ◌∷◌, ◌++◌, length, map, Option, Some, None, Result, Ok, Err, refl, sym, ap, subst, ◌∙◌, append_assoc, length-append, arith}
-use Rattle.std.specs.Prelude.{T, flat_map, ◌==◌, ◌&&◌, nat_le}
+use Rattle.std.proofs.Common.{◌≡◌, ℕ, ◌<◌, ◌≤◌, Bool, true, not, List, [], ◌∷◌, ◌++◌, length, Option, Some, None, Ok, refl, sym, ap, subst, ◌∙◌, append_assoc, length-append, arith}
+use Rattle.std.specs.Prelude.{flat_map, ◌&&◌}
 use Rattle.std.specs.List.{AllByRecursion, list_all}
-use Rattle.std.specs.Ordering.{is_lt, nat_cmp}
+use Rattle.std.specs.Ordering.{is_lt}
 use Rattle.std.proofs.lemmas.Bool.{cond-true, le-leb, eq-eqb}
 use Rattle.std.proofs.lemmas.List.{append-nil}
 use Rattle.std.proofs.lemmas.List.Folds.{list_all-append}
 use Rattle.blocks.specs.Blocks.{Blocks}
 use Rattle.listpack.specs.Pack.{texts}
 use Rattle.listpack.proofs.Laws.{exactly_one}
-use Rattle.stream_groups.specs.Groups.{Id as Pair, id_cmp}
+use Rattle.stream_groups.specs.Groups.{id_cmp}
 use Rattle.stream_node.specs.declared.id.Id.{Id}
 use Rattle.stream_node.specs.Entry.{Stored}
-use Rattle.stream_node.specs.Ids.{IsId, id_number, id_key, key_id}
-use Rattle.stream_node.specs.Entries.{entries_of}
+use Rattle.stream_node.specs.Ids.{IsId, id_number, id_key}
 use Rattle.stream_node.proofs.Ids.{id_laws, cmp_less}
-use Rattle.plain_world.specs.Words.{longest}
 use Rattle.plain_world.specs.Streams.{Stream, StreamEntry}
-use Rattle.stream_object.specs.Parts.{Part, stored_in, live_of, live_in, entries_in, plain, IsPart, EndsBefore, Rising}
+use Rattle.stream_object.specs.Parts.{Part, stored_in, live_of, live_in, entries_in, IsPart, EndsBefore, Rising}
 use Rattle.stream_object.specs.Streams.{AreUpto, pair_of}
 use Rattle.stream_object.proofs.Losing.{pair_cmp}
 use Rattle.stream_object.proofs.Walks.{all_live, part_ids, upto_test}
-use Rattle.rdb_grammar.specs.declared.fault.LoadKind.TheVariants as kinds
 use Rattle.rdb_grammar.specs.declared.values.StreamType.TheVariants as types
 use Rattle.rdb_grammar.specs.Format.{in_turn}
-use Rattle.rdb_grammar.specs.Strings.{Head, Len, Num, head, body, string}
-use Rattle.rdb_grammar.specs.StreamParts.{Nodes, no_nodes, node_key, longest_node, is_node_short, node_head, node_string, stored_in as stored_as, last_of, is_above, more_entries, with_entries, node_on, with_node, is_upto, Marks, marks}
+use Rattle.rdb_grammar.specs.Strings.{Head, Len, Num, body, string}
+use Rattle.rdb_grammar.specs.StreamParts.{Nodes, node_key, longest_node, is_node_short, node_string, last_of, is_above, more_entries, with_entries, with_node, is_upto, Marks, marks}
 use Rattle.rdb_parts.specs.Words.{length_word, string_word}
 use Rattle.rdb_parts.proofs.Spelled.{length_spelled, string_spelled}
 use Rattle.rdb_stream_writer.specs.Ids.{lengths_word}
@@ -159,20 +156,20 @@ marks_spelled s fits upto =
       length_word (length s.entries),
       lengths_word s.last ++ (first ++ (deleted ++ added)),
       refl,
-      (length_spelled (length s.entries) fits.count, eq-eqb (length s.entries) (length s.entries) refl),
+      (length_spelled (length s.entries) fits.count_fits, eq-eqb (length s.entries) (length s.entries) refl),
       (
         s.last,
         lengths_word s.last,
         first ++ (deleted ++ added),
         refl,
-        (lengths_spelled s.last fits.last, upto),
+        (lengths_spelled s.last fits.last_fits, upto),
         (
           first_of s.entries,
           first,
           deleted ++ added,
           refl,
-          lengths_spelled (first_of s.entries) fits.first,
-          (s.deleted, deleted, added, refl, lengths_spelled s.deleted fits.deleted, (s.added, added, [], sym (append-nil added), length_spelled s.added fits.added, (refl, refl))),
+          lengths_spelled (first_of s.entries) fits.first_fits,
+          (s.deleted, deleted, added, refl, lengths_spelled s.deleted fits.deleted_fits, (s.added, added, [], sym (append-nil added), length_spelled s.added fits.added_fits, (refl, refl))),
         ),
       ),
     )

@@ -1,5 +1,5 @@
 -- Ids, lengths and repeated parts are spelled.
-use Rattle.std.proofs.Common.{◌≡◌, ℕ, zero, suc, ◌<◌, ◌^◌, List, [], ◌∷◌, ◌++◌, length, refl, sym, ap, subst, ◌∙◌, arith}
+use Rattle.std.proofs.Common.{ℕ, suc, ◌<◌, ◌^◌, List, [], ◌++◌, length, refl, sym}
 use Rattle.std.specs.Prelude.{flat_map}
 use Rattle.std.specs.Int.{w64, to_be_bytes, to_le_bytes}
 use Rattle.std.proofs.lemmas.List.{append-nil}

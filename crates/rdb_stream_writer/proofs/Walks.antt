@@ -1,5 +1,5 @@
 -- A walk along a list that goes on behind the key of the last one seen.
-use Rattle.std.proofs.Common.{◌≡◌, ℕ, suc, ◌<◌, Bool, true, false, List, [], ◌∷◌, ◌++◌, length, drop, Option, Some, None, refl, sym, ap, subst, ◌∙◌, append_assoc, arith}
+use Rattle.std.proofs.Common.{◌≡◌, ◌<◌, Bool, true, false, List, [], ◌∷◌, ◌++◌, length, drop, Option, Some, None, refl, sym, ap, subst, ◌∙◌, append_assoc, arith}
 use Rattle.std.proofs.lemmas.List.{append-nil}
 use Rattle.std.specs.Prelude.{slice_get, T}
 use Rattle.std.specs.List.{filter, AllByRecursion}
@@ -50,19 +50,19 @@ module _ {A K : Type 0} (key : A → K) (above : K → A → Bool) where
   all_above x [] h = tt
   all_above x (y ∷ ys) h = (h.0.0, all_above x ys h.1)
 
+  -- What is seen so far, of which something holds, and what is left.
+  pub record Walked (Holds : List A → Type 0) (xs : List A) (last : Option K) : Type 0 where
+    pub before : List A
+    pub split : xs ≡ before ++ left last xs
+    pub holds : Holds before
+
+  pub walk_begins : (Holds : List A → Type 0) (xs : List A) → Holds [] → Walked Holds xs None
+  walk_begins Holds xs h = record { before = []; split = refl; holds = h }
+
   module _ (not_itself : (x : A) → above (key x) x ≡ false) where
     behind_is : (before : List A) (x : A) (rest : List A) → AreRising (before ++ x ∷ rest) → filter (above (key x)) (before ++ x ∷ rest) ≡ rest
     behind_is [] x rest r = cond-false _ _ _ (not_itself x) ∙ filter_whole (above (key x)) rest (all_above x rest r.0)
     behind_is (y ∷ before) x rest r = cond-false _ _ _ (all_back _ before x rest r.0).1 ∙ behind_is before x rest r.1
-
-    -- What is seen so far, of which something holds, and what is left.
-    pub record Walked (Holds : List A → Type 0) (xs : List A) (last : Option K) : Type 0 where
-      pub before : List A
-      pub split : xs ≡ before ++ left last xs
-      pub holds : Holds before
-
-    pub walk_begins : (Holds : List A → Type 0) (xs : List A) → Holds [] → Walked Holds xs None
-    walk_begins Holds xs h = record { before = []; split = refl; holds = h }
 
     module _ (Holds : List A → Type 0) (xs : List A) (last : Option K) (rising : AreRising xs) (w : Walked Holds xs last) where
       -- one more is seen

@@ -1,13 +1,13 @@
 -- Parts that are written one behind the other.
-use Rattle.std.proofs.Common.{◌≡◌, ℕ, ◌+◌, ◌<◌, ◌≤◌, List, [], ◌∷◌, ◌++◌, length, take, Result, Ok, Err, refl, sym, ap, subst, ◌∙◌, append_assoc, arith}
-use Rattle.std.specs.Prelude.{flat_map, Option, Some, slice_get}
-use Rattle.std.proofs.lemmas.List.{append-nil, take_more, take_all}
-use Rattle.std.proofs.lemmas.List.Folds.{flat_map-append}
+use Rattle.std.proofs.Common.{◌≡◌, ℕ, ◌+◌, List, [], ◌∷◌, ◌++◌, take, sym, ap, subst, ◌∙◌, append_assoc}
+use Rattle.std.specs.Prelude.{flat_map, Some, slice_get}
+use Rattle.std.proofs.lemmas.List.{append-nil, take_more}
+use Rattle.std.proofs.lemmas.List.Concat.{flat_map-append}
 use Rattle.std.proofs.lemmas.Option.{slice_get_within, get_or_from_slice_get}
 use Rattle.outside.specs.Files.{ShelfSeen}
 use Rattle.rdb_parts.specs.declared.pen.Pen.{Pen}
-use Rattle.rdb_parts.specs.Pens.{Adds, Writes}
-use Rattle.rdb_parts.proofs.Penned.{adds_then, writes_then, lost_then}
+use Rattle.rdb_parts.specs.Pens.{Adds}
+use Rattle.rdb_parts.proofs.Penned.{adds_then}
 
 -- one more of the parts that are written one behind the other
 pub adds_one : {A : Type 0} (o m n : ShelfSeen) (b c d : Pen) (word_of : A → List ℕ) (head : List ℕ) (xs : List A) (x : A) → Adds o m b c (head ++ flat_map word_of xs) → Adds m n c d (word_of x)

@@ -10,6 +10,10 @@ use Rattle.rdb_parts.specs.Words.{string_word}
 abbrev pub node_word : Part → List ℕ
 node_word p = string_word (id_key p.key) ++ string_word p.bytes
 
+-- what is told of a node: its key and its bytes
+abbrev pub told : Part → Id × List ℕ
+told p = (p.key, p.bytes)
+
 -- whether a node's key is above another one
 abbrev pub is_behind : Id → Part → Bool
 is_behind key p = nat_lt (id_number key) (id_number p.key)

@@ -17,11 +17,14 @@ abbrev pub first_of : List StreamEntry → Id
 first_of [] = (0, 0)
 first_of (e ∷ es) = e.id
 
--- how many entries there are, the last id, the first one, the greatest deleted one, and how many entries were added
+-- numbers of a stream: how many entries there are, the last id, the first one, the greatest deleted one, and how many entries were added
+abbrev pub numbers_word : ℕ → Id → Id → Id → ℕ → List ℕ
+numbers_word count last first deleted added =
+    length_word count ++ (lengths_word last ++ (lengths_word first ++ (lengths_word deleted ++ length_word added)))
+
+-- the marks of a stream
 abbrev pub marks_word : Stream → List ℕ
-marks_word s =
-    length_word (length s.entries)
-    ++ (lengths_word s.last ++ (lengths_word (first_of s.entries) ++ (lengths_word s.deleted ++ length_word s.added)))
+marks_word s = numbers_word (length s.entries) s.last (first_of s.entries) s.deleted s.added
 
 -- A stream with these nodes: the nodes, the marks, and the groups. The moment is that at which each consumer was seen and
 -- active, in milliseconds.
@@ -29,13 +32,16 @@ abbrev pub stream_word : ℕ → List Part → Stream → List ℕ
 stream_word moment nodes s =
     counted_by node_word nodes ++ (marks_word s ++ counted_by (group_word moment) (entries s.groups))
 
--- The marks have 64 bits.
-pub record AreStoredMarks (s : Stream) : Type 0 where
-  pub count : length s.entries < 2 ^ 64
-  pub last : IsStoredId s.last
-  pub first : IsStoredId (first_of s.entries)
-  pub deleted : IsStoredId s.deleted
-  pub added : s.added < 2 ^ 64
+-- The numbers have 64 bits.
+pub record AreStoredNumbers (count : ℕ) (last first deleted : Id) (added : ℕ) : Type 0 where
+  pub count_fits : count < 2 ^ 64
+  pub last_fits : IsStoredId last
+  pub first_fits : IsStoredId first
+  pub deleted_fits : IsStoredId deleted
+  pub added_fits : added < 2 ^ 64
+
+abbrev pub AreStoredMarks : Stream → Type 0
+AreStoredMarks s = AreStoredNumbers (length s.entries) s.last (first_of s.entries) s.deleted s.added
 
 -- these bytes, all of them, are the stream as a value of type 21, behind its key
 abbrev pub SpellsStream : Stream → List ℕ → Type 0

@@ -68,13 +68,11 @@ pub(crate) fn write_consumers<F: Shelf>(
     ensures writes { Writes (F.seen shelf.old) (F.seen shelf.new) pen.old pen.new (counted_by (consumer_word moment group.now.pending) (keys group.now.consumers)) result }
     ensures fits { len group.now.consumers < 2 ^ 64 }
 {
-    let count = group.consumers();
-    write_length(shelf, pen, count as u64)?;
-    for index in 0..count {
-        match group.consumer_name(index) {
-            Some(name) => write_consumer(shelf, pen, group, name, moment)?,
-            None => unreachable!(),
-        }
+    write_length(shelf, pen, group.consumers() as u64)?;
+    let mut index = 0;
+    'names: while let Some(name) = group.consumer_name(index) {
+        write_consumer(shelf, pen, group, name, moment)?;
+        index += 1;
     }
     Ok(())
 }

@@ -1,6 +1,7 @@
 //! The consumer groups of a stream, each with its pending entries.
 
-ghost use Rattle.std.specs.Prelude.{◌≡◌, ◌<◌, ◌^◌, ◌++◌, OnOk};
+ghost use Rattle.std.specs.Prelude.{◌≡◌, ◌<◌, ◌^◌, ◌++◌, slice_get, OnOk};
+ghost use Rattle.std.specs.Option.{option_map};
 ghost use Rattle.std.specs.List.{AllByRecursion};
 ghost use Rattle.std.specs.FinMap.{entries, len};
 ghost use Rattle.rdb_parts.specs.Pens.{Writes};
@@ -66,6 +67,19 @@ fn write_group<F: Shelf>(
     write_consumers(shelf, pen, group, moment)
 }
 
+// The name of a group and the group, by its place among rising names.
+fn group_at<'a>(stream: &'a Stream, index: usize) -> Option<(&'a [u8], &'a Group)>
+    ensures { option_map (λ found. (found.0.now, found.1.now)) result ≡ slice_get (entries stream.now.groups) index }
+{
+    match stream.group_name(index) {
+        None => None,
+        Some(name) => match stream.group_at(index) {
+            None => None,
+            Some(group) => Some((name, group)),
+        },
+    }
+}
+
 /// Writes how many groups a stream has, and these by rising names.
 pub(crate) fn write_groups<F: Shelf>(
     shelf: &mut F,
@@ -77,13 +91,11 @@ pub(crate) fn write_groups<F: Shelf>(
     ensures few { len stream.now.groups < 2 ^ 64 }
     ensures fits { OnOk result (AllByRecursion IsStoredGroup (entries stream.now.groups)) }
 {
-    let count = stream.groups();
-    write_length(shelf, pen, count as u64)?;
-    for index in 0..count {
-        match (stream.group_name(index), stream.group_at(index)) {
-            (Some(name), Some(group)) => write_group(shelf, pen, name, group, moment)?,
-            _ => unreachable!(),
-        }
+    write_length(shelf, pen, stream.groups() as u64)?;
+    let mut index = 0;
+    'each: while let Some((name, group)) = group_at(stream, index) {
+        write_group(shelf, pen, name, group, moment)?;
+        index += 1;
     }
     Ok(())
 }

@@ -1,13 +1,14 @@
 //! The nodes of a stream, as they stand in their blocks.
 
-ghost use Rattle.std.specs.Prelude.{◌≡◌, ◌++◌, length, slice_get};
+ghost use Rattle.std.specs.Prelude.{◌≡◌, ◌++◌, ℕ, List, length, slice_get};
 ghost use Rattle.std.specs.Option.{option_map};
+ghost use Rattle.stream_node.specs.declared.id.Id.{Id as AnId};
 ghost use Rattle.stream_node.specs.Ids.{id_key};
 ghost use Rattle.stream_object.specs.Streams.{IsStream, nodes};
 ghost use Rattle.rdb_parts.specs.Pens.{Writes};
 ghost use Rattle.rdb_parts.specs.Words.{string_word};
 ghost use Rattle.rdb_stream_writer.specs.Ids.{counted_by};
-ghost use Rattle.rdb_stream_writer.specs.Nodes.{node_word, behind};
+ghost use Rattle.rdb_stream_writer.specs.Nodes.{node_word, told, behind};
 
 use blocks::BlockStore;
 use outside::{HostFault, Shelf};
@@ -24,7 +25,7 @@ fn node_behind<'a, B: BlockStore>(
     key: Option<Id>,
 ) -> Option<(Id, &'a [u8])>
     requires { IsStream (B.blocks store.now) stream.now }
-    ensures { option_map (λ found. (found.0, found.1.now)) result ≡ option_map (λ p. (p.key, p.bytes)) (slice_get (behind key (nodes (B.blocks store.now) stream.now)) 0) }
+    ensures { option_map {U = AnId × List ℕ} (λ found. (found.0, found.1.now)) result ≡ option_map told (slice_get (behind key (nodes (B.blocks store.now) stream.now)) 0) }
 {
     match key {
         None => stream.node_at_or_after(store, LEAST),
