@@ -10,4 +10,3 @@ pub mod SpelledClaims
 pub mod SpelledGroups
 pub mod SpelledNodes
 pub mod SpelledStreams
-pub mod Keyed

@@ -19,6 +19,7 @@ use Rattle.rdb_stream_writer.specs.Consumers.{moment_word}
 use Rattle.rdb_stream_writer.specs.Groups.{pending_word, IsStoredEntry}
 use Rattle.rdb_stream_writer.proofs.Maps.{sorted_filter}
 use Rattle.rdb_stream_writer.proofs.Walks.{left, AreRising, Walked, walk_begins, walk_on, walk_shorter, walk_ends, entries_rise, not_over_itself}
+use Rattle.rdb_stream_writer.proofs.Places.{each_more}
 use Rattle.rdb_stream_writer.proofs.Written.{adds_one, adds_head}
 
 abbrev Entry : Type 0
@@ -141,10 +142,6 @@ told_none : (names : Names) (found : Option Entry) → TellsEntry names found No
 told_none names None h = refl
 told_none names (Some e) h = absurd h
 
-stored_more : (es : List Entry) (e : Entry) → AllByRecursion IsStoredEntry es → IsStoredEntry e → AllByRecursion IsStoredEntry (es ++ e ∷ [])
-stored_more [] e h one = (one, tt)
-stored_more (x ∷ es) e h one = (h.0, stored_more es e h.1 one)
-
 later_is : (pending : Pendings) (above : Option Id) → later above pending ≡ over above (entries pending)
 later_is pending None = refl
 later_is pending (Some above) = refl
@@ -179,7 +176,7 @@ module _ (pending : Pendings) (names : Names) where
           (more (entries pending) (entries_sorted pending) above (e.0) (e.1) (PendingAdds o m b c) (PendingAdds o n b d) w
           (λ p. record {
             adds = adds_one o m n b c d pending_word (length_word (len pending)) w.before (e.0) p.adds (subst (Adds m n c d) word q);
-            stored = stored_more w.before (e.0) p.stored stored;
+            stored = each_more IsStoredEntry w.before (e.0) p.stored stored;
           }))
 
       pub pending_shorter : length (later (Some told.id) pending) < length (later above pending)

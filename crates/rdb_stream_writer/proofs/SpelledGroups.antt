@@ -47,6 +47,11 @@ each_so P Q (x ∷ xs) is h = (is x h.0, each_so P Q xs is h.1)
 some_not : {A : Type 0} (o : Option A) → o ≡ None → not (is_some o) ≡ true
 some_not o is = ap (λ p. not (is_some p)) is
 
+-- what was handed out is of an entry
+handed_some : (how : ℕ × ℕ) (found : Option Pending) → option_map handed_of found ≡ Some how → (p : Pending) × (found ≡ Some p)
+handed_some how None is = absurd cc
+handed_some how (Some p) is = (p, refl)
+
 -- ---- consumers
 
 abbrev names_in : List (List ℕ × Unit {0}) → List (List ℕ)
@@ -99,10 +104,6 @@ module _ (pending : Pendings) (moment : ℕ) (few : len pending < 2 ^ 64) (store
       ∙ (λ i. cond (found_filter id_total (is_of name) (entries pending) q p id_same (entries_sorted pending) (sym (get-entries pending q) ∙ is) i) true (owner_in known (is i)))
       ∙ sym (ap (owner_in (taking name_cmp name known)) is)
 
-  handed_some : (q : Id) (how : ℕ × ℕ) (found : Option Pending) → option_map handed_of found ≡ Some how → (p : Pending) × (found ≡ Some p)
-  handed_some q how None is = absurd cc
-  handed_some q how (Some p) is = (p, refl)
-
   claims_split : (name : List ℕ) (known : List ℕ → Bool) (made : Begun) → Split pending made (taking_all id_cmp (own name) (of_known pending known)) → Split pending made (of_known pending (taking name_cmp name known))
   claims_split name known made split =
       let was : Id → Bool = taking_all id_cmp (own name) (of_known pending known) in
@@ -110,7 +111,7 @@ module _ (pending : Pendings) (moment : ℕ) (few : len pending < 2 ^ 64) (store
       record {
         mine = shows_alike id_total id_same (get pending) was now made.group.pending (claimed_is name known) split.mine;
         left = shows_alike id_total id_same (handed_in pending) (λ q. not (was q)) (λ q. not (now q)) made.unclaimed
-            (λ q how is. let p = handed_some q how (get pending q) is in ap not (claimed_is name known q (p.0) (p.1))) split.left;
+            (λ q how is. let p = handed_some how (get pending q) is in ap not (claimed_is name known q (p.0) (p.1))) split.left;
       }
 
   -- One consumer more.
@@ -196,11 +197,7 @@ module _ (moment : ℕ) (g : List ℕ × Group) (stored : IsStoredGroup g) (fit 
   all_taken : (q : Id) (how : ℕ × ℕ) → handed_in pending q ≡ Some how → taking_all id_cmp (entries pending) (λ q. false) q ≡ true
   all_taken q how is =
       taken_is id_total (entries pending) (λ q. false) q
-      ∙ ap (λ b. cond b true false) (ap is_some (sym (get-entries pending q)) ∙ some_handed (get pending q) is)
-    where
-      some_handed : (found : Option Pending) → option_map handed_of found ≡ Some how → is_some found ≡ true
-      some_handed None e = absurd cc
-      some_handed (Some p) e = refl
+      ∙ ap (λ b. cond b true false) (ap is_some (sym (get-entries pending q)) ∙ ap is_some (handed_some how (get pending q) is).1)
 
   none_known : (q : Id) (p : Option Pending) → owner_in (λ q. false) p ≡ false
   none_known q None = refl
@@ -241,11 +238,7 @@ module _ (moment : ℕ) (g : List ℕ × Group) (stored : IsStoredGroup g) (fit 
   none_left =
       shows_none id_total id_same (handed_in pending) consumed.final.unclaimed
       (shows_alike id_total id_same (handed_in pending) (λ q. not (of_known pending all_known q)) (λ q. false) consumed.final.unclaimed
-      (λ q how is. let p = handed_found q how (get pending q) is in ap not (owner_known q (p.0) (p.1))) consumed.split.left)
-    where
-      handed_found : (q : Id) (how : ℕ × ℕ) (found : Option Pending) → option_map handed_of found ≡ Some how → (p : Pending) × (found ≡ Some p)
-      handed_found q how None is = absurd cc
-      handed_found q how (Some p) is = (p, refl)
+      (λ q how is. let p = handed_some how (get pending q) is in ap not (owner_known q (p.0) (p.1))) consumed.split.left)
 
   made_is : consumed.final.group ≡ g.1
   made_is = λ i. record { last = (consumed.last ∙ ap (λ (group : Group). group.last) pended.group) i; consumers = made_consumers i; pending = made_pending i }

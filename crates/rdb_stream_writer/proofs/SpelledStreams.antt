@@ -28,14 +28,14 @@ stream_spelled m s moment is fit stored few groups =
     let n : Noded m ps no_nodes = nodes_spelled m ps no_nodes is.parts.each is.parts.rising tt in
     let front = counted_by node_word ps in
     let back = counted_by (group_word moment) (entries s.groups) in
-    let fs : (counted with_node no_nodes).Spells n.final front = counted_spelled with_node node_word ps no_nodes n.final (omega (arith, few_nodes m ps is.parts.each, stored.count_fits)) n.spelled in
-    let ms : (marks types.Third n.final.entries).Spells (marks_of value) (marks_word value) =
+    let nodes_are : (counted with_node no_nodes).Spells n.final front = counted_spelled with_node node_word ps no_nodes n.final (omega (arith, few_nodes m ps is.parts.each, stored.count_fits)) n.spelled in
+    let marks_are : (marks types.Third n.final.entries).Spells (marks_of value) (marks_word value) =
     subst (λ (es : List StreamEntry). (marks types.Third es).Spells (marks_of value) (marks_word value)) (sym n.entries)
     (marks_spelled value stored (upto_last m s.last is.fits ps is.parts.each is.upto)) in
-    let gs = groups_spelled moment s.groups groups fit.groups few in
+    let groups_are = groups_spelled moment s.groups groups fit.groups few in
     let same : StreamOf value ≡ StreamOf (record { entries = n.final.entries; last = value.last; deleted = value.deleted; added = value.added; groups = s.groups }) =
     λ i. StreamOf (record { entries = sym n.entries i; last = value.last; deleted = value.deleted; added = value.added; groups = s.groups }) in
-    (n.final, front, marks_word value ++ back, refl, fs, (marks_of value, marks_word value, back, refl, ms, (s.groups, back, [], sym (append-nil back), gs, (same, refl))))
+    (n.final, front, marks_word value ++ back, refl, nodes_are, (marks_of value, marks_word value, back, refl, marks_are, (s.groups, back, [], sym (append-nil back), groups_are, (same, refl))))
 
 -- where all was written
 pub spells_ok : {T E : Type 0} (m : Blocks) (s : Log) (moment : ℕ) (result : Result T E) → IsStream m s → IsFitStream (stream_of m s) → AreStoredMarks (stream_of m s) → len s.groups < 2 ^ 64
