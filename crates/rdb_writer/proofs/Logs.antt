@@ -1,5 +1,5 @@
 -- A stream behind its key.
-use Rattle.std.proofs.Common.{◌≡◌, ℕ, List, [], ◌∷◌, ◌++◌, Result, Ok, Err, OnOk, refl, sym}
+use Rattle.std.proofs.Common.{ℕ, List, [], ◌∷◌, Result, Ok, Err, OnOk, refl, sym}
 use Rattle.std.proofs.lemmas.List.{append-nil}
 use Rattle.outside.specs.Files.{ShelfSeen}
 use Rattle.plain_world.specs.Streams.{Stream}
@@ -18,8 +18,7 @@ use Rattle.rdb_stream_writer.specs.Streams.{SpellsStream}
 
 stream_spelled : (name : List ℕ) (stream : Stream) (word : List ℕ) → IsShort name → SpellsStream stream word → item.Spells (Key name (StreamOf stream)) (key_word code.third_stream name word)
 stream_spelled name stream word short spelled =
-    let a = string_word name in
-    (
+    let a = string_word name in (
       Opens name (layouts.Stream types.Third),
       code.third_stream ∷ a,
       word,

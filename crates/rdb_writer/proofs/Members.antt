@@ -1,5 +1,5 @@
 -- The members of a set, one behind the other.
-use Rattle.std.proofs.Common.{◌≡◌, ℕ, ◌<◌, ◌^◌, Bool, true, false, List, [], ◌∷◌, ◌++◌, length, take, Option, Some, None, is_some, refl, sym, ap, subst, ◌∙◌}
+use Rattle.std.proofs.Common.{◌≡◌, ℕ, ◌<◌, ◌^◌, true, false, List, [], ◌∷◌, ◌++◌, length, Option, Some, None, is_some, refl, sym, ap, subst, ◌∙◌}
 use Rattle.std.proofs.lemmas.List.{append-nil}
 use Rattle.std.specs.Prelude.{is_none}
 use Rattle.std.specs.FinMap.{get, len, empty}
@@ -11,7 +11,7 @@ use Rattle.rdb_grammar.specs.Codes as code
 use Rattle.rdb_grammar.specs.Format.{in_turn}
 use Rattle.rdb_grammar.specs.Elements.{with_one}
 use Rattle.rdb_grammar.specs.Items.{Key, item}
-use Rattle.set_object.specs.Strings.{Strings, set_of, IsOnce}
+use Rattle.set_object.specs.Strings.{set_of, IsOnce}
 use Rattle.set_object.specs.declared.members.Members.{Members}
 use Rattle.set_object.specs.Members.{IsMembers, listed, members}
 use Rattle.set_object.proofs.Depends.{members_laws_hold}

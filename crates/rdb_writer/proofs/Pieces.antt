@@ -1,5 +1,5 @@
 -- Elements written one behind the other.
-use Rattle.std.proofs.Common.{◌≡◌, ℕ, ◌+◌, ◌<◌, ◌≤◌, List, ◌∷◌, ◌++◌, length, take, get_or, flat_map, Result, Ok, Err, subst}
+use Rattle.std.proofs.Common.{ℕ, ◌+◌, ◌<◌, ◌≤◌, List, ◌∷◌, ◌++◌, length, take, get_or, flat_map, Result, Ok, Err, subst}
 use Rattle.std.proofs.lemmas.List.{take_all}
 use Rattle.outside.specs.Files.{ShelfSeen}
 use Rattle.rdb_parts.specs.declared.pen.Pen.{Pen}

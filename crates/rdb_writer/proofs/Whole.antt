@@ -1,5 +1,5 @@
 -- A whole file, from the making of its name on.
-use Rattle.std.proofs.Common.{◌≡◌, ℕ, ◌<◌, ◌^◌, List, [], ◌++◌, Option, None, Some, Ok, Err, refl, sym, subst, ◌∙◌}
+use Rattle.std.proofs.Common.{◌≡◌, ℕ, ◌<◌, ◌^◌, List, [], ◌++◌, Option, None, Some, Ok, Err, subst, ◌∙◌}
 use Rattle.std.proofs.lemmas.List.{append-nil}
 use Rattle.digests.specs.Crc.{crc_of}
 use Rattle.blocks.specs.Blocks.{Blocks}

@@ -1,5 +1,5 @@
 -- What is saved of a keyspace.
-use Rattle.std.specs.Prelude.{◌≡◌, ℕ, zero, suc, ◌+◌, ◌<◌, ◌≤◌, List, Option, None, Some, Result, Ok, Err, ⊤}
+use Rattle.std.specs.Prelude.{◌≡◌, ℕ, zero, suc, ◌+◌, ◌<◌, List, None, Some, Result, Ok, Err, ⊤}
 use Rattle.std.specs.FinMap.{get, len}
 use Rattle.blocks.specs.Blocks.{Blocks}
 use Rattle.plain_world.specs.Worlds.{World, Database, no_keys, live, look}

@@ -1,6 +1,5 @@
 //! Elements of packed forms.
 
-ghost use Rattle.std.specs.Prelude.{◌≡◌};
 ghost use Rattle.listpack.specs.Element.{element_text};
 ghost use Rattle.rdb_parts.specs.Pens.{Writes};
 ghost use Rattle.rdb_parts.specs.Words.{string_word};

@@ -1,6 +1,5 @@
 //! Hashes, field by field (RDB file format, "Hash Encoding").
 
-ghost use Rattle.std.specs.Prelude.{◌≡◌};
 ghost use Rattle.listpack.specs.Element.{element_text};
 ghost use Rattle.hash_object.specs.Fields.{IsFields, listed, fields};
 ghost use Rattle.plain_world.specs.Worlds.{HashOf};
@@ -28,10 +27,8 @@ fn write_pair<F: Shelf>(
 ) -> Result<(), HostFault>
     ensures { Writes (F.seen shelf.old) (F.seen shelf.new) pen.old pen.new (pair_word (element_text field.entry, element_text value.entry)) result }
 {
-    match write_element(shelf, pen, field) {
-        Ok(()) => write_element(shelf, pen, value),
-        Err(fault) => Err(fault),
-    }
+    write_element(shelf, pen, field)?;
+    write_element(shelf, pen, value)
 }
 
 // Writes the fields of a hash with their values, one behind the other.
@@ -51,9 +48,7 @@ fn write_pairs<F: Shelf, B: BlockStore>(
             None => unreachable!(),
             Some(cursor) => {
                 let (field, value) = hash.pair(store, cursor);
-                if let Err(fault) = write_pair(shelf, pen, field, value) {
-                    return Err(fault);
-                }
+                write_pair(shelf, pen, field, value)?;
                 place = hash.next(store, cursor);
             }
         }
@@ -74,11 +69,7 @@ pub(crate) fn write_hash<F: Shelf, B: BlockStore>(
     requires fit { IsFitValue (HashOf (fields (B.blocks store.now) hash.now)) }
     ensures { WritesKey (F.seen shelf.old) (F.seen shelf.new) pen.old pen.new name.now (HashOf (fields (B.blocks store.now) hash.now)) result }
 {
-    if let Err(fault) = write_name(shelf, pen, HASH, name) {
-        return Err(fault);
-    }
-    match write_length(shelf, pen, hash.len() as u64) {
-        Ok(()) => write_pairs(shelf, pen, store, hash),
-        Err(fault) => Err(fault),
-    }
+    write_name(shelf, pen, HASH, name)?;
+    write_length(shelf, pen, hash.len() as u64)?;
+    write_pairs(shelf, pen, store, hash)
 }

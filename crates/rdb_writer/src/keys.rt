@@ -1,6 +1,6 @@
 //! Keys with their values, by the types of these.
 
-ghost use Rattle.std.specs.Prelude.{◌≡◌, ℕ};
+ghost use Rattle.std.specs.Prelude.{ℕ};
 ghost use Rattle.blocks.specs.Blocks.{Owned};
 ghost use Rattle.object_codec.specs.declared.limits.Limits.{Limits};
 ghost use Rattle.fit_worlds.specs.Fit.{IsShort, IsFitValue};

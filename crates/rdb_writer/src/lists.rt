@@ -1,6 +1,5 @@
 //! Lists, element by element (RDB file format, "List Encoding").
 
-ghost use Rattle.std.specs.Prelude.{◌≡◌};
 ghost use Rattle.quicklist.specs.Chain.{elements, IsQuick};
 ghost use Rattle.plain_world.specs.Worlds.{ListOf};
 ghost use Rattle.fit_worlds.specs.Fit.{IsShort, IsFitValue};
@@ -33,9 +32,7 @@ fn write_elements<F: Shelf, B: BlockStore>(
         match place {
             None => unreachable!(),
             Some(cursor) => {
-                if let Err(fault) = write_element(shelf, pen, list.element(store, cursor)) {
-                    return Err(fault);
-                }
+                write_element(shelf, pen, list.element(store, cursor))?;
                 place = list.next(store, cursor);
             }
         }
@@ -56,11 +53,7 @@ pub(crate) fn write_list<F: Shelf, B: BlockStore>(
     requires fit { IsFitValue (ListOf (elements (B.blocks store.now) list.now)) }
     ensures { WritesKey (F.seen shelf.old) (F.seen shelf.new) pen.old pen.new name.now (ListOf (elements (B.blocks store.now) list.now)) result }
 {
-    if let Err(fault) = write_name(shelf, pen, LIST, name) {
-        return Err(fault);
-    }
-    match write_length(shelf, pen, list.len() as u64) {
-        Ok(()) => write_elements(shelf, pen, store, list),
-        Err(fault) => Err(fault),
-    }
+    write_name(shelf, pen, LIST, name)?;
+    write_length(shelf, pen, list.len() as u64)?;
+    write_elements(shelf, pen, store, list)
 }

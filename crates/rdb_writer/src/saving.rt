@@ -31,14 +31,11 @@ fn write_select<F: Shelf>(
     if named {
         return Ok(());
     }
-    match pen.write(shelf, &[254]) {
-        Ok(()) => write_length(shelf, pen, db as u64),
-        Err(fault) => Err(fault),
-    }
+    pen.write(shelf, &[254])?;
+    write_length(shelf, pen, db as u64)
 }
 
 // Writes the key of an item number, where it is there at the moment, and whether it is. The database may be named already.
-#[tactic(none)]
 fn write_item<F: Shelf, B: BlockStore>(
     shelf: &mut F,
     pen: &mut Pen,
@@ -58,23 +55,16 @@ fn write_item<F: Shelf, B: BlockStore>(
     match keyspace.there(db, at, moment) {
         None => Ok(false),
         Some(name) => {
-            if let Err(fault) = write_select(shelf, pen, db, named) {
-                return Err(fault);
-            }
-            if let Err(fault) = write_deadline(shelf, pen, keyspace.deadline(db, name)) {
-                return Err(fault);
-            }
+            write_select(shelf, pen, db, named)?;
+            write_deadline(shelf, pen, keyspace.deadline(db, name))?;
             let value = keyspace.value_at(db, at);
-            match write_key(shelf, pen, &keyspace.store, name, value, moment) {
-                Ok(()) => Ok(true),
-                Err(fault) => Err(fault),
-            }
+            write_key(shelf, pen, &keyspace.store, name, value, moment)?;
+            Ok(true)
         }
     }
 }
 
 // Writes the keys of a database that are there at the moment. The answer is how many they are.
-#[tactic(none)]
 fn write_database<F: Shelf, B: BlockStore>(
     shelf: &mut F,
     pen: &mut Pen,
@@ -91,16 +81,13 @@ fn write_database<F: Shelf, B: BlockStore>(
 {
     let mut count = 0;
     for at in 0..keyspace.table(db).top() {
-        match write_item(shelf, pen, keyspace, moment, db, at, count > 0) {
-            Ok(there) => count += u64::from(there),
-            Err(fault) => return Err(fault),
-        }
+        let there = write_item(shelf, pen, keyspace, moment, db, at, count > 0)?;
+        count += u64::from(there);
     }
     Ok(count)
 }
 
 // Writes all databases. The answer is how many keys are written.
-#[tactic(none)]
 fn write_databases<F: Shelf, B: BlockStore>(
     shelf: &mut F,
     pen: &mut Pen,
@@ -115,16 +102,13 @@ fn write_databases<F: Shelf, B: BlockStore>(
 {
     let mut count = 0u64;
     for db in 0..DATABASES {
-        match write_database(shelf, pen, keyspace, moment, db) {
-            Ok(keys) => count = count.saturating_add(keys),
-            Err(fault) => return Err(fault),
-        }
+        let keys = write_database(shelf, pen, keyspace, moment, db)?;
+        count = count.saturating_add(keys);
     }
     Ok(count)
 }
 
 // Writes a whole file behind the bytes of the name that is made.
-#[tactic(none)]
 fn write_file<F: Shelf, B: BlockStore>(
     shelf: &mut F,
     keyspace: &Keyspace<B>,
@@ -136,17 +120,10 @@ fn write_file<F: Shelf, B: BlockStore>(
     ensures keys { IfOk result (λ keys. keys ≡ min (keys_below 16 (saved keyspace.now.bases (B.blocks keyspace.now.store) moment).bases) (2 ^ 64 - 1)) }
 {
     let mut pen = Pen::new();
-    if let Err(fault) = pen.write(shelf, b"REDIS0011") {
-        return Err(fault);
-    }
-    let keys = match write_databases(shelf, &mut pen, keyspace, moment) {
-        Ok(keys) => keys,
-        Err(fault) => return Err(fault),
-    };
-    match pen.close(shelf) {
-        Ok(()) => Ok(keys),
-        Err(fault) => Err(fault),
-    }
+    pen.write(shelf, b"REDIS0011")?;
+    let keys = write_databases(shelf, &mut pen, keyspace, moment)?;
+    pen.close(shelf)?;
+    Ok(keys)
 }
 
 /// Writes the keys that are there at the moment, in milliseconds, as the file of this name, and says how many they are, or the
@@ -154,7 +131,6 @@ fn write_file<F: Shelf, B: BlockStore>(
 ///
 /// `HostFault` comes only where the shelf's count of faults rose. What the name holds then isn't said; no other name's bytes
 /// change.
-#[tactic(none)]
 pub fn save<F: Shelf, B: BlockStore>(
     keyspace: &Keyspace<B>,
     moment: u64,
@@ -167,15 +143,8 @@ pub fn save<F: Shelf, B: BlockStore>(
     ensures others { KeepsOthers (F.seen shelf.old).files (F.seen shelf.new).files name.now }
     ensures keys { IfOk result (λ keys. keys ≡ min (keys_below 16 (saved keyspace.now.bases (B.blocks keyspace.now.store) moment).bases) (2 ^ 64 - 1)) }
 {
-    if let Err(fault) = shelf.make(name) {
-        return Err(fault);
-    }
-    let keys = match write_file(shelf, keyspace, moment) {
-        Ok(keys) => keys,
-        Err(fault) => return Err(fault),
-    };
-    match shelf.keep() {
-        Ok(()) => Ok(keys),
-        Err(fault) => Err(fault),
-    }
+    shelf.make(name)?;
+    let keys = write_file(shelf, keyspace, moment)?;
+    shelf.keep()?;
+    Ok(keys)
 }

@@ -1,6 +1,5 @@
 //! Sets, member by member (RDB file format, "Set Encoding").
 
-ghost use Rattle.std.specs.Prelude.{◌≡◌};
 ghost use Rattle.set_object.specs.Members.{IsMembers, listed, members};
 ghost use Rattle.plain_world.specs.Worlds.{SetOf};
 ghost use Rattle.fit_worlds.specs.Fit.{IsShort, IsFitValue};
@@ -33,9 +32,7 @@ fn write_members<F: Shelf, B: BlockStore>(
         match place {
             None => unreachable!(),
             Some(cursor) => {
-                if let Err(fault) = write_element(shelf, pen, set.element(store, cursor)) {
-                    return Err(fault);
-                }
+                write_element(shelf, pen, set.element(store, cursor))?;
                 place = set.next(store, cursor);
             }
         }
@@ -56,11 +53,7 @@ pub(crate) fn write_set<F: Shelf, B: BlockStore>(
     requires fit { IsFitValue (SetOf (members (B.blocks store.now) set.now)) }
     ensures { WritesKey (F.seen shelf.old) (F.seen shelf.new) pen.old pen.new name.now (SetOf (members (B.blocks store.now) set.now)) result }
 {
-    if let Err(fault) = write_name(shelf, pen, SET, name) {
-        return Err(fault);
-    }
-    match write_length(shelf, pen, set.len() as u64) {
-        Ok(()) => write_members(shelf, pen, store, set),
-        Err(fault) => Err(fault),
-    }
+    write_name(shelf, pen, SET, name)?;
+    write_length(shelf, pen, set.len() as u64)?;
+    write_members(shelf, pen, store, set)
 }

@@ -1,6 +1,5 @@
 //! Sorted sets, member by member (RDB file format, "Sorted Set Encoding").
 
-ghost use Rattle.std.specs.Prelude.{◌≡◌};
 ghost use Rattle.listpack.specs.Element.{element_text};
 ghost use Rattle.zset_object.specs.Scored.{IsScored, ranked, scores};
 ghost use Rattle.plain_world.specs.Worlds.{SortedOf};
@@ -29,10 +28,8 @@ fn write_member<F: Shelf>(
     requires { IsScore score }
     ensures { Writes (F.seen shelf.old) (F.seen shelf.new) pen.old pen.new (member_word (score, element_text member.entry)) result }
 {
-    match write_element(shelf, pen, member) {
-        Ok(()) => write_score(shelf, pen, score),
-        Err(fault) => Err(fault),
-    }
+    write_element(shelf, pen, member)?;
+    write_score(shelf, pen, score)
 }
 
 // Writes the members of a sorted set with their scores, one behind the other.
@@ -53,9 +50,7 @@ fn write_ranked<F: Shelf, B: BlockStore>(
             None => unreachable!(),
             Some(cursor) => {
                 let (member, score) = scored.pair(store, &cursor);
-                if let Err(fault) = write_member(shelf, pen, member, score) {
-                    return Err(fault);
-                }
+                write_member(shelf, pen, member, score)?;
                 place = scored.next(store, &cursor);
             }
         }
@@ -76,11 +71,7 @@ pub(crate) fn write_scored<F: Shelf, B: BlockStore>(
     requires fit { IsFitValue (SortedOf (scores (B.blocks store.now) scored.now)) }
     ensures { WritesKey (F.seen shelf.old) (F.seen shelf.new) pen.old pen.new name.now (SortedOf (scores (B.blocks store.now) scored.now)) result }
 {
-    if let Err(fault) = write_name(shelf, pen, SORTED_SET, name) {
-        return Err(fault);
-    }
-    match write_length(shelf, pen, scored.len() as u64) {
-        Ok(()) => write_ranked(shelf, pen, store, scored),
-        Err(fault) => Err(fault),
-    }
+    write_name(shelf, pen, SORTED_SET, name)?;
+    write_length(shelf, pen, scored.len() as u64)?;
+    write_ranked(shelf, pen, store, scored)
 }

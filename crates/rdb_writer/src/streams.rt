@@ -1,6 +1,5 @@
 //! Streams (RDB file format of Redis 7.2, `rdb.c`: type 21).
 
-ghost use Rattle.std.specs.Prelude.{◌≡◌};
 ghost use Rattle.stream_object.specs.Streams.{IsStream, stream_of};
 ghost use Rattle.plain_world.specs.Worlds.{StreamOf};
 ghost use Rattle.fit_worlds.specs.Fit.{IsShort, IsFitValue};
@@ -29,8 +28,6 @@ pub(crate) fn write_log<F: Shelf, B: BlockStore>(
     requires fit { IsFitValue (StreamOf (stream_of (B.blocks store.now) stream.now)) }
     ensures { WritesKey (F.seen shelf.old) (F.seen shelf.new) pen.old pen.new name.now (StreamOf (stream_of (B.blocks store.now) stream.now)) result }
 {
-    match write_name(shelf, pen, STREAM, name) {
-        Ok(()) => write_stream(shelf, pen, stream, store, moment),
-        Err(fault) => Err(fault),
-    }
+    write_name(shelf, pen, STREAM, name)?;
+    write_stream(shelf, pen, stream, store, moment)
 }

@@ -1,6 +1,5 @@
 //! Strings (RDB file format, "String Encoding").
 
-ghost use Rattle.std.specs.Prelude.{◌≡◌};
 ghost use Rattle.blocks.specs.Blocks.{Owned};
 ghost use Rattle.string_object.specs.Text.{text_bytes, text_refs};
 ghost use Rattle.plain_world.specs.Worlds.{Str};
@@ -28,11 +27,7 @@ pub(crate) fn write_text<F: Shelf, B: BlockStore>(
     requires fit { IsFitValue (Str (text_bytes (B.blocks store.now) text.now)) }
     ensures { WritesKey (F.seen shelf.old) (F.seen shelf.new) pen.old pen.new name.now (Str (text_bytes (B.blocks store.now) text.now)) result }
 {
-    match write_name(shelf, pen, STRING, name) {
-        Ok(()) => {
-            let mut room = [0; 20];
-            write_string(shelf, pen, text.bytes(store, &mut room))
-        }
-        Err(fault) => Err(fault),
-    }
+    write_name(shelf, pen, STRING, name)?;
+    let mut room = [0; 20];
+    write_string(shelf, pen, text.bytes(store, &mut room))
 }

@@ -1,9 +1,7 @@
-use Rattle.std.proofs.Common.{◌≡◌, ap, sym, subst, ◌∙◌}
-use Rattle.blocks.specs.Blocks.{Owned}
-use Rattle.plain_world.specs.Worlds.{Str, ListOf, SetOf, HashOf, SortedOf, StreamOf}
+use Rattle.std.proofs.Common.{ap, sym, subst, ◌∙◌}
+use Rattle.plain_world.specs.Worlds.{ListOf, SetOf, HashOf, SortedOf, StreamOf}
 use Rattle.fit_worlds.specs.Fit.{IsFitValue}
 use Rattle.keyspace.specs.Values.{value_of}
-use Rattle.string_object.specs.Text.{text_bytes}
 use Rattle.quicklist.specs.Chain.{elements, IsQuick}
 use Rattle.set_object.specs.Members.{members, IsMembers}
 use Rattle.hash_object.specs.Fields.{fields, IsFields}

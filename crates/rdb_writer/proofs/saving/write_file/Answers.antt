@@ -1,10 +1,8 @@
+use Rattle.std.proofs.Common.{rules}
 use Rattle.rdb_parts.specs.Words.{header_word}
 use Rattle.rdb_parts.proofs.Penned.{lost_then, adds_then}
 use Rattle.rdb_writer.proofs.Whole.{file_put}
 use Rattle.rdb_writer.proofs.saving.write_file.Goals as goal
-
-pub returns-in-Err-clause-puts : goal.returns-in-Err-clause-puts
-returns-in-Err-clause-puts g c = c.in-Err.ensures
 
 pub write_databases-requires-clause-sound : goal.write_databases-requires-clause-sound
 write_databases-requires-clause-sound g c = c.requires.sound
@@ -12,28 +10,22 @@ write_databases-requires-clause-sound g c = c.requires.sound
 pub write_databases-requires-clause-fit : goal.write_databases-requires-clause-fit
 write_databases-requires-clause-fit g c = c.requires.fit
 
-pub returns-in-Err-write_databases-clause-puts : goal.returns-in-Err-write_databases-clause-puts
-returns-in-Err-write_databases-clause-puts g c = lost_then _ _ _ c.new-pen.result c.write.new.self header_word c.in_default.ensures c.in-Err-write_databases.ensures.writes
+pub returns-in_err-keys-clause-puts : goal.returns-in_err-keys-clause-puts
+returns-in_err-keys-clause-puts g c =
+    let lost = lost_then _ _ _ c.new-pen.result c.write.new.self header_word c.in_ok-write.ensures c.in_err-keys.ensures.writes in
+    search (rules, lost)
 
-pub returns-in-Ok-close-clause-puts : goal.returns-in-Ok-close-clause-puts
-returns-in-Ok-close-clause-puts g c =
-    let w = c.in-Ok.ensures.writes in
+pub returns-clause-puts : goal.returns-clause-puts
+returns-clause-puts g c =
+    let w = c.in_ok-keys.ensures.writes in
     file_put c.args.keyspace.now.bases (g.B.BlockStore.blocks c.args.keyspace.now.store) c.args.moment c.requires.sound.arranged _ _ _ _ c.new-pen.result c.write.new.self c.write_databases.new.pen w.0
-    c.new-pen.ensures.gathered c.new-pen.ensures.sum c.in_default.ensures w.1 w.2 c.in-Ok-close.ensures
+    c.new-pen.ensures.gathered c.new-pen.ensures.sum c.in_ok-write.ensures w.1 w.2 c.in_ok-close.ensures
 
-pub returns-in-Ok-close-clause-keys : goal.returns-in-Ok-close-clause-keys
-returns-in-Ok-close-clause-keys g c = c.in-Ok.ensures.keys
+pub returns-clause-keys : goal.returns-clause-keys
+returns-clause-keys g c = c.in_ok-keys.ensures.keys
 
-pub returns-in-Err-close-clause-puts : goal.returns-in-Err-close-clause-puts
-returns-in-Err-close-clause-puts g c =
-    let w = c.in-Ok.ensures.writes in
-    lost_then _ _ _ c.new-pen.result c.write_databases.new.pen _ (adds_then _ _ _ c.new-pen.result c.write.new.self c.write_databases.new.pen header_word w.0 c.in_default.ensures w.1) c.in-Err-close.ensures
-
-pub returns-in-Err-clause-keys : goal.returns-in-Err-clause-keys
-returns-in-Err-clause-keys g c = tt
-
-pub returns-in-Err-write_databases-clause-keys : goal.returns-in-Err-write_databases-clause-keys
-returns-in-Err-write_databases-clause-keys g c = tt
-
-pub returns-in-Err-close-clause-keys : goal.returns-in-Err-close-clause-keys
-returns-in-Err-close-clause-keys g c = tt
+pub returns-in_err-close-clause-puts : goal.returns-in_err-close-clause-puts
+returns-in_err-close-clause-puts g c =
+    let w = c.in_ok-keys.ensures.writes in
+    let lost = lost_then _ _ _ c.new-pen.result c.write_databases.new.pen _ (adds_then _ _ _ c.new-pen.result c.write.new.self c.write_databases.new.pen header_word w.0 c.in_ok-write.ensures w.1) c.in_err-close.ensures in
+    search (rules, lost)

@@ -6,5 +6,5 @@ use Rattle.rdb_writer.proofs.saving.write_select.Goals as goal
 pub returns-then-named : goal.returns-then-named
 returns-then-named g c = rw c.if-named.true (adds_nothing _ c.args.pen.now)
 
-pub returns-in-Ok : goal.returns-in-Ok
-returns-in-Ok g c = rw c.if-named.false (writes_then _ _ _ _ _ _ (254 ∷ []) (length_word c.args.db) c.write_length.result c.in-Ok.ensures c.write_length.ensures)
+pub returns : goal.returns
+returns g c = rw c.if-named.false (writes_then _ _ _ _ _ _ (254 ∷ []) (length_word c.args.db) c.write_length.result c.in_ok-write.ensures c.write_length.ensures)

@@ -1,4 +1,4 @@
-use Rattle.std.proofs.Common.{rules, FitsSigned, ◌≡◌, ◌<◌, ◌≤◌, ◌∙◌, ap, sym, ℕ, ℤ, pos, List, [], length, Some, slice_get, subst, arith}
+use Rattle.std.proofs.Common.{rules, FitsSigned, ◌≡◌, ◌<◌, ◌≤◌, ◌∙◌, ap, sym, pos, [], length, Some, slice_get, subst, arith}
 use Rattle.std.specs.Int.{w64}
 use Rattle.std.specs.FinMap.{len}
 use Rattle.std.proofs.lemmas.Int.{to_z-of_z}
@@ -28,8 +28,10 @@ write_member-requires g c =
     let fits : FitsSigned w64 c.pair-score.result.1 = search rules in
     rw (to_z-of_z w64 c.pair-score.result.1 fits) (score_fit (g.B.BlockStore.blocks c.args.store.now) c.args.scored.now c.requires.sound c.requires.fit _ _ _ c.pair-score.ensures)
 
-pub returns-in-Err : goal.returns-in-Err
-returns-in-Err g c = lost_then _ _ _ _ _ _ c.loop-index.invariant.so_far c.in-Err.ensures
+pub returns-in_err-write_member-in-Some : goal.returns-in_err-write_member-in-Some
+returns-in_err-write_member-in-Some g c =
+    let lost = lost_then _ _ _ c.args.pen.now c.loop-index.pen _ c.loop-index.invariant.so_far c.in_err-write_member-in-Some.ensures in
+    search (rules, lost)
 
 pub loop-index-preserved : goal.loop-index-preserved
 loop-index-preserved g c =
@@ -42,9 +44,9 @@ loop-index-preserved g c =
     let met : slice_get xs i ≡ Some key = ap (slice_get xs) (sym place.1) ∙ c.pair-score.ensures in
     let inside : i < length xs = omega (arith, c.loop-index-test.true, ranked_count m c.args.scored.now c.requires.sound, c.len-count.ensures m c.requires.sound) in
     let fits : FitsSigned w64 c.pair-score.result.1 = search rules in
-    let written = rw (to_z-of_z w64 c.pair-score.result.1 fits) at c.in_default.ensures in
+    let written = rw (to_z-of_z w64 c.pair-score.result.1 fits) at c.in_ok-write_member-in-Some.ensures in
     let one = subst (λ k. Adds (g.F.Shelf.seen c.loop-index.shelf) (g.F.Shelf.seen c.write_member.new.shelf) c.loop-index.pen c.write_member.new.pen (member_word k))
-        (sym (get_or_from_slice_get xs i key none met)) written in
+    (sym (get_or_from_slice_get xs i key none met)) written in
     record {
       next = match_as c.next-place.result (λ h. omega (arith, h, place.1)) (λ cursor h. (h.0, omega (arith, h.1, place.1))) c.next-place.ensures;
       so_far = one_more member_word xs _ _ c.args.pen.now c.loop-index.pen none i _ c.write_member.new.pen inside c.loop-index.invariant.so_far one;

@@ -3,12 +3,9 @@ use Rattle.rdb_stream_writer.specs.Streams.{stream_word}
 use Rattle.rdb_writer.proofs.Logs.{stream_written}
 use Rattle.rdb_writer.proofs.streams.write_log.Goals as goal
 
-pub returns-in-Ok : goal.returns-in-Ok
-returns-in-Ok g c =
+pub returns : goal.returns
+returns g c =
     let m = g.B.BlockStore.blocks c.args.store.now in
     let stream = stream_of m c.args.stream.now in
     stream_written _ _ _ c.args.pen.now c.write_name.new.pen _ c.args.name.now stream (stream_word c.args.moment (nodes m c.args.stream.now) stream) c.write_stream.result
-    c.requires.short c.in-Ok.ensures c.write_stream.ensures.writes c.write_stream.ensures.spells
-
-pub returns-in-Err : goal.returns-in-Err
-returns-in-Err g c = c.in-Err.ensures
+    c.requires.short c.in_ok-write_name.ensures c.write_stream.ensures.writes c.write_stream.ensures.spells
