@@ -2,6 +2,7 @@
 # Refuses memory in two runs, one of commands on strings and one of commands of each family behind a file with a value of each
 # type that is taken: each call of malloc or realloc in turn, one a run. Each must end with all replies, or with status 8
 # behind a whole reply and with its line. Prints how each ended, and fails at the first that ended otherwise.
+# Then so in a run of several sessions with an EXEC in it, by session_memory.py.
 # usage: bench/fail_alloc.sh, behind rt ci; it wants a compiler of C
 set -euo pipefail
 cd "$(dirname "$0")/.."
@@ -64,3 +65,4 @@ refuse_each() {
 }
 refuse_each 'all kinds of commands'
 refuse_each 'some commands of each family'
+python3 bench/session_memory.py "$room/refuse.so"

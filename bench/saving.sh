@@ -37,7 +37,7 @@ print("%.2f" % best)
 P
 }
 
-for kind in ${*:-strings hashes sorted_set list streams}; do
+for kind in ${*:-strings hashes sorted_set list streams groups}; do
   folder=$room/$kind
   mkdir "$folder"
   serve_folder "$folder"

@@ -1,7 +1,7 @@
-ghost use Rattle.std.specs.Prelude.{◌≡◌, ◌≢◌, ℕ, ◌+◌, ◌<◌, ◌≤◌, Bool, true, false, Some, None, IsSome, is_some, IfOk, OnOk, OnErr, length, slice_index_or};
+ghost use Rattle.std.specs.Prelude.{◌≡◌, ◌≢◌, ℕ, ◌+◌, ◌<◌, ◌≤◌, Bool, true, false, Some, None, IsSome, is_some, IfSome, IfOk, OnOk, OnErr, length, slice_index_or};
 ghost use Rattle.blocks.specs.declared.BlockRef.{BlockRef};
 ghost use Rattle.blocks.specs.Blocks.{no_blocks, with_block, bytes_at};
-ghost use Rattle.blocks.specs.Slabs.{no_slabs, IsClassOf, Moves, spare_of, waiting_of, wants};
+ghost use Rattle.blocks.specs.Slabs.{no_slabs, slab_at, IsClassOf, Moves, spare_of, waiting_of, wants};
 ghost use Rattle.class_heap.specs.Tree.{IsLeastWith};
 ghost use Rattle.class_heap.specs.Entries.{IsHeap, IsLeastVacant, entry_at, use_in, class_in, labels_of, HasRoom};
 ghost use Rattle.class_heap.specs.Placing.{takes};
@@ -77,6 +77,19 @@ impl ClassHeap {
         ensures { result ≡ is_some (heap_blocks self.now at) }
     {
         at.slab < self.entries.len() && self.entries[at.slab].is_live(at.slot)
+    }
+
+    /// The class of the slab that has this number, below 36. `None` comes exactly where no slab has it: the number is free, or a block
+    /// stands alone there.
+    pub fn class_at(&self, slab: usize) -> Option<usize>
+        ensures class { result ≡ class_in (slab_at (heap_slabs self.now) slab) }
+        ensures few { IfSome result (λ class. class < 36) }
+    {
+        if slab < self.entries.len() {
+            self.entries[slab].class()
+        } else {
+            None
+        }
     }
 
     /// Makes room for twice as many numbers.

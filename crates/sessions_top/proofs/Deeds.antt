@@ -1,5 +1,5 @@
 -- What is answered on a desk's way is a history.
-use Rattle.std.proofs.Common.{◌≡◌, ℕ, ◌≤◌, max, Bool, List, [], ◌∷◌, ◌++◌, Option, refl, sym, ap, ◌∙◌, subst, arith}
+use Rattle.std.proofs.Common.{◌≡◌, ℕ, max, Bool, List, [], ◌∷◌, ◌++◌, Option, refl, sym, ap, ◌∙◌, subst, arith}
 use Rattle.std.specs.Prelude.{min}
 use Rattle.outside.specs.Clocks.{Answers as ClockAnswers, Tells}
 use Rattle.outside.specs.declared.pacing.Plan.{Plan}
@@ -16,7 +16,7 @@ use Rattle.session_desk.specs.Desks.{DeskAnswers, DeskRests}
 use Rattle.session_desk.specs.Engines.{View, IsModelled}
 use Rattle.session_desk.specs.Kept.{DeskSeen, turned}
 use Rattle.session_desk.specs.Rooms.{StandsAs}
-use Rattle.sessions.specs.Way.{Told, arrivals_in, unit_told, units_told, Answers, AnswersCut, DoesSaid, DoesCut, way, CutWay, whole, at_last}
+use Rattle.sessions.specs.Way.{Told, arrivals_in, unit_told, units_told, DoesSaid, DoesCut, way, CutWay, whole, at_last}
 
 module _ {E : Type 0} (v : View E) (executes : ℕ → E → Words → List Part → E → Type 0) (works : ℕ → Plan → E → E → Type 0) (quits : Words → Bool) (modelled : IsModelled v executes works quits)
     (seed : ℕ) where

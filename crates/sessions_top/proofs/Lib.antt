@@ -1,3 +1,4 @@
 mod Deeds
 mod Worlds
+mod Completing
 mod Whole

@@ -1,35 +1,32 @@
 -- A whole run: what is counted, and when each status comes.
-use Rattle.std.proofs.Common.{◌≡◌, ◌<◌, ◌≤◌, ℕ, List, ◌++◌, Option, Some, None, false, refl, sym, ap, subst, ◌∙◌, inl, inr, arith}
+use Rattle.std.proofs.Common.{◌≡◌, ◌≤◌, ℕ, List, ◌++◌, Option, Some, None, false, refl, sym, ap, subst, ◌∙◌, inl, inr, arith}
 use Rattle.std.specs.Prelude.{◌⊎◌}
 use Rattle.std.specs.Io.KnownBytes.{Consumes}
-use Rattle.std.proofs.lemmas.List.{append_cancel_left, append_cancel_right}
+use Rattle.std.proofs.lemmas.List.{append_cancel_right}
 use Rattle.plain_sessions.proofs.Piecing.{pieces_are_one}
 use Rattle.plain_sessions.specs.Arrivals.{Sent}
 use Rattle.plain_sessions.specs.Pieces.{Stop, Pieced}
-use Rattle.program_top.proofs.Counted.{stayed, reads_at, reads_surely, writes_at, not_served, not_begun_status, host_at, host_same, host_alone}
-use Rattle.program_top.proofs.Whole.{loadable_excused}
+use Rattle.program_top.proofs.Counted.{stayed, reads_at, reads_surely, writes_at, not_served, not_begun_status, host_at, host_same, host_alone, host_surely, six_is_host}
+use Rattle.program_top.proofs.Unloaded.{excuse, Came, began, failed, files_of, eight_files}
 use Rattle.program_top.specs.Given.{Options, Given, Wrong, Run, Generate, Outside, LeavesAll}
-use Rattle.program_top.specs.Headline.{RoseAt, CanBegin, Excused, IsLoadable}
+use Rattle.program_top.specs.Headline.{CountsFaults, CanBegin, Excused, standing_clock}
 use Rattle.program_top.specs.Notes.{Notes}
 use Rattle.program_top.specs.Running.{Fails}
-use Rattle.program_top.specs.Starting.{NotBegun, UsesHost, is_host}
+use Rattle.program_top.specs.Starting.{Begins, UsesHost, is_host}
 use Rattle.program_top.specs.Statuses as plain
 use Rattle.program_top.specs.declared.ending.Ending.{Ending}
-use Rattle.program_top.specs.declared.ending.Ending.TheVariants as plain_endings
-use Rattle.serving.specs.Timed.{ReadsMoment}
-use Rattle.serving.specs.declared.ending.Ended.{Ended}
 use Rattle.sessions.specs.Served as served_by
-use Rattle.sessions.specs.Served.{Served, EndsBy}
+use Rattle.sessions.specs.Served.{EndsBy}
 use Rattle.sessions.specs.declared.ending.SessionsEnded.{SessionsEnded}
 use Rattle.sessions.specs.declared.ending.SessionsEnded.TheVariants as ended_by
-use Rattle.sessions_top.proofs.Worlds.{run_words_seen}
-use Rattle.sessions_top.specs.Headline.{sessions}
+use Rattle.sessions_top.proofs.Completing.{words_complete}
+use Rattle.sessions_top.proofs.Worlds.{run_words_seen, run_of_seen}
+use Rattle.sessions_top.specs.Headline.{sessions, may_serve}
 use Rattle.sessions_top.specs.Running.{RunsOptions, begun, not_begun, RunsOf, RunsWords, read, unread}
 use Rattle.sessions_top.specs.Statuses.{status_of, line_of, ending_of}
-use Rattle.sessions_top.specs.Stepped.{turns, answers, rests, BeginsDesk, serves, desk_clock, StepsStatus, RunsNoted}
-use Rattle.sessions_top.specs.TopAnswers.{AreWrong, NamesNoFile, CountsFaults, EndsExactly, excused, by, Exactly, TopAnswers}
+use Rattle.sessions_top.specs.Stepped.{BeginsDesk, serves, desk_clock}
+use Rattle.sessions_top.specs.TopAnswers.{AreWrong, EndsExactly, excused, by, Exactly, TopAnswers}
 use Rattle.sessions_top.specs.declared.ending.SessionsEnding.{SessionsEnding}
-use Rattle.sessions_top.specs.declared.ending.SessionsEnding.TheVariants as endings
 
 module _ (before after : Outside) where
   -- nothing was touched
@@ -39,6 +36,7 @@ module _ (before after : Outside) where
     write = stayed 5 status before.output.faults after.output.faults five (ap (λ o. o.output.faults) same);
     host = stayed 6 status before.host.reading.faults after.host.reading.faults six (ap (λ o. o.host.reading.faults) same);
     sure_read = λ sure e. four e;
+    sure_host = λ other name e f sure listed is. six is;
     no_file = λ none. ap (λ o. o.host) same;
   }
 
@@ -53,6 +51,7 @@ module _ (before after : Outside) where
           write = writes_at before.output after.output end c.1;
           host = stayed 6 (plain.status_of (plain.ending_of end)) before.host.reading.faults after.host.reading.faults (not_served end 6 refl) (host_same options.max_input before.host after.host options.file false host refl);
           sure_read = reads_surely before.input after.input end c.0;
+          sure_host = λ other name e f sure listed six. not_served end 6 refl six;
           no_file = λ none. let H : Option (List ℕ) → Type 0 = λ o. UsesHost options.max_input o before.host after.host false in host_alone options.max_input before.host after.host false (subst H none host);
         }
     served_counts ended_by.Unknown is =
@@ -62,6 +61,7 @@ module _ (before after : Outside) where
           write = stayed 5 11 before.output.faults after.output.faults (λ e. omega (arith, e)) c.1;
           host = stayed 6 11 before.host.reading.faults after.host.reading.faults (λ e. omega (arith, e)) (host_same options.max_input before.host after.host options.file false host refl);
           sure_read = λ sure e. omega (arith, e);
+          sure_host = λ other name e f sure listed six. omega (arith, six);
           no_file = λ none. let H : Option (List ℕ) → Type 0 = λ o. UsesHost options.max_input o before.host after.host false in host_alone options.max_input before.host after.host false (subst H none host);
         }
 
@@ -75,6 +75,10 @@ module _ (before after : Outside) where
     write = stayed 5 (plain.status_of why) before.output.faults after.output.faults (fails_more options why f 5 (omega arith)) (ap (λ o. o.faults) f.output);
     host = host_at options.max_input before.host after.host options.file why f.host;
     sure_read = λ sure e. fails_more options why f 4 (omega arith) e;
+    sure_host = λ other name e is sure listed six.
+        let same : options ≡ other = cc in
+        let H : Option (List ℕ) → Type 0 = λ o. UsesHost options.max_input o before.host after.host (is_host why) in
+        host_surely options.max_input before.host after.host name (is_host why) (subst H (ap (λ (o : Options). o.file) same ∙ is) f.host) sure listed (six_is_host why six);
     no_file = λ none. let H : Option (List ℕ) → Type 0 = λ o. UsesHost options.max_input o before.host after.host (is_host why) in host_alone options.max_input before.host after.host (is_host why) (subst H none f.host);
   }
 
@@ -101,6 +105,10 @@ module _ (before after : Outside) where
   wrong_ends (Run options) ending r w = absurd w
   wrong_ends (Generate n options) ending r w = ap status_of r.0
 
+  not_seven : (ended : SessionsEnded) → status_of (ending_of ended) ≡ 7 → ⊥
+  not_seven (ended_by.Plain end) e = not_served end 7 refl e
+  not_seven ended_by.Unknown e = omega (arith, e)
+
   not_one : (ended : SessionsEnded) → status_of (ending_of ended) ≡ 1 → ⊥
   not_one (ended_by.Plain end) e = not_served end 1 refl e
   not_one ended_by.Unknown e = omega (arith, e)
@@ -110,14 +118,6 @@ module _ (before after : Outside) where
   one_alone (Generate n options) ending r e = tt
   one_alone (Run options) ending (begun first last ended b host s reads is) e = absurd (not_one ended (ap status_of (sym is) ∙ e))
   one_alone (Run options) ending (not_begun why f is) e = absurd (fails_more options why f 1 (omega arith) (ap status_of (sym is) ∙ e))
-
-  -- where a run that can begin doesn't begin the host failed or memory wanted
-  excuse : (options : Options) (file : Option (List ℕ)) (why : Ending) (moment : ℕ) (clock : _) → CanBegin before options file → ReadsMoment before.clock clock moment
-      → NotBegun before.host.files options.max_input file moment why → Excused (plain.status_of why)
-  excuse options None why moment clock can at n = inr (ap plain.status_of n)
-  excuse options (Some name) why moment clock can at n =
-      let w = can.file moment clock at in
-      loadable_excused before.host.files options.max_input name moment can.bytes w.0 can.is can.few w.1 why n
 
   -- of bytes that are told it is known which were taken
   same_taken : (bytes left : Option (List ℕ)) (a b rest : List ℕ) → bytes ≡ Some (a ++ rest) → left ≡ Some rest → Consumes bytes left b → b ≡ a
@@ -147,17 +147,37 @@ module _ (before after : Outside) where
 
   run_served : (options : Options) (ending : SessionsEnding) → Ran (Run options) ending → CanBegin before options options.file → ServedSo options (status_of ending)
   run_served options ending (begun first last ended b host s reads is) can = subst (λ e. ServedSo options (status_of e)) (sym is) (inr (ends_so options ended first last s))
-  run_served options ending (not_begun why f is) can = subst (λ e. ServedSo options (status_of e)) (sym is) (inl (excuse options options.file why f.moment after.clock can f.read f.why))
+  run_served options ending (not_begun why f is) can = subst (λ e. ServedSo options (status_of e)) (sym is) (inl (excuse before after options options.file why f.moment after.clock can f.read f.why))
 
-  exactly : (given : Given) (ending : SessionsEnding) → RunsWords BeginsDesk serves desk_clock given before after ending → Exactly given before after (status_of ending)
-  exactly given ending (read r) = record {
+  -- how a run with these options came to its status
+  came : (options : Options) (ending : SessionsEnding) → RunsOptions Begins may_serve standing_clock options before after ending → Notes before.notes after.notes (line_of ending)
+      → Came before after (status_of ending) options
+  came options ending (begun first last ended b host s reads is) line = began first b (λ e. not_seven ended (ap status_of (sym is) ∙ e))
+  came options ending (not_begun why f is) line = failed why f (ap status_of is) (subst (λ e. Notes before.notes after.notes (line_of e)) is line)
+
+  -- status 7 comes only where options were given
+  seven_runs : (given : Given) (ending : SessionsEnding) → Ran given ending → status_of ending ≡ 7 → (options : Options) × (given ≡ Run options)
+  seven_runs Wrong ending r e = absurd (omega (arith, ap status_of r.0, e))
+  seven_runs (Run options) ending r e = (options, refl)
+  seven_runs (Generate n options) ending r e = absurd (omega (arith, ap status_of r.0, e))
+
+  -- the options of a run
+  ran_as : (given : Given) (options : Options) (ending : SessionsEnding) → RunsOf Begins may_serve standing_clock given before after ending → given ≡ Run options
+      → RunsOptions Begins may_serve standing_clock options before after ending
+  ran_as given options ending r e = subst (λ g. RunsOf Begins may_serve standing_clock g before after ending) e r
+
+  exactly : (given : Given) (ending : SessionsEnding) → RunsWords BeginsDesk serves desk_clock given before after ending → Notes before.notes after.notes (line_of ending)
+      → Exactly given before after (status_of ending)
+  exactly given ending (read r) line = record {
     wrong = λ w. inl (wrong_ends given ending r w);
     wrong_alone = λ e. one_alone given ending r e;
+    files = files_of before after (status_of ending) given (λ options e. came options ending (ran_as given options ending (run_of_seen given before after ending r) e) line) (seven_runs given ending r);
     served = λ options is can. run_served options ending (subst (λ g. Ran g ending) is r) can;
   }
-  exactly given ending (unread same is) = record {
+  exactly given ending (unread same is) line = record {
     wrong = λ w. inr (ap status_of is);
     wrong_alone = λ e. absurd (let eight : status_of ending ≡ 8 = ap status_of is in omega (arith, e, eight));
+    files = eight_files before after (status_of ending) given (ap status_of is);
     served = λ options g can. inl (inr (ap status_of is));
   }
 
@@ -168,5 +188,6 @@ module _ (before after : Outside) where
     headline = record { ending = ending; is = refl; run = run_words_seen given before after ending r; line = line };
     stepped = record { ending = ending; is = refl; run = r };
     counts = words_counts given ending r;
-    exact = exactly given ending r;
+    exact = exactly given ending r line;
+    complete = words_complete before after given ending (run_words_seen given before after ending r) (words_counts given ending r);
   })

@@ -1,43 +1,39 @@
 -- The units on a desk's way are those that a plain server may give.
-use Rattle.std.proofs.Common.{◌≡◌, ℕ, ◌≤◌, ◌<◌, max, List, [], ◌∷◌, ◌++◌, map, Option, Some, None, true, false, refl, sym, ap, ◌∙◌, subst, arith}
-use Rattle.std.proofs.lemmas.List.{map-append}
+use Rattle.std.proofs.Common.{◌≡◌, ℕ, ◌<◌, List, map, Option, refl, sym, ap, ◌∙◌, subst, arith}
 use Rattle.class_heap.specs.Heap.{heap_blocks, heap_slabs, IsClassHeapStep}
 use Rattle.outside.specs.Clocks.{Answers}
 use Rattle.outside.specs.Pacing.{PacerSeen, tuned}
 use Rattle.outside.specs.Streams.{SourceSeen, SinkSeen}
 use Rattle.plain_world.specs.Words.{Words}
-use Rattle.plain_world.specs.Worlds.{World, Entry, live, selecting}
+use Rattle.plain_world.specs.Worlds.{Entry, live}
 use Rattle.plain_world.specs.declared.reply.Part.{Part}
 use Rattle.plain_sessions.proofs.Running.{histories_run, histories_covered}
-use Rattle.plain_sessions.specs.Arrivals.{Arrival}
 use Rattle.plain_sessions.specs.Histories.{Room, room_of}
-use Rattle.plain_sessions.specs.Transactions.{Session, new_session}
+use Rattle.plain_sessions.specs.Transactions.{new_session}
 use Rattle.program_top.specs.Engines.{Engine, world_of, works, IsFirst}
 use Rattle.program_top.specs.Given.{Options, Given, Wrong, Run, Generate, Outside}
 use Rattle.program_top.specs.Headline.{standing_clock}
 use Rattle.program_top.specs.Starting.{Standing, BeginsWith, Begins}
 use Rattle.redis_core.specs.Engines.{Executes}
 use Rattle.plain_model.specs.Meant.{asks_to_quit}
-use Rattle.resp_frames.specs.Puts.{PutsAll, PutsFront}
 use Rattle.serving.specs.Timed.{Timed, ReadsMoment}
 use Rattle.serving.specs.declared.ending.Ended.TheVariants as served
 use Rattle.session_desk.specs.Engines.{IsModelled, seen}
 use Rattle.session_desk.specs.OverEngine.{engine_modelled}
-use Rattle.session_desk.specs.Kept.{Kept, DeskSeen, new_kept, session_at}
-use Rattle.session_desk.specs.Rooms.{StandsAs, SameSession}
+use Rattle.session_desk.specs.Kept.{Kept, new_kept, session_at}
+use Rattle.session_desk.specs.Rooms.{SameSession}
 use Rattle.sessions.specs.Served as served_by
 use Rattle.sessions.specs.Served.{Served}
-use Rattle.sessions.specs.Way.{Told, arrivals_in, units_told, way, CutWay}
+use Rattle.sessions.specs.Way.{Told, arrivals_in, units_told}
 use Rattle.sessions.specs.declared.ending.SessionsEnded.{SessionsEnded}
 use Rattle.sessions.specs.declared.ending.SessionsEnded.TheVariants as endings
-use Rattle.sessions_top.proofs.Deeds as deeds
 use Rattle.sessions_top.proofs.Deeds.{Stands, Seen, way_seen, cut_seen}
 use Rattle.sessions_top.specs.Headline.{sessions, may_serve}
 use Rattle.sessions_top.specs.Plain as plain
 use Rattle.sessions_top.specs.Plain.{MayServe, ServesSessions, ServesTo}
 use Rattle.sessions_top.specs.Running as running
 use Rattle.sessions_top.specs.Running.{RunsOptions, begun, not_begun, RunsOf, RunsWords, unread, ReadsNoMore}
-use Rattle.sessions_top.specs.Stepped.{view, Desk, turns, answers, rests, standing_of, BeginsDesk, serves, desk_clock, RunsDesk, RunsNoted}
+use Rattle.sessions_top.specs.Stepped.{view, Desk, standing_of, BeginsDesk, serves, desk_clock, RunsDesk, RunsNoted}
 use Rattle.sessions_top.specs.declared.ending.SessionsEnding.{SessionsEnding}
 
 abbrev executes : ℕ → Engine → Words → List Part → Engine → Type 0
@@ -150,7 +146,7 @@ run_seen options before after ending (begun first last ended b host s reads is) 
     running.begun (standing_of first) x.there ended b.begins host x.serves_so (subst (λ c. ReadsNoMore ended c after.clock) (sym x.clock_is) reads) is
 run_seen options before after ending (not_begun why f is) = running.not_begun why f is
 
-run_of_seen : (given : Given) (before after : Outside) (ending : SessionsEnding) → RunsDesk given before after ending
+pub run_of_seen : (given : Given) (before after : Outside) (ending : SessionsEnding) → RunsDesk given before after ending
     → RunsOf Begins may_serve standing_clock given before after ending
 run_of_seen Wrong before after ending r = r
 run_of_seen (Run options) before after ending r = run_seen options before after ending r

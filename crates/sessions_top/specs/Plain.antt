@@ -1,9 +1,8 @@
 -- What a plain server may answer several sessions, and what serving them by it comes to.
 use Rattle.std.specs.Prelude.{◌≡◌, ℕ, ◌≤◌, List, [], ◌++◌, length, Option}
 use Rattle.std.specs.Io.KnownBytes.{Consumes}
-use Rattle.outside.specs.Clocks.{Answers}
 use Rattle.outside.specs.Streams.{SourceSeen, SinkSeen}
-use Rattle.plain_world.specs.Worlds.{World, live, selecting}
+use Rattle.plain_world.specs.Worlds.{live, selecting}
 use Rattle.plain_model.specs.Coverage.{IsCovered}
 use Rattle.plain_model.specs.Runs.{run}
 use Rattle.plain_sessions.specs.Arrivals.{Sent, Arrival, Arrive}

@@ -1,5 +1,5 @@
 -- How a run of several sessions goes, over any states of what serves.
-use Rattle.std.specs.Prelude.{◌≡◌, ℕ, List, Option, false}
+use Rattle.std.specs.Prelude.{◌≡◌, Option, false}
 use Rattle.outside.specs.Clocks.{Answers}
 use Rattle.outside.specs.Streams.{SourceSeen, SinkSeen}
 use Rattle.program_top.specs.Given.{Options, Given, Wrong, Run, Generate, Outside, LeavesAll}

@@ -6,6 +6,7 @@ use Rattle.std.specs.Cmp.{tied_itself}
 use Rattle.stream_groups.proofs.Owned.{added_there}
 use Rattle.std.specs.Map.{lookup, set_value}
 use Rattle.std.specs.FinMap as map
+use Rattle.std.specs.FinMap.{FinMap}
 use Rattle.stream_groups.specs.Groups.{Group, Groups, name_cmp, changed, changed_from, has_consumer, with_consumer}
 use Rattle.stream_groups.specs.Kept.{Name, named, NamesRise}
 use Rattle.stream_groups.proofs.Maps.{equal}
@@ -13,9 +14,9 @@ use Rattle.stream_groups.proofs.Orders.{name_total, name_same}
 use Rattle.stream_groups.proofs.Uses.{is_named, group_found, named_set}
 
 -- To put what stands there changes nothing.
-pub put_same_in_changing : (groups : Groups) (q : List ℕ) (group : Group) → map.get groups q ≡ Some group → map.insert groups q group ≡ groups
-put_same_in_changing groups q group is = map.same_map name_total name_same _ _ (λ p. map.get-insert name_total groups q group p ∙ elim (cases_Bool (eq_by_cmp name_cmp p q)) [
-  | inl same ↦ cond-true _ _ _ same ∙ sym is ∙ ap (map.get groups) (sym (name_same p q (equal _ same)))
+pub put_same_in_changing : {X : Type 0} (m : FinMap name_cmp X) (q : List ℕ) (x : X) → map.get m q ≡ Some x → map.insert m q x ≡ m
+put_same_in_changing m q x is = map.same_map name_total name_same _ _ (λ p. map.get-insert name_total m q x p ∙ elim (cases_Bool (eq_by_cmp name_cmp p q)) [
+  | inl same ↦ cond-true _ _ _ same ∙ sym is ∙ ap (map.get m) (sym (name_same p q (equal _ same)))
   | inr other ↦ cond-false _ _ _ other
 ])
 

@@ -4,8 +4,8 @@ use Rattle.std.specs.List.{AllZip}
 use Rattle.std.specs.Vec.{vec_len}
 use Rattle.std.specs.FinMap.{from_sorted}
 use Rattle.stream_groups.specs.Seen.{seen, seen_entries}
-use Rattle.stream_groups.specs.declared.pendings.Handed.{Handed}
-use Rattle.stream_groups.specs.Groups.{Id, Group, id_cmp, name_cmp}
+use Rattle.stream_groups.specs.declared.entries.Handed.{Handed}
+use Rattle.stream_groups.specs.Groups.{Id, id_cmp, name_cmp}
 use Rattle.stream_groups.specs.Kept.{Name, bytes_of, named, pending_of, pendings_of}
 use Rattle.stream_groups.specs.Consumers as consumers
 use Rattle.stream_groups.specs.Consumers.{listed, names_of}
@@ -43,17 +43,17 @@ pub same_pendings : (es fs : List (Id × Handed)) → AllZip IsHandedCopy es fs 
 unfolding seen
 same_pendings es fs h = ap (from_sorted {R = id_cmp}) (same_handed es fs h)
 
--- a copy of a group under its name
-abbrev pub IsGroupCopy : Name × Group → Name × Group → Type 0
-IsGroupCopy p q = (AllZip (λ x y. y ≡ x) p.0.items q.0.items × (vec_len q.0 ≡ vec_len p.0)) × (q.1 ≡ p.1)
+-- a copy of what is kept under a name
+abbrev pub IsNamedCopy : {X : Type 0} → Name × X → Name × X → Type 0
+IsNamedCopy p q = (AllZip (λ x y. y ≡ x) p.0.items q.0.items × (vec_len q.0 ≡ vec_len p.0)) × (q.1 ≡ p.1)
 
-same_group : (es fs : List (Name × Group)) → AllZip IsGroupCopy es fs → seen_entries bytes_of (λ (g : Group). g) fs ≡ seen_entries bytes_of (λ g. g) es
-same_group [] [] h = refl
-same_group [] (f ∷ fs) h = absurd h
-same_group (e ∷ es) [] h = absurd h
-same_group (e ∷ es) (f ∷ fs) h = λ i. (same_bytes e.0.items f.0.items h.0.0.0 i, h.0.1 i) ∷ same_group es fs h.1 i
+same_entries_named : {X : Type 0} (es fs : List (Name × X)) → AllZip IsNamedCopy es fs → seen_entries bytes_of (λ (x : X). x) fs ≡ seen_entries bytes_of (λ x. x) es
+same_entries_named [] [] h = refl
+same_entries_named [] (f ∷ fs) h = absurd h
+same_entries_named (e ∷ es) [] h = absurd h
+same_entries_named (e ∷ es) (f ∷ fs) h = λ i. (same_bytes e.0.items f.0.items h.0.0.0 i, h.0.1 i) ∷ same_entries_named es fs h.1 i
 
--- Groups that were copied are the same.
-pub same_groups : (es fs : List (Name × Group)) → AllZip IsGroupCopy es fs → named (λ (g : Group). g) fs ≡ named (λ g. g) es
+-- What is copied under the same names is the same.
+pub same_under_names : {X : Type 0} (es fs : List (Name × X)) → AllZip IsNamedCopy es fs → named (λ (x : X). x) fs ≡ named (λ x. x) es
 unfolding seen
-same_groups es fs h = ap (from_sorted {R = name_cmp}) (same_group es fs h)
+same_under_names es fs h = ap (from_sorted {R = name_cmp}) (same_entries_named es fs h)

@@ -10,3 +10,6 @@ pub mod Owns
 pub mod Tallies
 pub mod Places
 pub mod Copies
+pub mod IdSets
+pub mod Indexing
+pub mod Shares

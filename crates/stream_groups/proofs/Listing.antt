@@ -16,8 +16,8 @@ use Rattle.std.specs.declared.ops.Bound.{Bound}
 use Rattle.std.specs.declared.ops.Bound.TheVariants.{Excluded, Unbounded}
 use Rattle.std.proofs.lemmas.List.{length-map}
 use Rattle.std.proofs.lemmas.Option.{slice_get-map}
-use Rattle.stream_groups.specs.declared.pendings.Handed.{Handed}
-use Rattle.stream_groups.specs.Groups.{Id, Pending, Pendings, id_cmp, is_of, is_above, later, own_ids}
+use Rattle.stream_groups.specs.declared.entries.Handed.{Handed}
+use Rattle.stream_groups.specs.Groups.{Id, Pending, Pendings, id_cmp, is_above, later}
 use Rattle.stream_groups.specs.Kept.{pending_of, pendings_of, IdsRise}
 use Rattle.stream_groups.proofs.Uses.{numbered_entries}
 
@@ -36,7 +36,7 @@ filter_seen test (e ∷ es) = elim (test (seen_as e)) as
     ]
 
 -- the entries above an id, or all
-abbrev pub kept_later : Option Id → List (Id × Handed) → List (Id × Handed)
+abbrev pub kept_later : {X : Type 0} → Option Id → List (Id × X) → List (Id × X)
 kept_later None es = es
 kept_later (Some above) es = filter (λ e. is_lt (id_cmp above e.0)) es
 
@@ -46,15 +46,6 @@ later_seen None es pending rising view = ap map.entries (sym view) ∙ numbered_
 later_seen (Some above) es pending rising view = ap (λ p. filter (is_above above) (map.entries p)) (sym view) ∙ ap (filter (is_above above)) (numbered_entries pending_of es rising)
     ∙ filter_seen (is_above above) es
 
--- the ids of a consumer among entries
-abbrev pub owned_ids : List ℕ → List (Id × Handed) → List Id
-owned_ids consumer es = list_map (λ e. e.0) (filter (is_of consumer) (list_map seen_as es))
-
--- The ids of a consumer, as they are seen.
-pub own_seen : (consumer : List ℕ) (above : Option Id) (es : List (Id × Handed)) (pending : Pendings) → IdsRise es → pendings_of es ≡ pending
-    → own_ids pending consumer above ≡ owned_ids consumer (kept_later above es)
-own_seen consumer above es pending rising view = ap (λ xs. list_map (λ (e : Id × Pending). e.0) (filter (is_of consumer) xs)) (later_seen above es pending rising view)
-
 -- One more id is listed.
 pub listed_hit : (ids : List Id) (id : Id) (left : ℕ) (rest all : List Id) → 0 < left → ids ++ take left (id ∷ rest) ≡ all → (ids ++ id ∷ []) ++ take (left - 1) rest ≡ all
 listed_hit ids id zero rest all some is = absurd (omega arith)
@@ -63,7 +54,7 @@ listed_hit ids id (suc left) rest all some is =
     ap (λ k. (ids ++ id ∷ []) ++ take k rest) one ∙ append_assoc ids (id ∷ []) (take left rest) ∙ is
 
 -- a test that always passes, and one beside it
-all_pass : (es : List (Id × Handed)) → filter (λ e. true && not false) es ≡ es
+all_pass : {X : Type 0} (es : List (Id × X)) → filter (λ e. true && not false) es ≡ es
 all_pass [] = refl
 all_pass (e ∷ es) = ap (λ xs. e ∷ xs) (all_pass es)
 
@@ -71,15 +62,15 @@ and-true : (b : Bool) → (b && not false) ≡ b
 and-true true = refl
 and-true false = refl
 
-filter_same_in_listing : (p q : Id × Handed → Bool) (es : List (Id × Handed)) → ((e : Id × Handed) → p e ≡ q e) → filter p es ≡ filter q es
+filter_same_in_listing : {X : Type 0} (p q : Id × X → Bool) (es : List (Id × X)) → ((e : Id × X) → p e ≡ q e) → filter p es ≡ filter q es
 filter_same_in_listing p q es same = λ i. filter (λ e. same e i) es
 
 -- A range with no start is all entries.
-pub from_all_in_listing : (start : Bound Id) (above : Option Id) (es : List (Id × Handed)) → start ≡ Unbounded → above ≡ None → entries_between id_cmp start Unbounded es ≡ kept_later above es
+pub from_all_in_listing : {X : Type 0} (start : Bound Id) (above : Option Id) (es : List (Id × X)) → start ≡ Unbounded → above ≡ None → entries_between id_cmp start Unbounded es ≡ kept_later above es
 from_all_in_listing start above es is none = ap (λ b. entries_between id_cmp b Unbounded es) is ∙ all_pass es ∙ ap (λ a. kept_later a es) (sym none)
 
 -- A range behind an id is the entries above it.
-pub from_after : (start : Bound Id) (above : Option Id) (id : Id) (es : List (Id × Handed)) → start ≡ Excluded id → above ≡ Some id → entries_between id_cmp start Unbounded es ≡ kept_later above es
+pub from_after : {X : Type 0} (start : Bound Id) (above : Option Id) (id : Id) (es : List (Id × X)) → start ≡ Excluded id → above ≡ Some id → entries_between id_cmp start Unbounded es ≡ kept_later above es
 from_after start above id es is some = ap (λ b. entries_between id_cmp b Unbounded es) is ∙ filter_same_in_listing _ _ es (λ e. and-true (is_lt (id_cmp id e.0))) ∙ ap (λ a. kept_later a es) (sym some)
 
 module _ (es : List (Id × Handed)) (pending : Pendings) (rising : IdsRise es) (view : pendings_of es ≡ pending) where

@@ -1,8 +1,7 @@
 -- The ids that are pending for a consumer, one after another.
-use Rattle.std.proofs.Common.{◌≡◌, ℕ, ◌≤◌, Bool, true, false, cond, List, [], ◌∷◌, length, Option, Some, None, refl, sym, ap, subst, ◌∙◌, arith}
+use Rattle.std.proofs.Common.{◌≡◌, ℕ, Bool, true, false, cond, List, [], ◌∷◌, Option, Some, None, refl, sym, ap, subst, ◌∙◌}
 use Rattle.std.specs.Prelude.{T, map as list_map, slice_get}
 use Rattle.std.proofs.lemmas.Bool.{cond-true}
-use Rattle.std.proofs.lemmas.List.{length-map}
 use Rattle.std.specs.Cmp.{tied_itself}
 use Rattle.std.specs.FinMap as map
 use Rattle.std.specs.FinMap.{is_sorted}
@@ -107,19 +106,3 @@ none_at (id ∷ ids) h = cc
 -- Where no first one is, there is none.
 pub own_none : (pending : Pendings) (consumer : List ℕ) (above : Option Id) → None ≡ slice_get (own_ids pending consumer above) 0 → own_ids pending consumer above ≡ []
 own_none pending consumer above h = none_at (own_ids pending consumer above) h
-
-fewer : (test : Entry → Bool) (es : List Entry) → length (filter test es) ≤ length es
-fewer test [] = omega arith
-fewer test (e ∷ es) = by (test e) (fewer test es)
-  where
-    by : (b : Bool) → length (filter test es) ≤ length es → length (cond b (e ∷ filter test es) (filter test es)) ≤ length (e ∷ es)
-    by true h = omega (arith, h)
-    by false h = omega (arith, h)
-
--- A consumer has no more pending entries than its group.
-pub own_most : (pending : Pendings) (consumer : List ℕ) → length (own_ids pending consumer None) ≤ map.len pending
-own_most pending consumer =
-    let size : length (own_ids pending consumer None) ≡ length (filter (is_of consumer) (map.entries pending)) = length-map (filter (is_of consumer) (map.entries pending)) (λ (e : Entry). e.0) in
-    let most : length (filter (is_of consumer) (map.entries pending)) ≤ length (map.entries pending) = fewer (is_of consumer) (map.entries pending) in
-    let all : map.len pending ≡ length (map.entries pending) = map.len-entries pending in
-    omega (arith, size, most, all)

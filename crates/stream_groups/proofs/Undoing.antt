@@ -1,13 +1,14 @@
 -- What was put is taken back.
-use Rattle.std.proofs.Common.{◌≡◌, ℕ, ◌+◌, ◌<◌, true, cond, List, [], ◌∷◌, ◌++◌, take, drop, length, get_or, add-one, Option, Some, None, is_some, inl, inr, refl, sym, ap, ◌∙◌, arith}
+use Rattle.std.proofs.Common.{◌≡◌, ℕ, ◌+◌, ◌<◌, true, cond, List, [], ◌∷◌, ◌++◌, take, drop, length, get_or, add-one, append_assoc, Option, Some, None, is_some, inl, inr, refl, sym, ap, ◌∙◌, arith}
 use Rattle.std.proofs.lemmas.Bool.{cond-true, cond-false, cases_Bool}
 use Rattle.std.specs.Ordering.{eq_by_cmp}
 use Rattle.std.specs.FinMap as map
 use Rattle.std.specs.Option.{option_map}
 use Rattle.std.proofs.Math.Seq.{take-suc}
 use Rattle.std.proofs.lemmas.List.{length-take-le, length-map, map-append, drop_more}
-use Rattle.stream_groups.specs.declared.pendings.Handed.{Handed}
+use Rattle.stream_groups.specs.declared.entries.Handed.{Handed}
 use Rattle.stream_groups.specs.Groups.{Id, Pending, Pendings, id_cmp, placed}
+use Rattle.stream_groups.specs.Index.{were}
 use Rattle.stream_groups.specs.Kept.{restored, undone, logged, pending_of}
 use Rattle.stream_groups.proofs.Maps.{equal}
 use Rattle.stream_groups.proofs.Orders.{id_total, id_same}
@@ -76,3 +77,12 @@ put_step p ids ws was d e within is =
 -- What is left to be put, behind one more.
 pub placed_step : (p : Pendings) (ids : List Id) (n : ℕ) (d : Id) (e : Pending) → n < length ids → placed (map.insert p (get_or ids n d) e) (drop (n + 1) ids) e ≡ placed p (drop n ids) e
 placed_step p ids n d e within = sym (ap (λ xs. placed p xs e) (drop_more ids n d within))
+
+-- What one more id was is logged.
+pub were_step : (p : Pendings) (ids : List Id) (n : ℕ) (d : Id) (e : Pending) (ws after : List (Option Handed)) (was : Option Handed) → n < length ids → after ≡ ws ++ was ∷ []
+    → option_map pending_of was ≡ map.get p (get_or ids n d)
+    → logged after ++ were (map.insert p (get_or ids n d) e) (drop (n + 1) ids) e ≡ logged ws ++ were p (drop n ids) e
+were_step p ids n d e ws after was within items is =
+    let left = were (map.insert p (get_or ids n d) e) (drop (n + 1) ids) e in
+    ap (λ xs. logged xs ++ left) items ∙ ap (λ xs. xs ++ left) (more_log ws was) ∙ append_assoc (logged ws) (option_map pending_of was ∷ []) left
+    ∙ ap (λ w. logged ws ++ w ∷ left) is ∙ sym (ap (λ xs. logged ws ++ were p xs e) (drop_more ids n d within))

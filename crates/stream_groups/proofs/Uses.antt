@@ -1,7 +1,7 @@
 -- The maps of names and of ids after each of their calls.
 use Rattle.std.proofs.Common.{◌≡◌, ℕ, Bool, List, [], Option, Some, None, IsSome, is_some, refl, sym, ap, ◌∙◌}
 use Rattle.std.specs.FinMap as map
-use Rattle.stream_groups.specs.declared.pendings.Handed.{Handed}
+use Rattle.stream_groups.specs.declared.entries.Handed.{Handed}
 use Rattle.std.specs.Option.{option_map}
 use Rattle.std.proofs.lemmas.Iterator.Adapters.{option_map_id}
 use Rattle.std.specs.Ordering.{eq_by_cmp}

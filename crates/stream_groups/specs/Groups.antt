@@ -163,8 +163,3 @@ some_if_any number = if number == 0 then None else Some number
 -- how many ids are pending for a consumer, where some are
 abbrev pub tallied : Pendings → List ℕ → Option ℕ
 tallied pending consumer = some_if_any (count_by (is_of consumer) (map.entries pending))
-
--- what was counted, and one more; a count stays at the greatest
-abbrev pub one_more : Option ℕ → ℕ
-one_more None = 1
-one_more (Some count) = min (count + 1) (2 ^ 64 - 1)

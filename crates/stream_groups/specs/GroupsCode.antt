@@ -5,6 +5,7 @@ use Rattle.std.specs.FinMap as map
 use Rattle.std.specs.FinMap.{FinMap}
 use Rattle.std.specs.FinSet as set
 use Rattle.stream_groups.specs.Groups.{Id, Names, Pending, Pendings, Group, Groups, id_cmp}
+use Rattle.stream_groups.specs.Index.{IdSet, Index}
 
 abbrev pub names_code : Coded Names
 names_code = set.code (coded_list coded_ℕ)
@@ -25,3 +26,9 @@ groups_code = map.code (coded_list coded_ℕ) group_code
 
 abbrev pub pendings_code : Coded Pendings
 pendings_code = map.code (coded× coded_ℕ coded_ℕ) pending_code
+
+abbrev pub id_set_code : Coded IdSet
+id_set_code = set.code (coded× coded_ℕ coded_ℕ)
+
+abbrev pub index_code : Coded Index
+index_code = map.code (coded_list coded_ℕ) id_set_code

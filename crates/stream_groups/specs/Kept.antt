@@ -9,7 +9,7 @@ use Rattle.std.specs.FinMap as map
 use Rattle.std.specs.FinMap.{FinMap}
 use Rattle.std.specs.declared.vec.Vec.{Vec}
 use Rattle.std.specs.declared.alloc.Global.{Global}
-use Rattle.stream_groups.specs.declared.pendings.Handed.{Handed}
+use Rattle.stream_groups.specs.declared.entries.Handed.{Handed}
 use Rattle.stream_groups.specs.Seen.{seen}
 use Rattle.stream_groups.specs.Groups.{Id, Pending, Pendings, id_cmp, name_cmp}
 

@@ -92,7 +92,7 @@ impl Group {
         ensures err { OnErr result (self.new ≡ self.old) }
     {
         let name = self.consumers.get(consumer).unwrap();
-        let _ = self.pending.put(id, name, moment, count)?;
+        self.pending.put(id, name, moment, count)?;
         Ok(())
     }
 
@@ -154,15 +154,14 @@ impl Group {
     }
 
     // What is pending as a whole.
-    pub(crate) fn pending(&self, alloc: Global) -> Result<Waiting, Memory>
+    pub(crate) fn pending(&self) -> Result<Waiting, Memory>
         ensures { IfOk result (IsWaiting self.now.pending) }
     {
-        let owners = self.pending.tally(alloc)?.owners()?;
         Ok(Waiting {
             count: self.pending.count(),
             least: self.pending.least(),
             greatest: self.pending.greatest(),
-            owners,
+            owners: self.pending.owners()?,
         })
     }
 
@@ -204,7 +203,7 @@ impl Group {
         })
     }
 
-    /// How many entries are pending for a consumer.
+    /// How many entries are pending for a consumer, as it is kept: the steps are logarithmic in the consumers.
     pub fn own_len(&self, consumer: &[u8]) -> u64
         ensures { result ≡ length (own_ids self.now.pending consumer.now None) }
     {
@@ -212,7 +211,7 @@ impl Group {
     }
 
     /// The id of the first entry above an id, or of all, that is pending for a consumer. `None` comes exactly where there is
-    /// none.
+    /// none. The steps are logarithmic in the consumers and in the consumer's own entries.
     pub fn own_after(&self, consumer: &[u8], above: Option<Id>) -> Option<Id>
         ensures { result ≡ slice_get (own_ids self.now.pending consumer.now above) 0 }
     {

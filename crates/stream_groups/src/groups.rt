@@ -15,9 +15,10 @@ use std::marker::Model;
 
 /// The consumer groups of one stream, which contracts see as a finite map from their names.
 ///
-/// Groups and pending entries stand in ordered maps of std, and a consumer is found by a binary search, so a call takes steps
-/// logarithmic in what it looks through, but for those that answer lists. A new consumer shifts a reference for each consumer
-/// behind it, and what is asked by the place of a group walks through the groups. No clause says so.
+/// Groups, pending entries and the ids of each consumer stand in ordered maps of std, and a consumer is found by a binary search,
+/// so a call takes steps logarithmic in what it looks through, and that for each id that it takes or answers. A new consumer
+/// shifts a reference for each consumer behind it, what is pending as a whole passes over the consumers and not over their
+/// entries, and what is asked by the place of a group walks through the groups. No clause says so.
 #[derive(Drop)]
 pub struct Groups {
     alloc: Global,
@@ -184,7 +185,8 @@ impl Groups {
     }
 
     /// The ids that are pending in the group for a consumer above another id, by rising ids, up to a limit; for a consumer
-    /// that the group doesn't have there are none. None comes exactly where there is no such group.
+    /// that the group doesn't have there are none. None comes exactly where there is no such group. The entries of other
+    /// consumers are not passed over: each id takes logarithmic steps.
     pub fn pending_of(
         &self,
         name: &[u8],
@@ -203,13 +205,14 @@ impl Groups {
         }
     }
 
-    /// What is pending in the group, as a whole. None comes exactly where there is no such group.
+    /// What is pending in the group, as a whole, by going through the consumers for which some are. None comes exactly where
+    /// there is no such group.
     pub fn pending(&self, name: &[u8]) -> Result<Option<Waiting>, Memory>
         ensures { IfOk result (Tells (get self.now name.now)) }
     {
         match self.groups.get(name) {
             None => Ok(None),
-            Some(group) => match group.pending(self.alloc) {
+            Some(group) => match group.pending() {
                 Ok(waiting) => Ok(Some(waiting)),
                 Err(memory) => Err(memory),
             },

@@ -1,46 +1,25 @@
-//! The pending entries of a group.
+//! The pending entries of a group, with each consumer's own.
 
-ghost use Rattle.std.specs.Prelude.{◌≡◌, ◌-◌, ◌≤◌, ℕ, List, is_some, take, length, IfOk, IfSome, OnOk, OnErr, Some, None, slice_get};
-ghost use Rattle.std.specs.Option.{option_copied, option_map};
-ghost use Rattle.std.specs.FinMap.{empty, get, contains_key, insert, remove, len, keys};
-ghost use Rattle.stream_groups.specs.Groups.{again_in, placed, ids_of, later, own_ids, tallied};
-ghost use Rattle.stream_groups.specs.Kept.{pending_of, restored, undone, logged};
+ghost use Rattle.std.specs.Prelude.{T, ◌≡◌, ◌-◌, ℕ, List, [], ◌∷◌, length, take, IfOk, OnOk, OnErr, None, slice_get};
+ghost use Rattle.std.specs.Option.{option_map};
+ghost use Rattle.std.specs.FinMap.{empty, contains_key, insert, remove, len, keys, find, is_sorted};
+ghost use Rattle.stream_groups.specs.Groups.{again_in, name_cmp, placed, ids_of, later, own_ids, tallied};
+ghost use Rattle.stream_groups.specs.Kept.{pending_of};
+ghost use Rattle.stream_groups.specs.Waits.{owner_pairs};
 
-use crate::consumers::{Name, is_named};
-use crate::tally::Tally;
+use crate::consumers::Name;
+use crate::entries::{Entries, Handed};
+use crate::index::Index;
+use crate::waiting::Owner;
 use crate::{Id, Memory};
 use std::alloc::Global;
-use std::collections::BTreeMap;
 use std::marker::Model;
-use std::ops::Bound;
 
-// An entry that was handed to a consumer: when the last time, in milliseconds, and how often.
-#[derive(Drop)]
-pub(crate) struct Handed {
-    pub(crate) consumer: Name,
-    pub(crate) moment: u64,
-    pub(crate) count: u64,
-}
-
-impl Clone for Handed {
-    ghost use Rattle.std.specs.Prelude.{◌≡◌};
-    ghost use Rattle.stream_groups.specs.Kept.{pending_of};
-
-    ghost is_clone = { λ handed copy. pending_of copy ≡ pending_of handed };
-
-    fn clone(&self) -> Result<Handed, Memory> {
-        Ok(Handed {
-            consumer: self.consumer.clone()?,
-            moment: self.moment,
-            count: self.count,
-        })
-    }
-}
-
-// The pending entries by their ids.
+// The pending entries by their ids, and beside them which of them are whose.
 #[derive(Drop)]
 pub(crate) struct Pendings {
-    entries: BTreeMap<Id, Handed>,
+    entries: Entries,
+    index: Index,
 }
 
 impl Model for Pendings {
@@ -51,11 +30,11 @@ impl Model for Pendings {
 
     ghost coded = { pendings_code };
 
-    ghost use Rattle.stream_groups.specs.Kept.{pendings_of, IdsRise};
+    ghost use Rattle.stream_groups.specs.Index.{Indexes};
 
-    ghost view = { λ p. pendings_of p.entries.entries };
+    ghost view = { λ p. p.entries };
 
-    ghost invariant = { λ p. IdsRise p.entries.entries };
+    ghost invariant = { λ p. Indexes p.index p.entries };
 }
 
 impl Clone for Pendings {
@@ -66,6 +45,7 @@ impl Clone for Pendings {
     fn clone(&self) -> Result<Pendings, Memory> {
         Ok(Pendings {
             entries: self.entries.clone()?,
+            index: self.index.clone()?,
         })
     }
 }
@@ -76,79 +56,37 @@ impl Pendings {
         ensures { result ≡ empty }
     {
         Pendings {
-            entries: BTreeMap::new(alloc),
+            entries: Entries::new(alloc),
+            index: Index::new(alloc),
         }
     }
 
-    // Makes an id pending, and answers what it was. Memory leaves all as it was.
+    // Makes an id pending, whatever it was. Memory leaves all as it was.
     pub(crate) fn put(
         &mut self,
         id: Id,
         consumer: &Name,
         moment: u64,
         count: u64,
-    ) -> Result<Option<Handed>, Memory>
-        ensures was { IfOk result (λ was. option_map pending_of was ≡ get self.old id) }
+    ) -> Result<(), Memory>
         ensures ok { OnOk result (self.new ≡ insert self.old id (record { consumer = consumer.now.value.items; moment = moment; count = count })) }
         ensures err { OnErr result (self.new ≡ self.old) }
     {
-        let handed = Handed {
-            consumer: consumer.clone()?,
-            moment,
-            count,
-        };
-        Ok(self.entries.insert(id, handed)?)
-    }
-
-    // Hands an id out anew. `false` comes exactly where it isn't pending.
-    pub(crate) fn again(&mut self, id: Id, moment: u64) -> bool
-        ensures value { result ≡ contains_key self.old id }
-        ensures new { self.new ≡ again_in self.old id moment }
-    {
-        match self.entries.get_mut(&id) {
-            None => false,
-            Some(handed) => {
-                handed.moment = moment;
-                handed.count = handed.count.saturating_add(1);
-                true
+        let was = self.entries.put(id, consumer, moment, count)?;
+        match self.index.add(consumer.as_slice(), id) {
+            Ok(_) => {
+                self.index.leave(id, &was, consumer.as_slice());
+                Ok(())
+            }
+            Err(memory) => {
+                self.entries.restore(id, was);
+                Err(memory)
             }
         }
     }
 
-    // Takes an id out. `false` comes exactly where it isn't pending.
-    pub(crate) fn take(&mut self, id: Id) -> bool
-        ensures value { result ≡ contains_key self.old id }
-        ensures new { self.new ≡ remove self.old id }
-    {
-        self.entries.remove(&id).is_some()
-    }
-
-    // Puts back what an id was.
-    fn restore(&mut self, id: Id, was: Option<Handed>)
-        ensures { self.new ≡ restored self.old id (option_map pending_of was) }
-    {
-        match was {
-            None => drop(self.entries.remove(&id)),
-            Some(handed) => {
-                if let Some(slot) = self.entries.get_mut(&id) {
-                    *slot = handed;
-                }
-            }
-        }
-    }
-
-    // Puts back what the first ids were, the last of them first.
-    fn undo(&mut self, ids: &[Id], log: Vec<Option<Handed>>)
-        requires { length log.items ≤ length ids.now }
-        ensures { self.new ≡ undone self.old (take (length log.items) ids.now) (logged log.items) }
-    {
-        let mut log = log;
-        while let Some(was) = log.pop() {
-            self.restore(ids[log.len()], was);
-        }
-    }
-
-    // Makes each id pending in the same way, handed out once. Memory leaves all as it was.
+    // Makes each id pending in the same way, handed out once. Memory leaves all as it was: only what adds to a map needs any, so
+    // the ids leave their former consumers last.
     pub(crate) fn put_all(
         &mut self,
         alloc: Global,
@@ -159,17 +97,39 @@ impl Pendings {
         ensures ok { OnOk result (self.new ≡ placed self.old ids.now (record { consumer = consumer.now.value.items; moment = moment; count = 1 })) }
         ensures err { OnErr result (self.new ≡ self.old) }
     {
-        let mut log = Vec::with_capacity(alloc, ids.len())?;
-        for id in ids {
-            match self.put(*id, consumer, moment, 1) {
-                Ok(was) => log.push_reserved(was),
-                Err(memory) => {
-                    self.undo(ids, log);
-                    return Err(memory);
-                }
+        let log = self.entries.put_all(alloc, ids, consumer, moment)?;
+        match self.index.add_all(consumer.as_slice(), ids) {
+            Ok(()) => {
+                self.index.leave_all(ids, &log, consumer.as_slice());
+                Ok(())
+            }
+            Err(memory) => {
+                self.entries.undo(ids, log);
+                Err(memory)
             }
         }
-        Ok(())
+    }
+
+    // Hands an id out anew. `false` comes exactly where it isn't pending.
+    pub(crate) fn again(&mut self, id: Id, moment: u64) -> bool
+        ensures value { result ≡ contains_key self.old id }
+        ensures new { self.new ≡ again_in self.old id moment }
+    {
+        self.entries.again(id, moment)
+    }
+
+    // Takes an id out. `false` comes exactly where it isn't pending.
+    pub(crate) fn take(&mut self, id: Id) -> bool
+        ensures value { result ≡ contains_key self.old id }
+        ensures new { self.new ≡ remove self.old id }
+    {
+        match self.entries.take(id) {
+            None => false,
+            Some(handed) => {
+                self.index.take(handed.consumer.as_slice(), id);
+                true
+            }
+        }
     }
 
     // The first ids, up to a limit, that are pending for a consumer above another id, by rising ids.
@@ -202,86 +162,49 @@ impl Pendings {
     pub(crate) fn own_after(&self, consumer: &[u8], above: Option<Id>) -> Option<Id>
         ensures { result ≡ slice_get (own_ids self.now consumer.now above) 0 }
     {
-        let start = match above {
-            None => Bound::Unbounded,
-            Some(id) => Bound::Excluded(id),
-        };
-        let mut rest = self.entries.range((start, Bound::Unbounded));
-        while let Some((id, handed)) = rest.next() {
-            if is_named(&handed.consumer, consumer) {
-                return Some(*id);
-            }
-        }
-        None
+        self.index.after(consumer, above)
     }
 
     // How many entries are pending for a consumer.
     pub(crate) fn own_len(&self, consumer: &[u8]) -> u64
         ensures { result ≡ length (own_ids self.now consumer.now None) }
     {
-        let most = self.count();
-        let mut count = 0;
-        let mut above = None;
-        while count < most {
-            match self.own_after(consumer, above) {
-                None => return count,
-                Some(id) => above = Some(id),
-            }
-            count += 1;
-        }
-        count
+        self.index.len(consumer)
     }
 
     // The first entry above an id, or of all.
     pub(crate) fn after(&self, above: Option<Id>) -> Option<(Id, &Handed)>
         ensures { option_map (λ found. (found.0, pending_of found.1.now)) result ≡ slice_get (later above self.now) 0 }
     {
-        let start = match above {
-            None => Bound::Unbounded,
-            Some(id) => Bound::Excluded(id),
-        };
-        match self.entries.range((start, Bound::Unbounded)).next() {
-            None => None,
-            Some((id, handed)) => Some((*id, handed)),
-        }
+        self.entries.after(above)
     }
 
     // How many ids are pending.
     pub(crate) fn count(&self) -> u64
         ensures { result ≡ len self.now }
     {
-        self.entries.len() as u64
+        self.entries.count()
     }
 
     // The least pending id.
     pub(crate) fn least(&self) -> Option<Id>
         ensures { result ≡ slice_get (keys self.now) 0 }
     {
-        match self.entries.first_key_value() {
-            None => None,
-            Some((id, _)) => Some(*id),
-        }
+        self.entries.least()
     }
 
     // The greatest pending id.
     pub(crate) fn greatest(&self) -> Option<Id>
         ensures { result ≡ slice_get (keys self.now) (len self.now - 1) }
     {
-        match self.entries.last_key_value() {
-            None => None,
-            Some((id, _)) => Some(*id),
-        }
+        self.entries.greatest()
     }
 
-    // How many ids are pending for each consumer.
-    pub(crate) fn tally(&self, alloc: Global) -> Result<Tally, Memory>
-        ensures { IfOk result (λ counts. (name : List ℕ) → get counts name ≡ tallied self.now name) }
+    // The consumers for which some are pending, by rising bytes of their names, with how many.
+    pub(crate) fn owners(&self) -> Result<Vec<Owner>, Memory>
+        ensures rising { IfOk result (λ owners. T (is_sorted name_cmp (owner_pairs owners.items))) }
+        ensures counts { IfOk result (λ owners. (name : List ℕ) → find name_cmp name (owner_pairs owners.items) ≡ tallied self.now name) }
     {
-        let mut counts = Tally::new(alloc);
-        let mut rest = self.entries.iter();
-        while let Some((_, handed)) = rest.next() {
-            counts.add(handed.consumer.as_slice())?;
-        }
-        Ok(counts)
+        self.index.owners()
     }
 }

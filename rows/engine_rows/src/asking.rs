@@ -1,6 +1,6 @@
 //! Requests on one engine, one after the other.
 
-use blocks::PlainStore;
+use blocks::{BlockStore, PlainStore};
 use object_codec::Limits;
 use outside::{MemHost, MemSink, Plan};
 use plain_model::{Memory, Reply};
@@ -46,9 +46,9 @@ pub fn loaded(
 }
 
 /// The reply to a request, and whether it ends the run; none where the bytes are no whole request.
-pub fn ask(
+pub fn ask<B: BlockStore>(
     alloc: Global,
-    engine: &mut Engine<PlainStore>,
+    engine: &mut Engine<B>,
     request: &[u8],
     moment: u64,
 ) -> Result<Option<(Reply, bool)>, Memory> {
@@ -74,9 +74,9 @@ fn told_reply(alloc: Global, reply: &Reply) -> Result<(String, bool), Memory> {
 }
 
 /// The bytes of the reply to a request.
-pub fn asked(
+pub fn asked<B: BlockStore>(
     alloc: Global,
-    engine: &mut Engine<PlainStore>,
+    engine: &mut Engine<B>,
     request: &[u8],
     moment: u64,
 ) -> Result<String, Memory> {

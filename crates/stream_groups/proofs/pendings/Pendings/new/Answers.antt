@@ -1,6 +1,5 @@
-use Rattle.stream_groups.specs.Kept.{pending_of}
-use Rattle.stream_groups.proofs.Uses.{numbered_none}
+use Rattle.stream_groups.proofs.Shares.{shares_none}
 use Rattle.stream_groups.proofs.pendings.Pendings.new.Goals as goal
 
-pub returns : goal.returns
-returns c = numbered_none pending_of _ c.new.ensures.empty
+pub invariant_of-result : goal.invariant_of-result
+invariant_of-result c = shares_none c.new-2.result c.new.result c.new-2.ensures c.new.ensures

@@ -1,17 +1,37 @@
-use Rattle.std.proofs.Common.{ap, ◌∙◌}
+use Rattle.std.proofs.Common.{rules, ◌≡◌, [], ◌∷◌, sym, ap, subst, ◌∙◌}
 use Rattle.std.specs.Option.{option_map}
-use Rattle.std.specs.FinMap as map
-use Rattle.stream_groups.specs.declared.pendings.Handed.{Handed}
-use Rattle.stream_groups.specs.Kept.{pending_of}
-use Rattle.stream_groups.proofs.Uses.{pending_found, numbered_insert}
+use Rattle.stream_groups.specs.Groups.{Pending}
+use Rattle.stream_groups.specs.Index.{Indexes}
+use Rattle.stream_groups.specs.Kept.{pending_of, restored}
+use Rattle.stream_groups.proofs.Shares.{shares_handed}
+use Rattle.stream_groups.proofs.Undoing.{restored_put}
 use Rattle.stream_groups.proofs.pendings.Pendings.put.Goals as goal
 
-pub returns-clause-was : goal.returns-clause-was
-returns-clause-was c = ap (option_map pending_of) c.in_ok-insert.ensures.old ∙ pending_found c.self.inside.entries.entries c.args.self.now c.args.id c.self.invariant c.self.view_is
+pub invariant_of-self-in-Ok : goal.invariant_of-self-in-Ok
+invariant_of-self-in-Ok c =
+    let entry : Pending = record { consumer = c.args.consumer.now.value.items; moment = c.args.moment; count = c.args.count } in
+    let name : c.as_slice.result.now ≡ entry.consumer = search rules in
+    let former : c.as_slice-in-Ok.result.now ≡ entry.consumer = search rules in
+    shares_handed c.self.inside.index c.add.new.self c.leave.new.self c.self.inside.entries c.put.new.self (c.args.id ∷ []) entry c.as_slice.result.now c.as_slice-in-Ok.result.now
+    (option_map pending_of c.in_ok-was.was' ∷ []) c.self.invariant name former (ap (λ o. o ∷ []) c.in_ok-was.ensures.was) c.in-Ok.ensures.ok c.leave.ensures c.in_ok-was.ensures.ok
 
-pub returns-clause-ok : goal.returns-clause-ok
-returns-clause-ok c =
-    let handed : Handed = record { consumer = c.in_ok-clone.field-0; moment = c.args.moment; count = c.args.count } in
-    numbered_insert pending_of c.self.inside.entries.entries c.self.invariant c.insert.new.self.entries c.in_ok-insert.ensures.ordered c.args.id handed c.in_ok-insert.ensures.entries
-    ∙ ap (λ m. map.insert m c.args.id (pending_of handed)) c.self.view_is
-    ∙ ap (λ v. map.insert c.args.self.now c.args.id (record { consumer = v.items; moment = c.args.moment; count = c.args.count })) c.in_ok-clone.ensures.cases
+pub invariant_of-self-in-Ok-2 : goal.invariant_of-self-in-Ok-2
+invariant_of-self-in-Ok-2 c =
+    let entry : Pending = record { consumer = c.args.consumer.now.value.items; moment = c.args.moment; count = c.args.count } in
+    let name : c.as_slice.result.now ≡ entry.consumer = search rules in
+    let former : c.as_slice-in-Ok.result.now ≡ entry.consumer = search rules in
+    shares_handed c.self.inside.index c.add.new.self c.leave.new.self c.self.inside.entries c.put.new.self (c.args.id ∷ []) entry c.as_slice.result.now c.as_slice-in-Ok.result.now
+    (option_map pending_of c.in_ok-was.was' ∷ []) c.self.invariant name former (ap (λ o. o ∷ []) c.in_ok-was.ensures.was) c.in-Ok.ensures.ok c.leave.ensures c.in_ok-was.ensures.ok
+
+pub invariant_of-self-in-Err : goal.invariant_of-self-in-Err
+invariant_of-self-in-Err c =
+    let entry : Pending = record { consumer = c.args.consumer.now.value.items; moment = c.args.moment; count = c.args.count } in
+    let back : c.restore.new.self ≡ c.self.inside.entries = c.restore.ensures ∙ ap (λ p. restored p c.args.id (option_map pending_of c.in_ok-was.was')) c.in_ok-was.ensures.ok
+    ∙ restored_put c.self.inside.entries c.args.id entry (option_map pending_of c.in_ok-was.was') c.in_ok-was.ensures.was in
+    subst (λ i. Indexes i c.restore.new.self) (sym c.in-Err.ensures.err) (subst (Indexes c.self.inside.index) (sym back) c.self.invariant)
+
+pub returns-in-Err-clause-err : goal.returns-in-Err-clause-err
+returns-in-Err-clause-err c =
+    let entry : Pending = record { consumer = c.args.consumer.now.value.items; moment = c.args.moment; count = c.args.count } in
+    c.restore.ensures ∙ ap (λ p. restored p c.args.id (option_map pending_of c.in_ok-was.was')) c.in_ok-was.ensures.ok
+    ∙ restored_put c.self.inside.entries c.args.id entry (option_map pending_of c.in_ok-was.was') c.in_ok-was.ensures.was ∙ c.self.view_is

@@ -1,33 +1,13 @@
-use Rattle.std.proofs.Common.{Option, List, [], ◌∷◌, ◌++◌, drop, ◌≤◌, subst, ◌≡◌, ℕ, ◌+◌, ◌<◌, length, take, get_or, sym, ap, ◌∙◌}
-use Rattle.std.proofs.lemmas.List.{length-append}
-use Rattle.std.specs.Option.{option_map}
-use Rattle.std.specs.FinMap as map
-use Rattle.stream_groups.specs.declared.pendings.Handed.{Handed}
-use Rattle.stream_groups.specs.Groups.{Id, Pending, Pendings, placed}
-use Rattle.stream_groups.specs.Kept.{undone, logged, pending_of}
-use Rattle.stream_groups.proofs.Undoing.{put_step, placed_step}
+use Rattle.std.proofs.Common.{rules, ◌≡◌, ap, ◌∙◌}
+use Rattle.stream_groups.specs.Groups.{Pending}
+use Rattle.stream_groups.specs.Kept.{logged}
+use Rattle.stream_groups.proofs.Shares.{shares_handed}
 use Rattle.stream_groups.proofs.pendings.Pendings.put_all.Goals as goal
 
--- one more put, where the log is as long as what was put
-stepped : (p new : Pendings) (ids : List Id) (ws after : List (Option Handed)) (was : Option Handed) (n : ℕ) (d : Id) (e : Pending) → length ws ≡ n → n < length ids
-    → option_map pending_of was ≡ map.get p (get_or ids n d)
-    → new ≡ map.insert p (get_or ids n d) e → after ≡ ws ++ was ∷ [] → undone new (take (n + 1) ids) (logged after) ≡ undone p (take n ids) (logged ws)
-stepped p new ids ws after was n d e size within is put items =
-    ap (λ q. undone q (take (n + 1) ids) (logged after)) put
-    ∙ ap (λ xs. undone (map.insert p (get_or ids n d) e) (take (n + 1) ids) (logged xs)) items
-    ∙ subst
-    (λ k. k < length ids → option_map pending_of was ≡ map.get p (get_or ids k d)
-    → undone (map.insert p (get_or ids k d) e) (take (k + 1) ids) (logged (ws ++ was ∷ [])) ≡ undone p (take k ids) (logged ws)) size (put_step p ids ws was d e) within is
-
-pub loop-id-preserved : goal.loop-id-preserved
-loop-id-preserved c =
-    let ids = c.args.ids.now in
+pub invariant_of-self-in-Ok-1 : goal.invariant_of-self-in-Ok-1
+invariant_of-self-in-Ok-1 c =
     let entry : Pending = record { consumer = c.args.consumer.now.value.items; moment = c.args.moment; count = 1 } in
-    record {
-      kept = ap length c.push_reserved.ensures.items ∙ length-append c.loop-id.log.items (c.in-Ok.was ∷ []) ∙ ap (λ k. k + 1) c.loop-id.invariant.kept;
-      room = subst (λ k. length ids ≤ k) (sym c.push_reserved.ensures.capacity) c.loop-id.invariant.room;
-      undo = stepped c.loop-id.self c.put.new.self ids c.loop-id.log.items c.push_reserved.new.self.items c.in-Ok.was c.loop-id.id-index (0, 0) entry c.loop-id.invariant.kept
-          c.loop-id-test.true c.in-Ok.ensures.was c.in-Ok.ensures.ok c.push_reserved.ensures.items ∙ c.loop-id.invariant.undo;
-      placed_so_far = ap (λ q. placed q (drop (c.loop-id.id-index + 1) ids) entry) c.in-Ok.ensures.ok ∙ placed_step c.loop-id.self ids c.loop-id.id-index (0, 0) entry c.loop-id-test.true
-          ∙ c.loop-id.invariant.placed_so_far;
-    }
+    let name : c.as_slice.result.now ≡ entry.consumer = search rules in
+    let former : c.as_slice-in-Ok.result.now ≡ entry.consumer = search rules in
+    shares_handed c.self.inside.index c.add_all.new.self c.leave_all.new.self c.self.inside.entries c.put_all.new.self c.args.ids.now entry c.as_slice.result.now c.as_slice-in-Ok.result.now
+    (logged c.deref-in-Ok.result.now) c.self.invariant name former (ap logged c.deref-in-Ok.ensures.value ∙ c.in_ok-log.ensures.log) c.in-Ok.ensures.ok c.leave_all.ensures c.in_ok-log.ensures.ok

@@ -1,0 +1,4 @@
+pub mod Splitting
+pub mod Tallies
+pub mod Told
+pub mod Ways

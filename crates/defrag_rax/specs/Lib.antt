@@ -1,0 +1,4 @@
+pub mod Lines
+pub mod Owned
+pub mod Rows
+pub mod Tally

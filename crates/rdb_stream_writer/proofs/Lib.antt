@@ -1,0 +1,12 @@
+pub mod Maps
+pub mod Walks
+pub mod Written
+pub mod Places
+pub mod Pendings
+pub mod NodeWalks
+pub mod Firsts
+pub mod SpelledParts
+pub mod SpelledClaims
+pub mod SpelledGroups
+pub mod SpelledNodes
+pub mod SpelledStreams

@@ -1,0 +1,5 @@
+pub mod Ids
+pub mod Consumers
+pub mod Groups
+pub mod Nodes
+pub mod Streams
