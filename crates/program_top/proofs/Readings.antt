@@ -10,7 +10,7 @@ use Rattle.std.proofs.lemmas.Bool.{eqb-true, ltb-true, leb-true, lt-ltb, le-leb}
 use Rattle.clap.specs.Faults.{fault_of, is_simple_and_free}
 use Rattle.clap.specs.Kinds.{Kinds, IsAmong, HasKind}
 use Rattle.clap.specs.Matches.{found_of}
-use Rattle.clap.specs.Simple.{App, HasMatchesOf, is_simple, matches_of}
+use Rattle.clap.specs.Simple.{App, HasMatchesOf, matches_of}
 use Rattle.clap.specs.Values.{kind_of}
 use Rattle.clap.specs.Walk.{Row, Text, first_of, rows_of, is_empty}
 use Rattle.clap.specs.declared.error.Error.{Error}
@@ -20,6 +20,7 @@ use Rattle.clap.specs.declared.parser.matches.ArgMatches.{ArgMatches}
 use Rattle.int_text.specs.Decimal.{IsU64Text}
 use Rattle.object_codec.specs.declared.limits.Limits.{Limits}
 use Rattle.program_top.specs.Given as given
+use Rattle.program_top.specs.WordsRead.{IsPlainCommand, Matches, Refuses}
 use Rattle.program_top.specs.Given.{Number, Options, Wrong, command, given_by, given_of, is_number, is_right, limits_of, load, options_of, value_of}
 
 both : (a b : Bool) → (a && b) ≡ true → (a ≡ true) × (b ≡ true)
@@ -98,30 +99,42 @@ options_are rows file seed effort max_input limits a b d e f =
     ∙ ap (λ x. record { file = first_of load rows; seed = value_of rows given.seed; effort = value_of rows given.effort; limits = x; max_input = max_input }) e
     ∙ ap (λ x. record { file = first_of load rows; seed = value_of rows given.seed; effort = value_of rows given.effort; limits = limits_of rows; max_input = x }) f
 
--- ---- what the command takes
+-- what holds of what is found
+pub found_some : {A : Type 0} (P : A → Type 0) (found : Option A) (a : A) → found ≡ Some a → IfSome found P → P a
+found_some P found a is h = let Q : Option _ → Type 0 = λ o. IfSome o P in subst Q is h
 
-simple : is_simple command ≡ true
-simple = refl
+-- what holds where nothing is found
+pub found_none : {A : Type 0} (P : Type 0) (found : Option A) → found ≡ None → IfNone found P → P
+found_none P found is h = let Q : Option _ → Type 0 = λ o. IfNone o P in subst Q is h
 
-simple_and_free : is_simple_and_free command ≡ true
-simple_and_free = refl
+-- ---- what a command takes
+
+-- it is known of the command what it takes
+pub plain_command : IsPlainCommand command
+plain_command = record { simple = refl; free = refl }
 
 some_kind : (k : ErrorKind) (kinds : Kinds) → IsAmong k kinds → is_empty kinds ≡ false
 some_kind k [] e = absurd e
 some_kind k (x ∷ kinds) e = not_true (is_empty (x ∷ kinds)) (λ t. omega (arith, eqb-true _ _ t))
 
-module _ (app : App) (words : List Text) (is : app ≡ command) where
-  pub given_taken : (m : ArgMatches) → HasMatchesOf app words m → (is_simple_and_free app ≡ true → fault_of app words ≡ []) → given_by words ≡ given_of (rows_of (found_of m))
-  unfolding given_by
-  given_taken m matches passes =
-      let rows : rows_of (found_of m) ≡ matches_of command words = (matches (ap is_simple is ∙ simple)).0 ∙ ap (λ a. matches_of a words) is in
-      let none : is_empty (fault_of command words) ≡ true = ap is_empty (sym (ap (λ a. fault_of a words) is) ∙ passes (ap is_simple_and_free is ∙ simple_and_free)) in
-      rw (none) (ap given_of (sym rows))
+-- what a command matched, and that it refused
+module _ (app : App) (words : List Text) (plain : IsPlainCommand app) where
+  pub app_matches : (m : ArgMatches) → HasMatchesOf app words m → (is_simple_and_free app ≡ true → fault_of app words ≡ []) → Matches app words (rows_of (found_of m))
+  app_matches m matches passes = record { takes = ap is_empty (passes plain.free); are = (matches plain.simple).0 }
 
-  pub given_refused : (e : Error) → (is_simple_and_free app ≡ true → HasKind (fault_of app words) e) → (kind_of e ≡ kind.OutOfMemory → ⊥) → given_by words ≡ Wrong
+  pub app_refuses : (e : Error) → (is_simple_and_free app ≡ true → HasKind (fault_of app words) e) → (kind_of e ≡ kind.OutOfMemory → ⊥) → Refuses app words
+  app_refuses e fails memory = elim (fails plain.free) [ inl wants ↦ absurd (memory wants) | inr among ↦ some_kind (kind_of e) (fault_of app words) among ]
+
+module _ (app : App) (words : List Text) (is : app ≡ command) where
+  pub given_taken : (rows : List Row) → Matches app words rows → given_by words ≡ given_of rows
   unfolding given_by
-  given_refused e fails memory =
-      let K : Kinds → Type 0 = λ kinds. HasKind kinds e in
-      let has : HasKind (fault_of command words) e = subst K (ap (λ a. fault_of a words) is) (fails (ap is_simple_and_free is ∙ simple_and_free)) in
-      let some : is_empty (fault_of command words) ≡ false = elim has [ inl wants ↦ absurd (memory wants) | inr among ↦ some_kind (kind_of e) (fault_of command words) among ] in
+  given_taken rows m =
+      let same : rows ≡ matches_of command words = m.are ∙ ap (λ a. matches_of a words) is in
+      let none : is_empty (fault_of command words) ≡ true = ap (λ a. is_empty (fault_of a words)) (sym is) ∙ m.takes in
+      rw (none) (ap given_of (sym same))
+
+  pub given_refused : Refuses app words → given_by words ≡ Wrong
+  unfolding given_by
+  given_refused refuses =
+      let some : is_empty (fault_of command words) ≡ false = ap (λ a. is_empty (fault_of a words)) (sym is) ∙ refuses in
       rw (some) refl

@@ -6,40 +6,43 @@ use Rattle.plain_model.specs.Meant.{asks_to_quit}
 use Rattle.resp_frames.specs.Ends.{End, Frames}
 use Rattle.serving.specs.Exactly as exactly
 use Rattle.serving.specs.Exactly.{NoReadFault, EndsWell}
+use Rattle.serving.specs.Timed.{Timed}
 use Rattle.serving.specs.declared.ending.Ended.{Ended}
 use Rattle.serving.proofs.Said.{ends_exactly, completes}
 use Rattle.serving.proofs.Wholes as wholes
 use Rattle.serving.proofs.Wholes.{NoWriteFault, EndsWhole}
+use Rattle.program_top.specs.Engines.{Engine}
 use Rattle.program_top.specs.Generating as generating
-use Rattle.program_top.specs.Generating.{may_generate, Writes, WritesLines}
+use Rattle.program_top.specs.Generating.{GeneratesOn, may_generate, Writes, WritesLines}
 use Rattle.program_top.specs.Given.{Options, Given, Wrong, Run, Generate, Outside, LeavesAll}
 use Rattle.program_top.specs.Notes.{Notes, line_of}
-use Rattle.program_top.specs.Running.{Fails, RunsOptions, begun, not_begun, RunsOf, RunsWords, read, unread}
+use Rattle.program_top.specs.Running.{Drops, Fails, RunsOptions, begun, not_begun, RunsOf, RunsWords, read, unread}
 use Rattle.program_top.specs.Starting.{Standing, Begins, NotBegun, UsesHost, is_host}
 use Rattle.program_top.specs.Statuses.{status_of, ending_of}
 use Rattle.program_top.specs.Headline.{may_answer, standing_clock, Concludes, NoHostFault, NoOutputFault, CountsFaults, NotesStatus, CanBegin, Excused}
 use Rattle.program_top.specs.Headline.{Exactly, NoLinesFault, Completes, RoseAt}
-use Rattle.program_top.specs.Stepped.{StepsStatus}
-use Rattle.program_top.specs.TopAnswers.{TopAnswers}
+use Rattle.program_top.specs.Stepped.{BeginsEngine, goes, goes_cut, engine_clock, standing_of, StepsStatus}
+use Rattle.program_top.specs.TopAnswers.{AnswersBy, TopAnswers}
 use Rattle.program_top.specs.declared.ending.Ending.{Ending}
 use Rattle.program_top.specs.declared.ending.Ending.TheVariants as endings
 use Rattle.program_top.proofs.Unloaded.{is_listed, excuse, Came, began, failed, files_of, eight_files}
+use Rattle.program_top.proofs.Worlds.{run_words_seen}
 use Rattle.program_top.proofs.Counted.{stayed, reads_at, reads_surely, writes_at, not_served, not_begun_status, six_is_host, host_at, host_same, host_surely, host_alone}
 
 -- ---- the clauses
 
-module _ (before after : Outside) (ending : Ending) (line : Notes before.notes after.notes (line_of ending)) where
+module _ (Closes : Standing → Ended → Type 0) (before after : Outside) (ending : Ending) (line : Notes before.notes after.notes (line_of ending)) where
   -- a run with these options ended so, from what stood outside before it to what stands after it
   abbrev Ran : Options → Type 0
-  Ran options = RunsOptions Begins may_answer may_answer standing_clock options before after ending
+  Ran options = RunsOptions Begins may_answer may_answer standing_clock Closes options before after ending
 
   -- a run with what was given ended so, which may be wrong words
   abbrev RanOf : Given → Type 0
-  RanOf given = RunsOf Begins may_answer may_answer standing_clock may_generate given before after ending
+  RanOf given = RunsOf Begins may_answer may_answer standing_clock Closes may_generate given before after ending
 
   -- a run with what was given ended so, where memory may have wanted before the words were read
   abbrev ReadOf : Given → Type 0
-  ReadOf given = RunsWords Begins may_answer may_answer standing_clock may_generate given before after ending
+  ReadOf given = RunsWords Begins may_answer may_answer standing_clock Closes may_generate given before after ending
 
   -- the options are these
   ran_as : (given : Given) (options : Options) → RanOf given → given ≡ Run options → Ran options
@@ -77,7 +80,7 @@ module _ (before after : Outside) (ending : Ending) (line : Notes before.notes a
 
   -- a run with options counts a fault exactly where it is ended by it
   run_counts : (options : Options) → Ran options → CountsFaults (Run options) before after (status_of ending)
-  run_counts options (begun first last ended b host s reads is) =
+  run_counts options (begun first last ended b host s reads is closes) =
       let P : Ending → Type 0 = λ e. CountsFaults (Run options) before after (status_of e) in
       subst P (sym is) (record {
         read = reads_at before.input after.input ended s.reads;
@@ -161,13 +164,13 @@ module _ (before after : Outside) (ending : Ending) (line : Notes before.notes a
   -- status 1 comes of wrong words alone
   wrong_alone : (given : Given) → RanOf given → status_of ending ≡ 1 → given ≡ Wrong
   wrong_alone Wrong r e = refl
-  wrong_alone (Run options) (begun first last ended b host s reads is) e = absurd (not_served ended 1 refl (ap status_of (sym is) ∙ e))
+  wrong_alone (Run options) (begun first last ended b host s reads is closes) e = absurd (not_served ended 1 refl (ap status_of (sym is) ∙ e))
   wrong_alone (Run options) (not_begun f) e = absurd (fails_read options f 1 (omega arith) e)
   wrong_alone (Generate n options) w e = absurd (not_lines n options w 1 (λ e. omega (arith, e)) (λ e. omega (arith, e)) (λ e. omega (arith, e)) e)
 
   -- how a run with these options came to its status
   came : (options : Options) → Ran options → Came before after (status_of ending) options
-  came options (begun first last ended b host s reads is) = began first b (λ e. not_served ended 7 refl (ap status_of (sym is) ∙ e))
+  came options (begun first last ended b host s reads is closes) = began first b (λ e. not_served ended 7 refl (ap status_of (sym is) ∙ e))
   came options (not_begun f) = failed ending f refl line
 
   -- status 7 comes only where options were given
@@ -179,7 +182,7 @@ module _ (before after : Outside) (ending : Ending) (line : Notes before.notes a
   -- a run that can begin ends as its input does, unless the host failed or memory wanted
   served : (options : Options) → Ran options → CanBegin before options options.file → Excused (status_of ending)
       ⊎ ((ended : Ended) × (status_of ending ≡ status_of (ending_of ended)) × exactly.ServesExactly asks_to_quit options.max_input before.input after.input ended)
-  served options (begun first last ended b host s reads is) can =
+  served options (begun first last ended b host s reads is closes) can =
       inr (
         ended,
         ap status_of is,
@@ -245,7 +248,7 @@ module _ (before after : Outside) (ending : Ending) (line : Notes before.notes a
   run_completes : (options : Options) → Ran options → (bytes : List ℕ) (asked : List Words) (end : End) → CanBegin before options options.file → before.input.told ≡ Some bytes
       → Frames bytes asked end → EndsWell asks_to_quit asked end → length bytes < options.max_input
       → NoHostFault options.file before after → NoReadFault before.input after.input → NoOutputFault options before after asked → (status_of ending ≡ 0) ⊎ (status_of ending ≡ 8)
-  run_completes options (begun first last ended b host s reads is) bytes asked end can told frames well few no_host no_read no_write =
+  run_completes options (begun first last ended b host s reads is closes) bytes asked end can told frames well few no_host no_read no_write =
       let P : Ending → Type 0 = λ e. (status_of e ≡ 0) ⊎ (status_of e ≡ 8) in
       let whole = completes (may_answer options first) (may_answer options first) asks_to_quit options.max_input before.input after.input before.output after.output last ended s bytes
       asked end told frames well few no_read (no_put_fault options first b asked no_write) in
@@ -280,7 +283,7 @@ module _ (before after : Outside) (ending : Ending) (line : Notes before.notes a
   -- the same of the status that is answered
   module _ (given : Given) (r : ReadOf given) (status : ℕ) (is : status ≡ status_of ending) where
     -- the run and its line in the notes conclude with the status that is answered
-    concludes_as : Concludes given before after status
+    concludes_as : Concludes Closes given before after status
     concludes_as = record { ending = ending; is = is; run = r; line = line }
 
     -- a fault is counted exactly where the status that is answered says that it ended the run
@@ -299,6 +302,18 @@ module _ (before after : Outside) (ending : Ending) (line : Notes before.notes a
     notes_as : NotesStatus before after status
     notes_as = record { ending = ending; is = is; line = line }
 
-    -- all that the top call answers
-    pub answers_as : StepsStatus given before after status → TopAnswers given before after status
-    answers_as s = record { headline = concludes_as; stepped = s; counts = counts_as; exact = exactly_as; complete = completes_as; notes = notes_as }
+    -- all that is answered
+    answers_as : (ClosesEngine : Timed Engine → Ended → Type 0) → StepsStatus ClosesEngine given before after status → AnswersBy Closes ClosesEngine given before after status
+    answers_as ClosesEngine s = record { headline = concludes_as; stepped = s; counts = counts_as; exact = exactly_as; complete = completes_as; notes = notes_as }
+
+-- what a run of the engine answers, where the same comes of the world that it holds as of the engine
+pub answers_from : (Closes : Standing → Ended → Type 0) (ClosesEngine : Timed Engine → Ended → Type 0) → ((last : Timed Engine) (ended : Ended) → ClosesEngine last ended → Closes (standing_of last) ended)
+    → (before after : Outside) (ending : Ending) (given : Given) (status : ℕ) → RunsWords BeginsEngine goes goes_cut engine_clock ClosesEngine GeneratesOn given before after ending
+    → Notes before.notes after.notes (line_of ending) → status ≡ status_of ending → AnswersBy Closes ClosesEngine given before after status
+answers_from Closes ClosesEngine closed before after ending given status run line is =
+    answers_as Closes before after ending line given (run_words_seen Closes ClosesEngine closed given before after ending run) status is ClosesEngine (record { ending = ending; is = is; run = run })
+
+-- what the top call answers
+pub answers_dropped : (before after : Outside) (ending : Ending) (given : Given) (status : ℕ) → RunsWords BeginsEngine goes goes_cut engine_clock Drops GeneratesOn given before after ending
+    → Notes before.notes after.notes (line_of ending) → status ≡ status_of ending → TopAnswers given before after status
+answers_dropped = answers_from Drops Drops (λ last ended dropped. tt)

@@ -158,28 +158,40 @@ reads_none (served.Protocol rule at) clock = refl
 reads_none served.Memory clock = tt
 reads_none served.WriteFault clock = refl
 
--- a run of the engine is one of its worlds
-pub run_seen : (options : Options) (before after : Outside) (ending : Ending) → RunsOptions BeginsEngine goes goes_cut engine_clock options before after ending
-    → RunsOptions Begins may_answer may_answer standing_clock options before after ending
-run_seen options before after ending (begun first last ended b host s reads is) =
-    let seen = served_as (goes options first) (goes_cut options first) (may_answer options (standing_of first)) (may_answer options (standing_of first)) asks_to_quit standing_of
-    (λ asked replies last p. path_answers options.seed asked replies first last b.is.seed_is p)
-    (λ asked replies last p. cut_answers options.seed asked replies first last b.is.seed_is p) options.max_input before.input after.input before.output after.output last ended s in
-    running.begun (standing_of first) (standing_of last) ended b.begins host seen reads is
-run_seen options before after ending (not_begun f) = running.not_begun f
+-- where the same comes of the world that an engine holds as of the engine, a run of the engine is one of its worlds
+module _ (Closes : Standing → Ended → Type 0) (ClosesEngine : Timed Engine → Ended → Type 0)
+    (closed : (last : Timed Engine) (ended : Ended) → ClosesEngine last ended → Closes (standing_of last) ended) where
+  pub run_seen : (options : Options) (before after : Outside) (ending : Ending) → RunsOptions BeginsEngine goes goes_cut engine_clock ClosesEngine options before after ending
+      → RunsOptions Begins may_answer may_answer standing_clock Closes options before after ending
+  run_seen options before after ending (begun first last ended b host s reads is closes) =
+      let seen = served_as (goes options first) (goes_cut options first) (may_answer options (standing_of first)) (may_answer options (standing_of first)) asks_to_quit standing_of
+      (λ asked replies last p. path_answers options.seed asked replies first last b.is.seed_is p)
+      (λ asked replies last p. cut_answers options.seed asked replies first last b.is.seed_is p) options.max_input before.input after.input before.output after.output last ended s in
+      running.begun (standing_of first) (standing_of last) ended b.begins host seen reads is (closed last ended closes)
+  run_seen options before after ending (not_begun f) = running.not_begun f
 
--- what is given runs on the engine's worlds as it runs on the engine, wrong words too
-pub run_of_seen : (given : Given) (before after : Outside) (ending : Ending) → RunsEngine given before after ending
-    → RunsOf Begins may_answer may_answer standing_clock may_generate given before after ending
-run_of_seen Wrong before after ending r = r
-run_of_seen (Run options) before after ending r = run_seen options before after ending r
-run_of_seen (Generate n options) before after ending r = record { wrote = writes_seen options n before.pacers before.output after.output ending r.wrote; others = r.others }
+  -- what is given runs on the engine's worlds as it runs on the engine, wrong words too
+  run_of_seen : (given : Given) (before after : Outside) (ending : Ending) → RunsEngine ClosesEngine given before after ending
+      → RunsOf Begins may_answer may_answer standing_clock Closes may_generate given before after ending
+  run_of_seen Wrong before after ending r = r
+  run_of_seen (Run options) before after ending r = run_seen options before after ending r
+  run_of_seen (Generate n options) before after ending r = record { wrote = writes_seen options n before.pacers before.output after.output ending r.wrote; others = r.others }
 
--- a run of the engine is one of its worlds, also where memory wanted before the words were read
-pub run_words_seen : (given : Given) (before after : Outside) (ending : Ending) → RunsWords BeginsEngine goes goes_cut engine_clock GeneratesOn given before after ending
-    → RunsWords Begins may_answer may_answer standing_clock may_generate given before after ending
-run_words_seen given before after ending (running.read r) = running.read (run_of_seen given before after ending r)
-run_words_seen given before after ending (unread same is) = running.unread same is
+  -- a run of the engine is one of its worlds, also where memory wanted before the words were read
+  pub run_words_seen : (given : Given) (before after : Outside) (ending : Ending)
+      → RunsWords BeginsEngine goes goes_cut engine_clock ClosesEngine GeneratesOn given before after ending
+      → RunsWords Begins may_answer may_answer standing_clock Closes may_generate given before after ending
+  run_words_seen given before after ending (running.read r) = running.read (run_of_seen given before after ending r)
+  run_words_seen given before after ending (unread same is) = running.unread same is
+
+-- what comes of the last engine may be said otherwise
+pub closed_as : (Closes Other : Timed Engine → Ended → Type 0) → ((last : Timed Engine) (ended : Ended) → Closes last ended → Other last ended)
+    → (options : Options) (before after : Outside) (ending : Ending) → RunsNoted Closes (Run options) before after ending → RunsNoted Other (Run options) before after ending
+closed_as Closes Other other options before after ending n = record { run = run n.run; line = n.line }
+  where
+    run : RunsOptions BeginsEngine goes goes_cut engine_clock Closes options before after ending → RunsOptions BeginsEngine goes goes_cut engine_clock Other options before after ending
+    run (begun first last ended b host s reads is closes) = begun first last ended b host s reads is (other last ended closes)
+    run (not_begun f) = not_begun f
 
 -- an engine begins the run, at the moment that was read
 pub begins_engine : (options : Options) (before : Outside) (engine : Engine) (clock : Option Answers) (moment : ℕ) (paced : List PacerSeen) → ReadsMoment before.clock clock moment
@@ -195,19 +207,20 @@ pub conducted : {P : Type 0} (seen : P → PacerSeen) (given : List P) (effort :
 conducted seen [] effort = refl
 conducted seen (p ∷ ps) effort = ap (λ l. tuned (seen p) effort ∷ l) (conducted seen ps effort)
 
--- what finishes with the options that were read is what was given
-pub finishes_as : (given read : Given) (before after : Outside) (ending : Ending) → given ≡ read → RunsNoted read before after ending → RunsNoted given before after ending
-finishes_as given read before after ending e f = let P : Given → Type 0 = λ g. RunsNoted g before after ending in subst P (sym e) f
+module _ (Closes : Timed Engine → Ended → Type 0) where
+  -- what finishes with the options that were read is what was given
+  pub finishes_as : (given read : Given) (before after : Outside) (ending : Ending) → given ≡ read → RunsNoted Closes read before after ending → RunsNoted Closes given before after ending
+  finishes_as given read before after ending e f = let P : Given → Type 0 = λ g. RunsNoted Closes g before after ending in subst P (sym e) f
 
--- a run with the options that were read is one of what was given
-pub run_read : (given : words.Given) (options : words_options.Options) (before after : Outside) (ending : Ending) → given ≡ read.Run options
-    → RunsNoted (Run (options_read options)) before after ending → RunsNoted (given_read given) before after ending
-run_read given options before after ending e f = let P : words.Given → Type 0 = λ g. RunsNoted (given_read g) before after ending in subst P (sym e) f
+  -- a run with the options that were read is one of what was given
+  pub run_read : (given : words.Given) (options : words_options.Options) (before after : Outside) (ending : Ending) → given ≡ read.Run options
+      → RunsNoted Closes (Run (options_read options)) before after ending → RunsNoted Closes (given_read given) before after ending
+  run_read given options before after ending e f = let P : words.Given → Type 0 = λ g. RunsNoted Closes (given_read g) before after ending in subst P (sym e) f
 
--- generated commands with the options that were read are those of what was given
-pub generate_read : (given : words.Given) (n : ℕ) (options : words_options.Options) (before after : Outside) (ending : Ending) → given ≡ read.Generate n options
-    → RunsNoted (Generate n (options_read options)) before after ending → RunsNoted (given_read given) before after ending
-generate_read given n options before after ending e f = let P : words.Given → Type 0 = λ g. RunsNoted (given_read g) before after ending in subst P (sym e) f
+  -- generated commands with the options that were read are those of what was given
+  pub generate_read : (given : words.Given) (n : ℕ) (options : words_options.Options) (before after : Outside) (ending : Ending) → given ≡ read.Generate n options
+      → RunsNoted Closes (Generate n (options_read options)) before after ending → RunsNoted Closes (given_read given) before after ending
+  generate_read given n options before after ending e f = let P : words.Given → Type 0 = λ g. RunsNoted Closes (given_read g) before after ending in subst P (sym e) f
 
 -- ---- an engine that is lent
 

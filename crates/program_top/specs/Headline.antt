@@ -54,11 +54,12 @@ may_answer options = MayAnswer options.seed
 abbrev pub standing_clock : Standing → Option Answers
 standing_clock standing = standing.clock
 
--- the headline: a run, with its line in the notes, where the status alone is answered
-pub record Concludes (given : Given) (before after : Outside) (status : ℕ) : Type 0 where
+-- the headline: a run, of whose last state this comes, with its line in the notes, where the status alone is answered
+pub record Concludes (Closes : Standing → Ended → Type 0) (given : Given) (before after : Outside) (status : ℕ)
+    : Type 0 where
   pub ending : Ending
   pub is : status ≡ status_of ending
-  pub run : RunsWords Begins may_answer may_answer standing_clock may_generate given before after ending
+  pub run : RunsWords Begins may_answer may_answer standing_clock Closes may_generate given before after ending
   pub line : Notes before.notes after.notes (line_of ending)
 
 -- a count rose where a status came, and stayed where another did

@@ -30,17 +30,22 @@ abbrev pub ReadsNoMore : Ended → Option Answers → Option Answers → Type 0
 ReadsNoMore served.Memory last after = Unit {0}
 ReadsNoMore ended last after = after ≡ last
 
+-- nothing comes of the last state
+abbrev pub Drops : {E : Type 0} → E → Ended → Type 0
+Drops last ended = Unit {0}
+
 -- From a first state some replies are allowed to requests, on the way to a last one, also where the last of them met a
--- fault.
+-- fault. Of the last one comes what is said of it and of how the serving ended.
 module _ {E : Type 0} (Begins : Options → Outside → E → Type 0)
-    (Allowed AllowedCut : Options → E → List Words → List (List Part) → E → Type 0) (clock_of : E → Option Answers) where
+    (Allowed AllowedCut : Options → E → List Words → List (List Part) → E → Type 0) (clock_of : E → Option Answers)
+    (Closes : E → Ended → Type 0) where
   -- it begins with a state, and replies that are allowed from there are written; or it doesn't begin
   pub data RunsOptions (options : Options) (before after : Outside) (ending : Ending) : Type 0 where
     begun : (first last : E) (ended : Ended) → Begins options before first
         → UsesHost options.max_input options.file before.host after.host false
         → Served (Allowed options first) (AllowedCut options first) asks_to_quit options.max_input
         before.input after.input before.output after.output last ended
-        → ReadsNoMore ended (clock_of last) after.clock → ending ≡ ending_of ended
+        → ReadsNoMore ended (clock_of last) after.clock → ending ≡ ending_of ended → Closes last ended
         → RunsOptions options before after ending
     not_begun : Fails options before after ending → RunsOptions options before after ending
 

@@ -1,5 +1,5 @@
 -- A run, as its engine takes it.
-use Rattle.std.specs.Prelude.{◌≡◌, ℕ, List, map, Option}
+use Rattle.std.specs.Prelude.{◌≡◌, ℕ, List, map, Option, Some}
 use Rattle.outside.specs.Clocks.{Answers}
 use Rattle.outside.specs.Pacing.{tuned}
 use Rattle.class_heap.specs.Heap.{heap_blocks, heap_slabs, IsClassHeapStep}
@@ -9,6 +9,7 @@ use Rattle.plain_model.specs.Meant.{asks_to_quit}
 use Rattle.redis_core.specs.Engines.{Executes}
 use Rattle.serving.specs.Path.{path, CutPath}
 use Rattle.serving.specs.Timed.{Timed, TimedStep, TimedCut}
+use Rattle.serving.specs.declared.ending.Ended.{Ended}
 use Rattle.program_top.specs.Engines.{Engine, world_of, works, IsFirst}
 use Rattle.program_top.specs.Generating.{GeneratesOn}
 use Rattle.program_top.specs.Given.{Options, Given, Outside}
@@ -49,17 +50,23 @@ goes_cut options first = CutPath Steps StepsLast first
 abbrev pub engine_clock : Timed Engine → Option Answers
 engine_clock timed = timed.clock
 
--- what is given runs on the engine
-abbrev pub RunsEngine : Given → Outside → Outside → Ending → Type 0
-RunsEngine = RunsOf BeginsEngine goes goes_cut engine_clock GeneratesOn
+-- of an engine that is left this comes
+module _ (Closes : Timed Engine → Ended → Type 0) where
+  -- what is given runs on the engine
+  abbrev pub RunsEngine : Given → Outside → Outside → Ending → Type 0
+  RunsEngine = RunsOf BeginsEngine goes goes_cut engine_clock Closes GeneratesOn
 
--- the same, with its line in the notes
-pub record RunsNoted (given : Given) (before after : Outside) (ending : Ending) : Type 0 where
-  pub run : RunsEngine given before after ending
-  pub line : Notes before.notes after.notes (line_of ending)
+  -- the same, with its line in the notes
+  pub record RunsNoted (given : Given) (before after : Outside) (ending : Ending) : Type 0 where
+    pub run : RunsEngine given before after ending
+    pub line : Notes before.notes after.notes (line_of ending)
 
--- the same of the ending of this status
-pub record StepsStatus (given : Given) (before after : Outside) (status : ℕ) : Type 0 where
-  pub ending : Ending
-  pub is : status ≡ status_of ending
-  pub run : RunsWords BeginsEngine goes goes_cut engine_clock GeneratesOn given before after ending
+  -- the same of the ending of this status
+  pub record StepsStatus (given : Given) (before after : Outside) (status : ℕ) : Type 0 where
+    pub ending : Ending
+    pub is : status ≡ status_of ending
+    pub run : RunsWords BeginsEngine goes goes_cut engine_clock Closes GeneratesOn given before after ending
+
+-- the engine that is handed out is the last one
+abbrev pub Leaves : Option Engine → Timed Engine → Ended → Type 0
+Leaves left last ended = left ≡ Some last.engine

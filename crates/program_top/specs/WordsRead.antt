@@ -1,5 +1,8 @@
 -- What the code reads of the words, as what is given.
-use Rattle.std.specs.Prelude.{◌^◌, ◌≤◌, Some, None}
+use Rattle.std.specs.Prelude.{◌≡◌, ◌^◌, ◌≤◌, ℕ, List, Some, None, true, false}
+use Rattle.clap.specs.Faults.{fault_of, is_simple_and_free}
+use Rattle.clap.specs.Simple.{App, is_simple, matches_of}
+use Rattle.clap.specs.Walk.{Row, is_empty}
 use Rattle.object_codec.specs.Limits.{AreInRange}
 use Rattle.program_top.specs.Given.{Number, numbered, Options, Given, Wrong, Run, Generate}
 use Rattle.program_top.specs.declared.words as words
@@ -32,3 +35,17 @@ abbrev pub AreTaken : words.Given.Given → Type 0
 AreTaken read.Wrong = Unit {0}
 AreTaken (read.Run options) = AreUsable options
 AreTaken (read.Generate count options) = AreUsable options
+
+-- a command of which it is known what it takes, and what it refuses
+pub record IsPlainCommand (app : App) : Type 0 where
+  pub simple : is_simple app ≡ true
+  pub free : is_simple_and_free app ≡ true
+
+-- a command takes the words, and matches these rows
+pub record Matches (app : App) (words : List (List ℕ)) (rows : List Row) : Type 0 where
+  pub takes : is_empty (fault_of app words) ≡ true
+  pub are : rows ≡ matches_of app words
+
+-- a command doesn't take the words
+abbrev pub Refuses : App → List (List ℕ) → Type 0
+Refuses app words = is_empty (fault_of app words) ≡ false

@@ -1,18 +1,35 @@
-//! The run as a process: the words that it was given, the real files, streams and clock, and its exit code.
+//! A run as a process: the words that it was given, and its exit code.
 
-ghost use Rattle.std.specs.Prelude.{◌≡◌, ◌⊎◌, IfOk, IfErr, OnErr, map, string_bytes};
+ghost use Rattle.std.specs.Prelude.{◌≡◌, ◌⊎◌, ℕ, List, IfOk, IfErr, OnErr, map, string_bytes};
 ghost use Rattle.std.specs.Process.{exit_status};
-ghost use Rattle.program_top.specs.Ends.{EndsBy, Answers, EndsWith, EndsAs};
+ghost use Rattle.outside.specs.Streams.{SinkSeen};
+ghost use Rattle.program_top.specs.Ends.{EndsBy, EndsWith, EndsAs};
 
 use crate::ending::Ending;
 use crate::notes::note;
-use crate::top_call::redis_core;
 use crate::words::behind;
-use outside::{Clock, FileHost, Pacer, Sink, StdSink, StdSource, SteadyPacer, SystemClock};
+use outside::Sink;
 use std::alloc::AllocError;
 use std::env;
 use std::io::ErrorKind;
 use std::process::ExitCode;
+
+/// What a process runs with the words behind its name.
+pub trait Program {
+    // What such words come to: from the notes to those that it leaves, with a status.
+    ghost comes_to: { List (List ℕ) → SinkSeen → SinkSeen → ℕ → Type 0 };
+
+    /// Runs with these words over the real files, streams and clock, and answers the status. `Err` is want of memory, and then
+    /// the notes are as they were.
+    fn run<N: Sink>(
+        &self,
+        rt: &HostRuntime,
+        words: &[String],
+        notes: &mut N,
+    ) -> Result<u8, AllocError>
+        ensures status { IfOk result (λ status. comes_to (map string_bytes words.now) (N.seen notes.old) (N.seen notes.new) status) }
+        ensures untouched { OnErr result (N.seen notes.new ≡ N.seen notes.old) };
+}
 
 /// The program's name and the words behind it. Words that are no text end as `Usage`, and want of memory as `Memory`.
 pub fn words_given(rt: &HostRuntime) -> Result<Vec<String>, Ending>
@@ -33,31 +50,6 @@ pub fn words_given(rt: &HostRuntime) -> Result<Vec<String>, Ending>
     }
 }
 
-// Runs with these words over the real files, streams and clock, and answers the status.
-fn run_here<N: Sink>(rt: &HostRuntime, words: &[String], notes: &mut N) -> Result<u8, AllocError>
-    ensures answers { IfOk result (λ status. Answers (map string_bytes words.now) (N.seen notes.old) (N.seen notes.new) status) }
-    ensures untouched { OnErr result (N.seen notes.new ≡ N.seen notes.old) }
-{
-    let mut host = FileHost::new(rt);
-    let mut input = StdSource::new(rt.stdin());
-    let mut output = StdSink::new(rt.stdout());
-    let mut clock: Box<dyn Clock> = Box::new(rt.alloc(), SystemClock::new(rt.clone()?))?;
-    let alloc = rt.alloc();
-    let pacer: Box<dyn Pacer> = Box::new(alloc, SteadyPacer::new())?;
-    let mut pacers = Vec::new(alloc);
-    pacers.push(pacer)?;
-    Ok(redis_core(
-        alloc,
-        words,
-        &mut host,
-        &mut input,
-        &mut output,
-        notes,
-        &mut clock,
-        pacers,
-    ))
-}
-
 // What is noted of a run that can't be begun, and its status.
 fn not_begun<N: Sink>(notes: &mut N, ending: Ending) -> u8
     ensures { EndsBy ending (N.seen notes.old) (N.seen notes.new) result }
@@ -67,26 +59,32 @@ fn not_begun<N: Sink>(notes: &mut N, ending: Ending) -> u8
 }
 
 // Runs with the words behind the program's name, and answers the status.
-fn run_behind<N: Sink>(rt: &HostRuntime, words: &[String], notes: &mut N) -> u8
-    ensures { EndsWith (map string_bytes words.now) (N.seen notes.old) (N.seen notes.new) result }
+fn run_behind<P: Program, N: Sink>(
+    program: &P,
+    rt: &HostRuntime,
+    words: &[String],
+    notes: &mut N,
+) -> u8
+    ensures { EndsWith P.comes_to (map string_bytes words.now) (N.seen notes.old) (N.seen notes.new) result }
 {
-    match run_here(rt, behind(words), notes) {
+    match program.run(rt, behind(words), notes) {
         Ok(status) => status,
         Err(_) => not_begun(notes, Ending::Memory),
     }
 }
 
-/// Runs with these words, of which the first is the program's name, over the real files, streams and clock, and answers the
+/// Runs a program with these words, of which the first is its name, over the real files, streams and clock, and answers the
 /// exit code. Where there are no words it notes why and runs nothing.
-pub fn run_with<N: Sink>(
+pub fn run_with<P: Program, N: Sink>(
+    program: &P,
     rt: &HostRuntime,
     words: Result<Vec<String>, Ending>,
     notes: &mut N,
 ) -> ExitCode
-    ensures { EndsAs words (N.seen notes.old) (N.seen notes.new) (exit_status result) }
+    ensures { EndsAs P.comes_to words (N.seen notes.old) (N.seen notes.new) (exit_status result) }
 {
     let status = match words {
-        Ok(words) => run_behind(rt, &words, notes),
+        Ok(words) => run_behind(program, rt, &words, notes),
         Err(ending) => not_begun(notes, ending),
     };
     ExitCode::from(status)

@@ -5,7 +5,8 @@ ghost use Rattle.object_codec.specs.Limits.{AreInRange};
 ghost use Rattle.program_top.specs.Given.{Outside, given_by};
 ghost use Rattle.program_top.specs.WordsRead.{AreTaken, given_read, options_read};
 ghost use Rattle.program_top.specs.Given.{Run};
-ghost use Rattle.program_top.specs.Stepped.{RunsNoted};
+ghost use Rattle.program_top.specs.Running.{Drops};
+ghost use Rattle.program_top.specs.Stepped.{Leaves, RunsNoted};
 ghost use Rattle.program_top.specs.TopAnswers.{TopAnswers};
 
 use crate::ending::{Ending, served_to};
@@ -14,11 +15,62 @@ use crate::lent::serve_noted;
 use crate::notes::note;
 use crate::starting::start;
 use crate::words::{Given, Options, read_words};
+use class_heap::ClassHeap;
 use outside::{Clock, Conductor, Host, Pacer, Sink, Source};
+use redis_core::Engine;
 use serving::moment_of;
 use std::alloc::Global;
 
-// Starts, and serves where the run begins.
+/// Starts, serves where the run begins, and puts the line of how it ended into the notes. The engine is handed out as it was
+/// left, where one began.
+pub fn run_open<H: Host, I: Source, O: Sink, N: Sink>(
+    alloc: Global,
+    options: Options<'_>,
+    host: &mut H,
+    input: &mut I,
+    output: &mut O,
+    notes: &mut N,
+    clock: &mut Box<dyn Clock>,
+    pacers: Vec<Box<dyn Pacer>>,
+) -> (Ending, Option<Engine<ClassHeap>>)
+    requires limits { AreInRange options.limits }
+    requires limit { options.max_input ≤ 2 ^ 62 }
+    ensures { let before : Outside = record {
+      host = H.seen host.old;
+      input = I.seen input.old;
+      output = O.seen output.old;
+      notes = N.seen notes.old;
+      clock = answers clock.old;
+      pacers =
+          map (λ b. (⟦<dyn Pacer as Pacer>⟧ b.vtable).pacing b.value) pacers.items;
+    } in
+        let after : Outside = record { host = H.seen host.new; input = I.seen input.new; output = O.seen output.new; notes = N.seen notes.new; clock = answers clock.new; pacers = [] } in
+        RunsNoted (Leaves result.1) (Run (options_read options.entry)) before after result.0 }
+{
+    let moment = moment_of(clock);
+    match start(alloc, options, host, moment) {
+        Ok(mut engine) => {
+            let mut conductor = Conductor::new(pacers, options.effort);
+            let ended = serve_noted(
+                alloc,
+                &mut engine,
+                input,
+                output,
+                notes,
+                clock,
+                &mut conductor,
+                options.max_input,
+            );
+            (served_to(ended), Some(engine))
+        }
+        Err(ending) => {
+            note(notes, ending);
+            (ending, None)
+        }
+    }
+}
+
+// Starts, and serves where the run begins; the engine is dropped.
 fn run<H: Host, I: Source, O: Sink, N: Sink>(
     alloc: Global,
     options: Options<'_>,
@@ -41,28 +93,10 @@ fn run<H: Host, I: Source, O: Sink, N: Sink>(
           map (λ b. (⟦<dyn Pacer as Pacer>⟧ b.vtable).pacing b.value) pacers.items;
     } in
         let after : Outside = record { host = H.seen host.new; input = I.seen input.new; output = O.seen output.new; notes = N.seen notes.new; clock = answers clock.new; pacers = [] } in
-        RunsNoted (Run (options_read options.entry)) before after result }
+        RunsNoted Drops (Run (options_read options.entry)) before after result }
 {
-    let moment = moment_of(clock);
-    match start(alloc, options, host, moment) {
-        Ok(mut engine) => {
-            let mut conductor = Conductor::new(pacers, options.effort);
-            served_to(serve_noted(
-                alloc,
-                &mut engine,
-                input,
-                output,
-                notes,
-                clock,
-                &mut conductor,
-                options.max_input,
-            ))
-        }
-        Err(ending) => {
-            note(notes, ending);
-            ending
-        }
-    }
+    let (ending, _left) = run_open(alloc, options, host, input, output, notes, clock, pacers);
+    ending
 }
 
 /// A run with what the words are read as, and its line in the notes.
@@ -87,7 +121,7 @@ pub fn run_given<H: Host, I: Source, O: Sink, N: Sink>(
           map (λ b. (⟦<dyn Pacer as Pacer>⟧ b.vtable).pacing b.value) pacers.items;
     } in
         let after : Outside = record { host = H.seen host.new; input = I.seen input.new; output = O.seen output.new; notes = N.seen notes.new; clock = answers clock.new; pacers = [] } in
-        RunsNoted (given_read given.entry) before after result }
+        RunsNoted Drops (given_read given.entry) before after result }
 {
     match given {
         Given::Wrong => {

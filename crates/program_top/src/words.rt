@@ -8,7 +8,7 @@ ghost use Rattle.clap.specs.Simple.{app_of};
 ghost use Rattle.clap.specs.Walk.{rows_of};
 ghost use Rattle.object_codec.specs.Limits.{AreInRange};
 ghost use Rattle.program_top.specs.Given.{command, given_by, given_of, is_number, is_right, limits_of, numbers, options_of, sizes, value_of, with_option, asked_for, generate};
-ghost use Rattle.program_top.specs.WordsRead.{AreTaken, AreUsable, given_read, number_read, options_read};
+ghost use Rattle.program_top.specs.WordsRead.{AreTaken, AreUsable, IsPlainCommand, Matches, Refuses, given_read, number_read, options_read};
 
 use clap::error::ErrorKind;
 use clap::{Arg, ArgMatches, Command};
@@ -141,8 +141,8 @@ const SET_INTSET: Number = Number {
     usual: 512,
 };
 
-// The command with one option more.
-fn with_option<'a>(
+/// The command with one option more: `--name VALUE` or `--name=VALUE`.
+pub fn with_option<'a>(
     command: Command<'a>,
     alloc: Global,
     name: &'a str,
@@ -171,8 +171,8 @@ fn with_four<'a>(
     with_option(command, alloc, fourth)
 }
 
-// The command that reads the words.
-fn command<'a>(alloc: Global) -> Result<Command<'a>, AllocError>
+/// The command that reads the words.
+pub fn command<'a>(alloc: Global) -> Result<Command<'a>, AllocError>
     ensures { IfOk result (λ all. app_of all ≡ command) }
 {
     let bare = Command::new(alloc, "redis-core").no_binary_name(true);
@@ -292,14 +292,32 @@ fn asked_for<'a>(count: u64, options: Options<'a>) -> Given<'a>
     }
 }
 
-// What the words that were matched ask for.
-fn given_by<'a>(matches: &ArgMatches<'a>) -> Given<'a>
+/// What the words that were matched ask for.
+pub fn given_by<'a>(matches: &ArgMatches<'a>) -> Given<'a>
     ensures given { given_read result ≡ given_of (rows_of (found_of matches.now)) }
     ensures taken { AreTaken result }
 {
     match read_options(matches) {
         Some((count, options)) => asked_for(count, options),
         None => Given::Wrong,
+    }
+}
+
+/// What the words give the options of a command. None says that it doesn't take them, and `Err` is want of memory.
+pub fn matched<'a>(
+    command: Command<'a>,
+    words: &'a [String],
+) -> Result<Option<ArgMatches<'a>>, AllocError>
+    requires { IsPlainCommand (app_of command) }
+    ensures some { IfOk result (λ found. IfSome found (λ matches. Matches (app_of command.entry) (map string_bytes words.entry.now) (rows_of (found_of matches)))) }
+    ensures none { IfOk result (λ found. IfNone found (Refuses (app_of command.entry) (map string_bytes words.entry.now))) }
+{
+    match command.try_get_matches_from(words) {
+        Ok(matches) => Ok(Some(matches)),
+        Err(error) => match error.kind() {
+            ErrorKind::OutOfMemory => Err(AllocError),
+            _ => Ok(None),
+        },
     }
 }
 
@@ -311,11 +329,10 @@ pub fn read_words<'a>(alloc: Global, words: &'a [String]) -> Result<Given<'a>, A
     ensures options { IfOk result (λ given. given_by (map string_bytes words.entry.now) ≡ given_read given) }
     ensures taken { IfOk result AreTaken }
 {
-    match command(alloc)?.try_get_matches_from(words) {
-        Ok(matches) => Ok(given_by(&matches)),
-        Err(error) => match error.kind() {
-            ErrorKind::OutOfMemory => Err(AllocError),
-            _ => Ok(Given::Wrong),
-        },
+    let command = command(alloc)?;
+    match matched(command, words) {
+        Ok(Some(matches)) => Ok(given_by(&matches)),
+        Ok(None) => Ok(Given::Wrong),
+        Err(error) => Err(error),
     }
 }

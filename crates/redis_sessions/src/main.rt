@@ -3,11 +3,11 @@
 #![tactic(auto)]
 
 use outside::StdSink;
-use program_top::process::words_given;
-use sessions_top::process::run_with;
+use program_top::process::{run_with, words_given};
+use sessions_top::process::Sessions;
 use std::process::ExitCode;
 
 fn main(rt: HostRuntime) -> ExitCode {
     let mut notes = StdSink::new(rt.stderr());
-    run_with(&rt, words_given(&rt), &mut notes)
+    run_with(&Sessions, &rt, words_given(&rt), &mut notes)
 }

@@ -1,16 +1,7 @@
-use Rattle.std.proofs.Common.{◌∙◌}
-use Rattle.program_top.specs.WordsRead.{options_read}
-use Rattle.program_top.specs.Running.{begun}
-use Rattle.program_top.proofs.Worlds.{begins_engine, conducted, reads_none}
+use Rattle.program_top.specs.Running.{Drops}
+use Rattle.program_top.specs.Stepped.{Leaves}
+use Rattle.program_top.proofs.Worlds.{closed_as}
 use Rattle.program_top.proofs.top_call.run.Goals as goal
 
-pub returns-in-Ok : goal.returns-in-Ok
-returns-in-Ok g c =
-    let s = c.in-Ok.ensures.starts in
-    let n = c.serve_noted.ensures in
-    record {
-      run = begun _ _ c.serve_noted.result
-          (begins_engine (options_read c.args.options) _ c.in-Ok.engine _ c.moment_of-moment.result _ c.moment_of-moment.ensures s.0 s.1 s.2 (c.new-conductor.ensures ∙ conducted _ _ _))
-          c.in-Ok.ensures.host n.goes (reads_none _ _) c.served_to.ensures;
-      line = rw c.served_to.ensures n.line;
-    }
+pub returns : goal.returns
+returns g c = closed_as (Leaves c.run_open-ending.result.1) Drops (λ last ended left. tt) _ _ _ c.run_open-ending.result.0 c.run_open-ending.ensures

@@ -1,0 +1,6 @@
+mod Short
+mod Fit
+mod Engines
+mod Closing
+mod Whole
+mod Readings
