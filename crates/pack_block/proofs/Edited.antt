@@ -12,9 +12,10 @@ use Rattle.listpack.specs.Pack.{IsPack, offset_of, spellings_of, texts, told}
 use Rattle.listpack.specs.Writing.{entry, spelling}
 use Rattle.listpack.specs.Edits.{IsEdited, fewer, one_more}
 use Rattle.listpack.proofs.Offsets.{offset_rises, length_offset}
-use Rattle.listpack.proofs.Repacking.{inserted, taken_out, element_fits, length-put, length-cut}
+use Rattle.listpack.proofs.Repacking.{inserted, taken_out, element_fits, length-put, length_put_is, length-cut}
 use Rattle.pack_block.specs.Gap.{headed, spliced, HasGap}
-use Rattle.pack_block.proofs.Blocks.{written_changes, holds_written}
+use Rattle.pack_block.proofs.Blocks.{written_changes, written_twice, holds_written}
+use Rattle.pack_block.proofs.Shapes.{overwritten_next}
 
 pub if_ok : {A E : Type 0} {P Q : A → Type 0} → ((x : A) → P x → Q x) → (r : Result A E) → IfOk r P → IfOk r Q
 if_ok f (Ok x) p = f x p
@@ -122,19 +123,55 @@ put_changes m mid filled n at new bytes count first live put is =
     headed_changes m filled n at new count (changes_then m mid filled (at ∷ []) (new ∷ []) (new ∷ []) first (written_changes mid filled new bytes live put)) (put_live mid filled new bytes put) is
 
 -- an entry put in before the entry i
-pub block_put_in : (old new seen text part : List ℕ) (i start told' count : ℕ) → old ≡ seen → IsPack old → i ≤ length (texts old) → start ≡ offset_of seen i → told' ≡ told seen
-    → count ≡ one_more told' → part ≡ entry text → length old + length part < 2 ^ 32
-    → new ≡ headed count (take start old ++ (part ++ drop start old))
+pub block_put_in : (old new seen text : List ℕ) (i start told' count : ℕ) → old ≡ seen → IsPack old → i ≤ length (texts old) → start ≡ offset_of seen i → told' ≡ told seen
+    → count ≡ one_more told' → length old + length (entry text) < 2 ^ 32
+    → new ≡ headed count (take start old ++ (entry text ++ drop start old))
     → IsEdited new (insert (spellings_of old) i (spelling text)) (one_more (told old))
-block_put_in old new seen text part i start told' count same p inside start_is told_is count_is part_is small is =
+block_put_in old new seen text i start told' count same p inside start_is told_is count_is fits is =
     let at : start ≡ offset_of old i = start_is ∙ ap (λ (b : List ℕ). offset_of b i) (sym same) in
-    let inner : List ℕ = take start old ++ (part ++ drop start old) in
-    let put_as : inner ≡ take start old ++ (entry text ++ drop start old) = ap (λ (xs : List ℕ). take start old ++ (xs ++ drop start old)) part_is in
-    let fits : length old + length (entry text) < 2 ^ 32 = omega (arith, small, ap length part_is) in
-    inserted old inner new text i count p inside (element_fits old text fits)
-    (put_as ∙ ap (λ (k : ℕ). take k old ++ (entry text ++ drop k old)) at) is (length-put old inner text start put_as fits)
+    let inner : List ℕ = take start old ++ (entry text ++ drop start old) in
+    inserted old inner new text i count p inside (element_fits old text fits) (ap (λ (k : ℕ). take k old ++ (entry text ++ drop k old)) at) is (length-put old inner text start refl fits)
     (count_is ∙ ap one_more (told_is ∙ ap told (sym same)))
 
--- a text whose entry is short enough
-pub text_fits : (old part text : List ℕ) → part ≡ entry text → length old + length part < 2 ^ 32 → length text < 2 ^ 32
-text_fits old part text is small = element_fits old text (omega (arith, small, ap length is))
+-- three pieces written one behind the other
+pub pieces_written : (m one two n : Blocks) (at : BlockRef) (from : ℕ) (a b c : List ℕ) → from ≤ length (bytes_at m at) → one ≡ with_block m at (Some (overwritten (bytes_at m at) from a))
+    → two ≡ with_block one at (Some (overwritten (bytes_at one at) (from + length a) b))
+    → n ≡ with_block two at (Some (overwritten (bytes_at two at) (from + length a + length b) c))
+    → n ≡ with_block m at (Some (overwritten (bytes_at m at) from (a ++ (b ++ c))))
+pieces_written m one two n at from a b c inside first second third =
+    let over = bytes_at m at in
+    let next : from + length a + length b ≡ from + length (a ++ b) = omega (arith, length-append a b) in
+    let both : two ≡ with_block m at (Some (overwritten over from (a ++ b))) =
+    written_twice m one two at (overwritten over from a) (λ (xs : List ℕ). overwritten xs (from + length a) b) first second
+    ∙ ap (λ (xs : List ℕ). with_block m at (Some xs)) (overwritten_next over a b from inside) in
+    written_twice m two n at (overwritten over from (a ++ b)) (λ (xs : List ℕ). overwritten xs (from + length a + length b) c) both third
+    ∙ ap (λ (k : ℕ). with_block m at (Some (overwritten (overwritten over from (a ++ b)) k c))) next
+    ∙ ap (λ (xs : List ℕ). with_block m at (Some xs)) (overwritten_next over (a ++ b) c from inside)
+    ∙ ap (λ (xs : List ℕ). with_block m at (Some (overwritten over from xs))) (append_assoc a b c)
+
+-- a written piece leaves the length
+pub length_over : (over part : List ℕ) (from : ℕ) → from + length part ≤ length over → length (overwritten over from part) ≡ length over
+length_over over part from inside =
+    omega (
+      arith,
+      inside,
+      length-append (take from over) (part ++ drop (from + length part) over),
+      length-append (take from over) part,
+      length-append (take from over ++ part) (drop (from + length part) over),
+      length-take-le from over (omega (arith, inside)),
+      length-drop (from + length part) over,
+    )
+
+pub length_written : (m n : Blocks) (at : BlockRef) (from : ℕ) (part : List ℕ) → n ≡ with_block m at (Some (overwritten (bytes_at m at) from part)) → from + length part ≤ length (bytes_at m at)
+    → length (bytes_at n at) ≡ length (bytes_at m at)
+length_written m n at from part is inside = ap length (seen_is n at _ (holds_written m n at _ is)) ∙ length_over (bytes_at m at) part from inside
+
+-- an entry written into a gap, in three parts
+pub put_entry : (mid filled : Blocks) (at : BlockRef) (bytes a b c text : List ℕ) (from room : ℕ) → HasGap mid at bytes from 0 room → a ++ (b ++ c) ≡ entry text → room ≡ length (entry text)
+    → from ≤ length bytes → filled ≡ with_block mid at (Some (overwritten (bytes_at mid at) from (a ++ (b ++ c))))
+    → bytes_at filled at ≡ take from bytes ++ (entry text ++ drop from bytes)
+put_entry mid filled at bytes a b c text from room h parts wide inside is =
+    put_bytes mid filled at bytes (a ++ (b ++ c)) from room h (wide ∙ sym (ap length parts)) inside is ∙ ap (λ (xs : List ℕ). take from bytes ++ (xs ++ drop from bytes)) parts
+
+pub length_entry : (bytes new text : List ℕ) (from : ℕ) → new ≡ take from bytes ++ (entry text ++ drop from bytes) → length new ≡ length bytes + length (entry text)
+length_entry bytes new text from is = length_put_is bytes new text from is

@@ -156,9 +156,6 @@ pub if_ok_three : {A E : Type 0} (P Q R S : A → Type 0) (r : Result A E) → (
 if_ok_three P Q R S (Ok x) f p q s = f x p q s
 if_ok_three P Q R S (Err e) f p q s = tt
 
-pub spelled_alone : (alone text : List ℕ) → IsPacked alone → texts alone ≡ text ∷ [] → spellings_of alone ≡ spelling text ∷ []
-spelled_alone alone text p one = p.written ∙ ap (map spelling) one
-
 -- a length given to bytes is theirs then
 length_resized : (xs : List ℕ) (n : ℕ) → length (resized xs n) ≡ n
 length_resized xs n = omega (arith, length-append (take n xs) (replicate {A = ℕ} (n - length xs) 0), length-take n xs, length-replicate {A = ℕ} (n - length xs) 0)
@@ -185,7 +182,3 @@ node_exact m node is = by node.container is.is_held
     by : (c : Container) → IsHeld c (bytes_at m node.at) → length (bytes_at m node.at) ≡ node_len c (held c (bytes_at m node.at))
     by Plain h = ap length (sym (append-nil (bytes_at m node.at)))
     by Packed h = packed_len (bytes_at m node.at) h
-
--- an element that has room in a node, by the listpack of it alone
-pub space_of : (m : Blocks) (node : Node) (alone text : List ℕ) → texts alone ≡ text ∷ [] → (other : List ℕ) × (texts alone ≡ other ∷ []) × HasSpace m node other → HasSpace m node text
-space_of m node alone text one (other, same, space) = subst (HasSpace m node) (ap (λ (xs : List (List ℕ)). get_or xs 0 []) (sym same ∙ one)) space

@@ -1,21 +1,19 @@
 // Packed nodes that are edited in their blocks. A block stays in its place where its class is the least that holds the node after the
 // edit too; else the node is placed in a block of its own length, and then the old block is given back.
 
-ghost use Rattle.std.specs.Prelude.{◌≡◌, ◌∷◌, ◌<◌, ◌≤◌, ◌+◌, ◌-◌, ℕ, List, [], Some, IsSome, IsTrue, IfOk, OnOk, OnErr, false, length, slice_set};
+ghost use Rattle.std.specs.Prelude.{◌≡◌, ◌<◌, ◌≤◌, ◌+◌, ◌-◌, ℕ, Some, IsSome, IsTrue, IfOk, OnOk, OnErr, false, length, slice_set};
 ghost use Rattle.std.specs.List.{insert as inserted, remove_range as range_removed};
 ghost use Rattle.blocks.specs.Blocks.{Served, with_block};
-ghost use Rattle.listpack.specs.Pack.{IsPack, spellings_of, texts};
-ghost use Rattle.listpack.specs.Writing.{entry, spelling};
+ghost use Rattle.listpack.specs.Pack.{texts};
 ghost use Rattle.quicklist.specs.Nodes.{IsPacked, IsReadable, IsRemade, HasSpace, pack_len, node_at, node_list};
 ghost use Rattle.quicklist.specs.Chain.{IsQuick, IsWritten, respelled};
 
 use crate::node::{Container, Node};
-use crate::packs::pack_of;
 use crate::piece::{PACKED_BYTES, is_long};
 use crate::quick::Quick;
 use blocks::{BlockRef, BlockStore, Memory, put_block};
 use listpack::entry_size;
-use pack_block::{insert_entry, remove_range};
+use pack_block::{insert, remove_range};
 
 /// Whether an element has room in a node beside its others.
 pub(crate) fn has_space<B: BlockStore>(store: &B, node: Node, element: &[u8]) -> bool
@@ -32,31 +30,21 @@ pub(crate) fn has_space<B: BlockStore>(store: &B, node: Node, element: &[u8]) ->
     }
 }
 
-// The entry of the one element of a listpack.
-fn entry_in(alone: &[u8]) -> &[u8]
-    requires { IsPack alone.now }
-    ensures { (text : List ℕ) → spellings_of alone.now ≡ spelling text ∷ [] → result.now ≡ entry text }
-{
-    &alone[6..alone.len() - 1]
-}
-
-// Puts the element of a listpack of one before the element at an index of a packed node, or behind all others.
+// Puts an element before the one at an index of a packed node, or behind all others.
 fn put_entry<B: BlockStore>(
     store: &mut B,
     node: Node,
     index: usize,
-    alone: &[u8],
+    element: &[u8],
 ) -> Result<BlockRef, Memory>
     requires readable { IsReadable (B.blocks store.old) node }
     requires index { index ≤ length (node_list (B.blocks store.old) node) }
-    requires alone { IsPacked alone.now }
-    requires space { (text : List ℕ) × (texts alone.now ≡ text ∷ []) × HasSpace (B.blocks store.old) node text }
-    ensures remade { (text : List ℕ) → texts alone.now ≡ text ∷ []
-        → IfOk result (IsRemade (B.blocks store.old) (B.blocks store.new) node (inserted (node_list (B.blocks store.old) node) index text)) }
+    requires space { HasSpace (B.blocks store.old) node element.now }
+    ensures remade { IfOk result (IsRemade (B.blocks store.old) (B.blocks store.new) node (inserted (node_list (B.blocks store.old) node) index element.now)) }
     ensures served { Served B.step store.old store.new }
     ensures err_blocks { OnErr result (B.blocks store.new ≡ B.blocks store.old) }
 {
-    insert_entry(store, node.at, index, entry_in(alone))
+    insert(store, node.at, index, element)
 }
 
 // Takes the elements from an index to below another out of a packed node.
@@ -144,15 +132,10 @@ impl Quick {
         ensures err_list { OnErr result (self.new ≡ self.old) }
         ensures err_blocks { OnErr result (B.blocks store.new ≡ B.blocks store.old) }
     {
-        match pack_of(self.alloc, element)? {
-            None => unreachable!(),
-            Some(alone) => {
-                let node = self.nodes[k];
-                let at = put_entry(store, node, i, &alone)?;
-                self.set_node(k, at, node.count + 1, len);
-                Ok(())
-            }
-        }
+        let node = self.nodes[k];
+        let at = put_entry(store, node, i, element)?;
+        self.set_node(k, at, node.count + 1, len);
+        Ok(())
     }
 
     // Takes the elements of the packed node k from its element i to below its element j out of it, where others are left.

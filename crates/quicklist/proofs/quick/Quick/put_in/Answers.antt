@@ -1,17 +1,11 @@
-use Rattle.std.proofs.Common.{◌+◌, ℕ, Option, get_or, ap, ◌∙◌, subst, arith}
-use Rattle.std.specs.Global.{Vec}
+use Rattle.std.proofs.Common.{◌+◌, get_or, ap, ◌∙◌, subst, arith}
 use Rattle.std.specs.List.{insert}
 use Rattle.std.proofs.lemmas.List.Edits.{length-insert}
-use Rattle.blocks.specs.Blocks.{no_step}
-use Rattle.listpack.specs.Pack.{texts}
 use Rattle.quicklist.specs.declared.node.Node.{Node}
-use Rattle.quicklist.specs.Nodes.{IsAlone, IsRemade, node_at, node_list}
+use Rattle.quicklist.specs.Nodes.{IsRemade, node_at, node_list}
 use Rattle.quicklist.proofs.Elements.{node_is, node_of}
 use Rattle.quicklist.proofs.Overwriting.{node_few, node_remade}
 use Rattle.quicklist.proofs.quick.Quick.put_in.Goals as goal
-
-pub returns-in_err-pack_of-clause-served : goal.returns-in_err-pack_of-clause-served
-returns-in_err-pack_of-clause-served g c = no_step
 
 pub overflow_add-node : goal.overflow_add-node
 overflow_add-node g c =
@@ -31,12 +25,11 @@ returns-clause-written g c =
     let i = c.args.i in
     let x = c.args.element.now in
     let node = c.index-node.result.now in
-    let at = c.in_ok-at-in-Some.at in
+    let at = c.in_ok-at.at in
     let given = c.index-node.ensures ∙ ap (λ v. get_or v.nodes k node) c.self.view_is in
     let is = node_is q.nodes k node c.requires.inside given in
     let xs = node_list m (node_at q.nodes k) in
-    let alone = subst (λ (o : Option (Vec ℕ)). IsAlone o x) c.in-Some.is c.in_ok-pack_of.ensures in
-    let r = subst (λ (y : Node). IsRemade m n node (insert (node_list m y) i x) at) is (c.in_ok-at-in-Some.ensures.remade x (ap texts c.deref.ensures.value ∙ alone.1)) in
+    let r = subst (λ (y : Node). IsRemade m n node (insert (node_list m y) i x) at) is c.in_ok-at.ensures.remade in
     node_remade m n q _ k (node.count + 1) node at (insert xs i x) c.requires.quick c.requires.inside given r (omega arith)
     (omega (arith, (node_of m q.nodes k c.requires.quick.chain.each c.requires.inside).counted, ap (λ n. n.count) is, length-insert xs i x c.requires.index))
     c.set_node.ensures.nodes (c.set_node.ensures.len ∙ c.requires.len)
