@@ -35,7 +35,8 @@ fn write_select<F: Shelf>(
     write_length(shelf, pen, db as u64)
 }
 
-// Writes the key of an item number, where it is there at the moment, and whether it is. The database may be named already.
+// Writes the key of an item number, where it is there at the moment, with its deadline before it. The answer is whether it is there.
+// Where its database isn't named yet, that is named first.
 fn write_item<F: Shelf, B: BlockStore>(
     shelf: &mut F,
     pen: &mut Pen,
