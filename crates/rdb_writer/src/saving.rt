@@ -35,7 +35,8 @@ fn write_select<F: Shelf>(
     write_length(shelf, pen, db as u64)
 }
 
-// Writes the key of an item number, where it is there at the moment, and whether it is. The database may be named already.
+// Writes the key of an item number, where it is there at the moment, with its deadline before it. The answer is whether it is there.
+// Where its database isn't named yet, that is named first.
 fn write_item<F: Shelf, B: BlockStore>(
     shelf: &mut F,
     pen: &mut Pen,
@@ -79,8 +80,9 @@ fn write_database<F: Shelf, B: BlockStore>(
         (λ keys word. Saves keyspace.now.bases (B.blocks keyspace.now.store) moment db 0 0 (db + 1) 0 0 word) result }
     ensures keys { IfOk result (λ keys. keys ≡ len ((saved keyspace.now.bases (B.blocks keyspace.now.store) moment).bases db)) }
 {
+    let top = keyspace.table(db).top();
     let mut count = 0;
-    for at in 0..keyspace.table(db).top() {
+    for at in 0..top {
         let there = write_item(shelf, pen, keyspace, moment, db, at, count > 0)?;
         count += u64::from(there);
     }
@@ -100,12 +102,12 @@ fn write_databases<F: Shelf, B: BlockStore>(
         (λ keys word. Saves keyspace.now.bases (B.blocks keyspace.now.store) moment 0 0 0 16 0 0 word) result }
     ensures keys { IfOk result (λ keys. keys ≡ min (keys_below 16 (saved keyspace.now.bases (B.blocks keyspace.now.store) moment).bases) (2 ^ 64 - 1)) }
 {
-    let mut count = 0u64;
+    let mut total = 0u64;
     for db in 0..DATABASES {
-        let keys = write_database(shelf, pen, keyspace, moment, db)?;
-        count = count.saturating_add(keys);
+        let count = write_database(shelf, pen, keyspace, moment, db)?;
+        total = total.saturating_add(count);
     }
-    Ok(count)
+    Ok(total)
 }
 
 // Writes a whole file behind the bytes of the name that is made.
@@ -121,9 +123,9 @@ fn write_file<F: Shelf, B: BlockStore>(
 {
     let mut pen = Pen::new();
     pen.write(shelf, b"REDIS0011")?;
-    let keys = write_databases(shelf, &mut pen, keyspace, moment)?;
+    let all = write_databases(shelf, &mut pen, keyspace, moment)?;
     pen.close(shelf)?;
-    Ok(keys)
+    Ok(all)
 }
 
 /// Writes the keys that are there at the moment, in milliseconds, as the file of this name, and says how many they are, or the

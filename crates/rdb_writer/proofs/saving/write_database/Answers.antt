@@ -35,7 +35,7 @@ returns-in_err-there-clause-writes g c =
     search (rules, lost)
 
 pub overflow_add-count : goal.overflow_add-count
-overflow_add-count g c = omega (arith, c.loop-at.invariant.few, c.from-count.ensures, one_at_most c.in_ok-there.there, c.loop-at-test.true, c.top-at-end.type_inv)
+overflow_add-count g c = omega (arith, c.loop-at.invariant.few, c.from-count.ensures, one_at_most c.in_ok-there.there, c.loop-at-test.true, c.top-top.type_inv)
 
 pub loop-at-preserved : goal.loop-at-preserved
 loop-at-preserved g c =
@@ -57,11 +57,11 @@ returns-clause-writes g c =
       i.word,
       i.so_far,
       saves_all c.args.keyspace.now.bases (g.B.BlockStore.blocks c.args.keyspace.now.store) c.args.moment c.requires.sound.arranged c.args.db c.requires.db c.loop-at.at c.loop-at.count i.word
-          (λ at some. let below : at < c.top-at-end.result = c.top-at-end.ensures.above at (subst (λ t. IsSome (item t at)) (sym c.table.ensures) some) in omega (arith, below, c.loop-at-test.false)) i.saves,
+          (λ at some. let below : at < c.top-top.result = c.top-top.ensures.above at (subst (λ t. IsSome (item t at)) (sym c.table.ensures) some) in omega (arith, below, c.loop-at-test.false)) i.saves,
     )
 
 pub returns-clause-keys : goal.returns-clause-keys
 returns-clause-keys g c =
     let i = c.loop-at.invariant in
     saves_count c.args.keyspace.now.bases (g.B.BlockStore.blocks c.args.keyspace.now.store) c.args.moment c.requires.sound.arranged c.args.db c.requires.db c.loop-at.at c.loop-at.count i.word
-    (λ at some. let below : at < c.top-at-end.result = c.top-at-end.ensures.above at (subst (λ t. IsSome (item t at)) (sym c.table.ensures) some) in omega (arith, below, c.loop-at-test.false)) i.saves
+    (λ at some. let below : at < c.top-top.result = c.top-top.ensures.above at (subst (λ t. IsSome (item t at)) (sym c.table.ensures) some) in omega (arith, below, c.loop-at-test.false)) i.saves

@@ -10,5 +10,5 @@ invariant-loop-db g l =
       word : List ℕ;
       so_far : Adds (g.F.Shelf.seen l.fn.shelf) (g.F.Shelf.seen l.shelf) l.fn.pen l.pen word;
       saves : Saves l.keyspace.bases m l.moment 0 0 0 l.db 0 0 word;
-      keys : l.count ≡ min (keys_below l.db (saved l.keyspace.bases m l.moment).bases) (2 ^ 64 - 1);
+      keys : l.total ≡ min (keys_below l.db (saved l.keyspace.bases m l.moment).bases) (2 ^ 64 - 1);
     }

@@ -1,4 +1,4 @@
-use Rattle.std.proofs.Common.{rules, ◌+◌, ◌++◌, [], ap, is_some}
+use Rattle.std.proofs.Common.{rules, ◌++◌, [], ap, is_some}
 use Rattle.keyspace.specs.Values.{value_of}
 use Rattle.keyspace.proofs.Uses.{sound_is_intact}
 use Rattle.rdb_parts.specs.Words.{select_word, deadline_word}
