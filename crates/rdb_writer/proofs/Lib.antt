@@ -1,0 +1,11 @@
+pub mod Pieces
+pub mod Spelling
+pub mod Listed
+pub mod Members
+pub mod Pairs
+pub mod Ranked
+pub mod Logs
+pub mod SameValues
+pub mod Found
+pub mod Saved
+pub mod Whole

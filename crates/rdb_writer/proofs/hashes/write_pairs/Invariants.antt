@@ -1,0 +1,15 @@
+use Rattle.std.proofs.Common.{◌≡◌, ◌≤◌, length, take}
+use Rattle.std.specs.Prelude.{MatchOption}
+use Rattle.hash_object.specs.Fields.{listed}
+use Rattle.hash_object.specs.Items.{IsCursor}
+use Rattle.rdb_parts.specs.Pens.{Adds}
+use Rattle.rdb_writer.specs.Collections.{pairs_word}
+use Rattle.rdb_writer.proofs.hashes.write_pairs.Given as goal
+
+abbrev pub invariant-loop-index : goal.invariant-loop-index
+invariant-loop-index g l =
+    let m = g.B.BlockStore.blocks l.store in
+    record {
+      next : MatchOption l.place (length (listed m l.hash) ≤ l.index) (λ cursor. IsCursor m l.hash cursor × (cursor.index ≡ l.index));
+      so_far : Adds (g.F.Shelf.seen l.fn.shelf) (g.F.Shelf.seen l.shelf) l.fn.pen l.pen (pairs_word (take l.index (listed m l.hash)));
+    }

@@ -1,0 +1,3 @@
+pub mod Collections
+pub mod Keys
+pub mod Saving
