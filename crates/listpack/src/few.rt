@@ -6,7 +6,7 @@ use std::marker::Model;
 
 /// At most nine bytes: the first `len` of these.
 #[derive(Drop)]
-pub(crate) struct FewBytes {
+pub struct FewBytes {
     bytes: [u8; 9],
     len: usize,
 }
@@ -33,14 +33,16 @@ impl FewBytes {
         }
     }
 
-    pub(crate) fn len(&self) -> usize
+    /// How many they are.
+    pub fn len(&self) -> usize
         ensures value { result ≡ length self.now }
         ensures few { result ≤ 9 }
     {
         self.len
     }
 
-    pub(crate) fn as_slice(&self) -> &[u8]
+    /// The bytes.
+    pub fn as_slice(&self) -> &[u8]
         ensures { result.now ≡ self.now }
     {
         &self.bytes[..self.len]

@@ -18,6 +18,7 @@ pub use checking::{check, exactly_one, known};
 pub use edits::{Memory, append, empty, insert, remove, remove_range, replace};
 pub use encoding::Element;
 pub use fault::PackFault;
+pub use few::FewBytes;
 pub use sought::Sought;
-pub use spelling::{entry_size, fits, spelling_is_read_back};
+pub use spelling::{entry_parts, entry_size, fits, spelling_is_read_back};
 pub use walks::Pack;

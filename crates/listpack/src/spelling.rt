@@ -6,7 +6,7 @@ ghost use Rattle.byteorder.specs.Endian.{little_bytes, low_bytes};
 ghost use Rattle.listpack.specs.Entry.{IsSpelling, text_of};
 ghost use Rattle.listpack.specs.Writing.{magnitude, thirteen_low, number_spelling, text_head, spelling, entry, Fits};
 
-use crate::back::back_len;
+use crate::back::{back_len, back_length_of};
 use crate::encoding::{Element, element_of};
 use crate::few::FewBytes;
 use byteorder::{ByteOrder, LittleEndian};
@@ -125,6 +125,17 @@ pub(crate) fn is_as_written(spelled: &[u8]) -> bool
         Element::Number(n) => is_spelling_of_number(spelled, n),
         Element::Text(part) => is_spelling_of(spelled, part),
     }
+}
+
+/// The parts of an element's entry, of which nothing stands in the heap: an encoding, the bytes that follow it, and the back length.
+pub fn entry_parts(element: &[u8]) -> (FewBytes, &[u8], FewBytes)
+    requires { length element.now < 2 ^ 32 }
+    ensures parts { result.0 ++ (result.1.now ++ result.2) ≡ entry element.now }
+    ensures size { length result.0 + length result.1.now + length result.2 ≡ length (entry element.now) }
+{
+    let (head, content) = spell(element);
+    let back = back_length_of(head.len() + content.len());
+    (head, content, back)
 }
 
 /// How many bytes the entry of an element takes.

@@ -1,19 +1,21 @@
 -- Listpacks in blocks after edits.
 use Rattle.std.proofs.Common.{◌≡◌, ℕ, ◌+◌, ◌-◌, ◌<◌, ◌≤◌, ◌^◌, List, [], ◌∷◌, ◌++◌, Some, IsSome, Result, Ok, Err, unwrap_or, length, take, drop, refl, sym, ap, ◌∙◌, subst, arith}
 use Rattle.std.specs.Prelude.{IfOk, Option}
-use Rattle.std.specs.List.{remove_range}
-use Rattle.std.proofs.lemmas.List.{append_assoc, length-append, length-take-le, length-drop, nil_from_length}
+use Rattle.std.specs.List.{insert, remove_range}
+use Rattle.std.proofs.lemmas.List.{append_assoc, length-append, length-take-le, length-drop, nil_from_length, take_at, drop_at}
 use Rattle.byteorder.specs.Endian.{little_bytes}
 use Rattle.byteorder.specs.Numbers.{length-bytes_low_first}
 use Rattle.blocks.specs.declared.BlockRef.{BlockRef}
 use Rattle.blocks.specs.Blocks.{Blocks, with_block, bytes_at, overwritten, Changes}
 use Rattle.blocks.proofs.Change.{changes_then}
 use Rattle.listpack.specs.Pack.{IsPack, offset_of, spellings_of, texts, told}
-use Rattle.listpack.specs.Edits.{IsEdited, fewer}
+use Rattle.listpack.specs.Writing.{entry, spelling}
+use Rattle.listpack.specs.Edits.{IsEdited, fewer, one_more}
 use Rattle.listpack.proofs.Offsets.{offset_rises, length_offset}
-use Rattle.listpack.proofs.Repacking.{taken_out, length-cut}
-use Rattle.pack_block.specs.Gap.{headed, HasGap}
-use Rattle.pack_block.proofs.Blocks.{written_changes, holds_written}
+use Rattle.listpack.proofs.Repacking.{inserted, taken_out, element_fits, length-put, length_put_is, length-cut}
+use Rattle.pack_block.specs.Gap.{headed, spliced, HasGap}
+use Rattle.pack_block.proofs.Blocks.{written_changes, written_twice, holds_written}
+use Rattle.pack_block.proofs.Shapes.{overwritten_next}
 
 pub if_ok : {A E : Type 0} {P Q : A → Type 0} → ((x : A) → P x → Q x) → (r : Result A E) → IfOk r P → IfOk r Q
 if_ok f (Ok x) p = f x p
@@ -85,3 +87,91 @@ block_taken_out old new seen i j start end count told' same p short order inside
     let within : start + (end - start) ≤ length old = omega (arith, next, length_offset old j p) in
     let small : length inner < 2 ^ 32 = length-cut old inner start (end - start) refl within short in
     taken_out old inner new i j count p order inside cut_as is small few (count_is ∙ ap (λ (k : ℕ). fewer k (j - i)) (told_is ∙ ap told (sym same)))
+
+-- a piece over a gap as wide as it
+pub filled_gap : (bytes gap part : List ℕ) (from : ℕ) → from ≤ length bytes → length gap ≡ length part
+    → overwritten (spliced bytes from 0 gap) from part ≡ take from bytes ++ (part ++ drop from bytes)
+filled_gap bytes gap part from inside wide =
+    let front : List ℕ = take from bytes in
+    let back : List ℕ = drop (from + 0) bytes in
+    let long : length front ≡ from = length-take-le from bytes inside in
+    let same : from + 0 ≡ from = omega arith in
+    let both : length (front ++ gap) ≡ from + length part = omega (arith, long, wide, length-append front gap) in
+    let behind : drop (from + length part) (front ++ (gap ++ back)) ≡ back =
+    ap (drop (from + length part)) (sym (append_assoc front gap back)) ∙ drop_at (front ++ gap) back (from + length part) both in
+    ap (λ (xs : List ℕ). (xs ++ part) ++ drop (from + length part) (front ++ (gap ++ back))) (take_at front (gap ++ back) from long)
+    ∙ ap (λ (xs : List ℕ). (front ++ part) ++ xs) behind
+    ∙ append_assoc front part back
+    ∙ ap (λ (k : ℕ). front ++ (part ++ drop k bytes)) same
+
+-- so it is in a block
+pub put_bytes : (mid filled : Blocks) (at : BlockRef) (bytes part : List ℕ) (from room : ℕ) → HasGap mid at bytes from 0 room → room ≡ length part → from ≤ length bytes
+    → filled ≡ with_block mid at (Some (overwritten (bytes_at mid at) from part)) → bytes_at filled at ≡ take from bytes ++ (part ++ drop from bytes)
+put_bytes mid filled at bytes part from room h wide inside is =
+    seen_is filled at _ (holds_written mid filled at _ is)
+    ∙ ap (λ (xs : List ℕ). overwritten xs from part) (seen_is mid at _ h.holds)
+    ∙ filled_gap bytes h.gap part from inside (h.wide ∙ wide)
+
+-- and stays live
+pub put_live : (mid filled : Blocks) (at : BlockRef) (bytes : List ℕ) → filled ≡ with_block mid at (Some bytes) → IsSome (filled at)
+put_live mid filled at bytes is = some_is (filled at) bytes (holds_written mid filled at bytes is)
+
+-- a change, a piece in one block, and a header over it
+pub put_changes : (m mid filled n : Blocks) (at new : BlockRef) (bytes : List ℕ) (count : ℕ) → Changes m mid (at ∷ []) (new ∷ []) → IsSome (mid new) → filled ≡ with_block mid new (Some bytes)
+    → n ≡ with_block filled new (Some (headed count (bytes_at filled new))) → Changes m n (at ∷ []) (new ∷ [])
+put_changes m mid filled n at new bytes count first live put is =
+    headed_changes m filled n at new count (changes_then m mid filled (at ∷ []) (new ∷ []) (new ∷ []) first (written_changes mid filled new bytes live put)) (put_live mid filled new bytes put) is
+
+-- an entry put in before the entry i
+pub block_put_in : (old new seen text : List ℕ) (i start told' count : ℕ) → old ≡ seen → IsPack old → i ≤ length (texts old) → start ≡ offset_of seen i → told' ≡ told seen
+    → count ≡ one_more told' → length old + length (entry text) < 2 ^ 32
+    → new ≡ headed count (take start old ++ (entry text ++ drop start old))
+    → IsEdited new (insert (spellings_of old) i (spelling text)) (one_more (told old))
+block_put_in old new seen text i start told' count same p inside start_is told_is count_is fits is =
+    let at : start ≡ offset_of old i = start_is ∙ ap (λ (b : List ℕ). offset_of b i) (sym same) in
+    let inner : List ℕ = take start old ++ (entry text ++ drop start old) in
+    inserted old inner new text i count p inside (element_fits old text fits) (ap (λ (k : ℕ). take k old ++ (entry text ++ drop k old)) at) is (length-put old inner text start refl fits)
+    (count_is ∙ ap one_more (told_is ∙ ap told (sym same)))
+
+-- three pieces written one behind the other
+pub pieces_written : (m one two n : Blocks) (at : BlockRef) (from : ℕ) (a b c : List ℕ) → from ≤ length (bytes_at m at) → one ≡ with_block m at (Some (overwritten (bytes_at m at) from a))
+    → two ≡ with_block one at (Some (overwritten (bytes_at one at) (from + length a) b))
+    → n ≡ with_block two at (Some (overwritten (bytes_at two at) (from + length a + length b) c))
+    → n ≡ with_block m at (Some (overwritten (bytes_at m at) from (a ++ (b ++ c))))
+pieces_written m one two n at from a b c inside first second third =
+    let over = bytes_at m at in
+    let next : from + length a + length b ≡ from + length (a ++ b) = omega (arith, length-append a b) in
+    let both : two ≡ with_block m at (Some (overwritten over from (a ++ b))) =
+    written_twice m one two at (overwritten over from a) (λ (xs : List ℕ). overwritten xs (from + length a) b) first second
+    ∙ ap (λ (xs : List ℕ). with_block m at (Some xs)) (overwritten_next over a b from inside) in
+    written_twice m two n at (overwritten over from (a ++ b)) (λ (xs : List ℕ). overwritten xs (from + length a + length b) c) both third
+    ∙ ap (λ (k : ℕ). with_block m at (Some (overwritten (overwritten over from (a ++ b)) k c))) next
+    ∙ ap (λ (xs : List ℕ). with_block m at (Some xs)) (overwritten_next over (a ++ b) c from inside)
+    ∙ ap (λ (xs : List ℕ). with_block m at (Some (overwritten over from xs))) (append_assoc a b c)
+
+-- a written piece leaves the length
+pub length_over : (over part : List ℕ) (from : ℕ) → from + length part ≤ length over → length (overwritten over from part) ≡ length over
+length_over over part from inside =
+    omega (
+      arith,
+      inside,
+      length-append (take from over) (part ++ drop (from + length part) over),
+      length-append (take from over) part,
+      length-append (take from over ++ part) (drop (from + length part) over),
+      length-take-le from over (omega (arith, inside)),
+      length-drop (from + length part) over,
+    )
+
+pub length_written : (m n : Blocks) (at : BlockRef) (from : ℕ) (part : List ℕ) → n ≡ with_block m at (Some (overwritten (bytes_at m at) from part)) → from + length part ≤ length (bytes_at m at)
+    → length (bytes_at n at) ≡ length (bytes_at m at)
+length_written m n at from part is inside = ap length (seen_is n at _ (holds_written m n at _ is)) ∙ length_over (bytes_at m at) part from inside
+
+-- an entry written into a gap, in three parts
+pub put_entry : (mid filled : Blocks) (at : BlockRef) (bytes a b c text : List ℕ) (from room : ℕ) → HasGap mid at bytes from 0 room → a ++ (b ++ c) ≡ entry text → room ≡ length (entry text)
+    → from ≤ length bytes → filled ≡ with_block mid at (Some (overwritten (bytes_at mid at) from (a ++ (b ++ c))))
+    → bytes_at filled at ≡ take from bytes ++ (entry text ++ drop from bytes)
+put_entry mid filled at bytes a b c text from room h parts wide inside is =
+    put_bytes mid filled at bytes (a ++ (b ++ c)) from room h (wide ∙ sym (ap length parts)) inside is ∙ ap (λ (xs : List ℕ). take from bytes ++ (xs ++ drop from bytes)) parts
+
+pub length_entry : (bytes new text : List ℕ) (from : ℕ) → new ≡ take from bytes ++ (entry text ++ drop from bytes) → length new ≡ length bytes + length (entry text)
+length_entry bytes new text from is = length_put_is bytes new text from is

@@ -7,5 +7,5 @@ mod gaps;
 mod header;
 mod part;
 
-pub use edits::remove_range;
+pub use edits::{insert, remove_range};
 pub use gaps::gap;

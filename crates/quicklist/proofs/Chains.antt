@@ -7,15 +7,16 @@ use Rattle.std.proofs.lemmas.List.{append_assoc, take-append-drop, drop_more, ta
 use Rattle.std.proofs.lemmas.List.Concat.{flat_map-append}
 use Rattle.std.proofs.lemmas.List.Elements.{All-nil, All-cons, All-append, All-take, All-drop}
 use Rattle.blocks.specs.declared.BlockRef.{BlockRef}
-use Rattle.blocks.specs.Blocks.{Blocks, ref_eq, with_block, live, times, IsIn, Changes, Owned}
+use Rattle.blocks.specs.Blocks.{Blocks, bytes_at, ref_eq, with_block, live, times, IsIn, Changes, Owned}
 use Rattle.blocks.proofs.Refs.{apart_live, ref_eq_refl, ref_eq_sym, cases_ref, with_block_other}
 use Rattle.blocks.proofs.Times.{times-append}
+use Rattle.blocks.proofs.Written.{bytes_at_placed}
 use Rattle.blocks.proofs.Change.{one, live_is_in_change, live_some, live_once, Counts, counts_placed, counts_ended, counts_changed, changes_counted, changes_then, changes_both}
 use Rattle.blocks.proofs.Change.{changes_same, changes_owned}
 use Rattle.quicklist.specs.declared.node.Container.{Container}
 use Rattle.quicklist.specs.declared.node.Node.{Node}
 use Rattle.quicklist.specs.declared.piece.Piece.{Piece}
-use Rattle.quicklist.specs.Nodes.{IsNode, IsChain, IsReadable, IsPiece, IsPlacedOf, filled, Placed, Exchanged, Inserted, refs_of, elements_of, node_list, bytes_of, piece_list, held}
+use Rattle.quicklist.specs.Nodes.{IsNode, IsChain, IsReadable, IsPiece, IsPlacedOf, Placed, Exchanged, Inserted, refs_of, elements_of, node_list, bytes_of, piece_list, held}
 use Rattle.quicklist.specs.Nodes.{IsHeld, container_of, container_of_piece}
 
 -- at itself a reference counts as one
@@ -40,7 +41,7 @@ same_rest m n node nodes same r isin = same r (omega (arith, isin))
 
 -- where the blocks of nodes are the same, the first node has the same bytes
 same_bytes_in_chains : (m n : Blocks) (node : Node) (nodes : List Node) → Same m n (node ∷ nodes) → bytes_of n node ≡ bytes_of m node
-same_bytes_in_chains m n node nodes same = ap (λ o. filled node.container (unwrap_or o [])) (same node.at (omega (arith, one_self node.at)))
+same_bytes_in_chains m n node nodes same = ap (λ o. unwrap_or o []) (same node.at (omega (arith, one_self node.at)))
 
 -- so their elements are
 pub elements_same : (m n : Blocks) (nodes : List Node) → Same m n nodes → elements_of n nodes ≡ elements_of m nodes
@@ -83,7 +84,7 @@ node_read m nodes k node h is c = record { live = node_live m nodes k node h is 
 pub readable_as : (m n : Blocks) (node : Node) → m node.at ≡ n node.at → IsReadable m node → IsReadable n node
 readable_as m n node same r = record {
   live = subst (λ (o : Option (List ℕ)). IsSome o) same r.live;
-  is_node = is_node_as m n node (ap (λ (o : Option (List ℕ)). filled node.container (unwrap_or o [])) (sym same)) r.is_node;
+  is_node = is_node_as m n node (ap (λ (o : Option (List ℕ)). unwrap_or o []) (sym same)) r.is_node;
 }
 
 -- a part of the nodes
@@ -168,11 +169,11 @@ pub one_placed : (m mid n : Blocks) (pieces : List Piece) (piece : Piece) (fresh
 one_placed m mid n pieces piece fresh node p is put count container =
     let own = changes_owned m mid [] (refs_of fresh) p.changes in
     let same : Same mid n fresh = λ r isin.
-    ap (λ k. k r) put.placed ∙ with_block_other mid node.at r (Some put.block) (apart_live mid r node.at (live_is_in_change mid r (omega (arith, own r, isin))) put.free) in
-    let one' = node_of_piece n piece node is put.bytes_is count container in
+    ap (λ k. k r) put.placed ∙ with_block_other mid node.at r (Some piece.bytes.now) (apart_live mid r node.at (live_is_in_change mid r (omega (arith, own r, isin))) put.free) in
+    let one' = node_of_piece n piece node is (ap (λ (k : Blocks). bytes_at k node.at) put.placed ∙ bytes_at_placed mid node.at piece.bytes.now) count container in
     let step : Changes mid n (refs_of fresh) (refs_of (fresh ++ node ∷ [])) =
     changes_counted mid n (refs_of fresh) (refs_of (fresh ++ node ∷ [])) own
-    (counts_placed mid n node.at put.block (refs_of fresh) (refs_of (fresh ++ node ∷ [])) put.free put.placed (λ r. omega (arith, times_refs r fresh (node ∷ [])))) in
+    (counts_placed mid n node.at piece.bytes.now (refs_of fresh) (refs_of (fresh ++ node ∷ [])) put.free put.placed (λ r. omega (arith, times_refs r fresh (node ∷ [])))) in
     record {
       changes = changes_then m mid n [] (refs_of fresh) (refs_of (fresh ++ node ∷ [])) p.changes step;
       each = All-append (IsNode n) fresh (node ∷ []) (each_same mid n fresh same p.each) (All-cons (IsNode n) node [] one'.0 (All-nil (IsNode n)));

@@ -1,5 +1,5 @@
 -- Lists over blocks that others change.
-use Rattle.std.proofs.Common.{◌≡◌, List, ◌++◌, length, ap, ◌∙◌, sym, inl, inr, arith, is_some, cond}
+use Rattle.std.proofs.Common.{◌≡◌, List, ◌++◌, length, get_or, ap, ◌∙◌, sym, inl, inr, arith, is_some, cond}
 use Rattle.blocks.specs.declared.BlockRef.{BlockRef}
 use Rattle.blocks.specs.Blocks.{Blocks, live, IsIn, Changes, Owned}
 use Rattle.blocks.proofs.Change.{cases_in, live_once, owned_others}
@@ -7,6 +7,7 @@ use Rattle.blocks.proofs.Times.{times-append}
 use Rattle.quicklist.specs.Chain.{Chain, IsQuick, elements, refs}
 use Rattle.quicklist.specs.Laws.{QuickLaws}
 use Rattle.quicklist.proofs.Chains.{elements_same, each_same}
+use Rattle.quicklist.proofs.Overwriting.{node_exact}
 
 own : (a b : Blocks) (q : Chain) → ((r : BlockRef) → IsIn r (refs q) → b r ≡ a r) → elements b q ≡ elements a q
 own a b q same = elements_same a b q.nodes same
@@ -34,4 +35,5 @@ quick_laws_hold = record {
   sound = sound;
   others = λ a b q old new o p. own a b q (beside a b q old new o p);
   stays = λ a b q old new o p. sound a b q (beside a b q old new o p);
+  exact = λ a q s k d h. node_exact a (get_or q.nodes k d) (s.chain.each k d h);
 }

@@ -3,7 +3,7 @@ use Rattle.std.proofs.Common.{◌≡◌, ℕ, suc, ◌+◌, ◌-◌, ◌<◌, �
 use Rattle.std.specs.Prelude.{sum_by}
 use Rattle.std.specs.List.{All, insert, remove, remove_range}
 use Rattle.std.proofs.lemmas.List.{append_assoc, append-nil, take-append-drop, take_at, drop_at, length-take-le, set_split, drop_more, take_more, get_or_default, length-drop, drop_all, length-set}
-use Rattle.std.proofs.lemmas.List.Edits.{length-insert, insert_end}
+use Rattle.std.proofs.lemmas.List.Edits.{length-insert}
 use Rattle.std.proofs.lemmas.List.Concat.{flat_map-append, get_or-flat_map}
 use Rattle.std.proofs.lemmas.Grind.{common_steps}
 use Rattle.std.proofs.lemmas.Bool.{cases_lt}
@@ -259,14 +259,6 @@ at_back m q index k j x s gap all =
     ∙ insert_beside_is m q index (k + 1) x
     (omega (arith, gap.before, all, sum_front m q.nodes k s.chain.each, front_more m q.nodes k gap.inside, (node_of m q.nodes k s.chain.each gap.inside).counted))
 
--- with an element behind those of a node, the list has it put in at the gap's index
-pub behind_is : (m : Blocks) (q : Chain) (index k j : ℕ) (x : List ℕ) → IsQuick m q → IsGap q.nodes index k j → j ≡ (node_at q.nodes k).count
-    → respelled m q k (node_list m (node_at q.nodes k) ++ x ∷ []) (k + 1) ≡ insert (elements m q) index x
-behind_is m q index k j x s gap all =
-    let xs = node_list m (node_at q.nodes k) in
-    let end : j ≡ length xs = all ∙ (node_of m q.nodes k s.chain.each gap.inside).counted in
-    ap (λ (ys : List (List ℕ)). respelled m q k ys (k + 1)) (sym (insert_end xs x) ∙ ap (λ (i : ℕ). insert xs i x) (sym end)) ∙ insert_node_is m q index k j x s gap
-
 -- the one element of a node in the place of which another stands
 pub set_alone : (m : Blocks) (q : Chain) (index k j : ℕ) (x : List ℕ) → IsQuick m q → IsPlace q.nodes index k j → (node_at q.nodes k).count ≡ 1
     → respelled m q k (x ∷ []) (k + 1) ≡ set (elements m q) index x
@@ -300,13 +292,6 @@ remove_alone m q index k j s place one =
 pub list_at : (m : Blocks) (nodes : List Node) (k : ℕ) (node : Node) (bytes : List ℕ) → node ≡ node_at nodes k → bytes_of m node ≡ bytes → node_list m (node_at nodes k) ≡ held node.container bytes
 list_at m nodes k node bytes is there = ap (node_list m) (sym is) ∙ held_is m node bytes there
 
--- with an element put into what a node's bytes hold, the list has it put in at its index
-pub joined_list : (m : Blocks) (q : Chain) (index k j : ℕ) (x : List ℕ) (node : Node) (bytes : List ℕ) (list : List (List ℕ)) → IsQuick m q → IsGap q.nodes index k j
-    → node ≡ node_at q.nodes k → bytes_of m node ≡ bytes
-    → list ≡ insert (held node.container bytes) j x → respelled m q k list (k + 1) ≡ insert (elements m q) index x
-joined_list m q index k j x node bytes list s gap is there same =
-    ap (λ (xs : List (List ℕ)). respelled m q k xs (k + 1)) (same ∙ ap (λ (xs : List (List ℕ)). insert xs j x) (sym (list_at m q.nodes k node bytes is there))) ∙ insert_node_is m q index k j x s gap
-
 -- with an element set in what a node's bytes hold, the list has it set at its index
 pub replaced_list : (m : Blocks) (q : Chain) (index k j : ℕ) (x : List ℕ) (node : Node) (bytes : List ℕ) (list : List (List ℕ)) → IsQuick m q → IsPlace q.nodes index k j
     → node ≡ node_at q.nodes k → bytes_of m node ≡ bytes
@@ -336,27 +321,6 @@ held_at m nodes k node bytes each h is there =
     let one = subst (λ (n : Node). IsNode m n) (sym is) (node_of m nodes k each h) in
     subst (IsHeld node.container) there one.is_held
 
--- a node of more elements than one is packed
-pub many_list : (container : Container) (bytes : List ℕ) (count : ℕ) → count ≡ length (held container bytes) → (count ≡ 1 → ⊥) → held container bytes ≡ texts bytes
-many_list Plain bytes count is many = absurd (many is)
-many_list Packed bytes count is many = refl
-
--- a list without one of its elements is shorter by one
-pub cut_one_len : (xs : List (List ℕ)) (j : ℕ) → j < length xs → length (remove_range xs j (j + 1)) + 1 ≡ length xs
-cut_one_len xs j h = omega (arith, length-append (take j xs) (drop (j + 1) xs), length-take-le j xs (omega arith), length-drop (j + 1) xs)
-
--- where a node of more elements than one loses one, the list loses it at its index, and the node has one less
-pub removed_list : (m : Blocks) (q : Chain) (index k j : ℕ) (node : Node) (bytes : List ℕ) (list : List (List ℕ)) → IsQuick m q → IsPlace q.nodes index k j → node ≡ node_at q.nodes k
-    → bytes_of m node ≡ bytes
-    → (node.count ≡ 1 → ⊥) → list ≡ remove_range (texts bytes) j (j + 1) → (respelled m q k list (k + 1) ≡ remove (elements m q) index) × (node.count ≡ length list + 1)
-removed_list m q index k j node bytes list s place is there many same =
-    let count = count_at m q.nodes k node bytes s.chain.each place.inside is there in
-    let held_list = list_at m q.nodes k node bytes is there ∙ many_list node.container bytes node.count count many in
-    let room = place_room m q index k j s place in (
-      ap (λ (xs : List (List ℕ)). respelled m q k xs (k + 1)) (same ∙ ap (λ (xs : List (List ℕ)). remove_range xs j (j + 1)) (sym held_list)) ∙ remove_node_is m q index k j s place,
-      omega (arith, count, ap length (many_list node.container bytes node.count count many), ap length same, cut_one_len (texts bytes) j (omega (arith, room.0, ap length held_list))),
-    )
-
 -- elements taken out of two nodes and all nodes between them
 pub range_is : (m : Blocks) (q : Chain) (from last_index first i last j : ℕ) → IsQuick m q → IsPlace q.nodes from first i → IsPlace q.nodes last_index last j
     → respelled m q first (take i (node_list m (node_at q.nodes first)) ++ drop (j + 1) (node_list m (node_at q.nodes last))) (last + 1) ≡ remove_range (elements m q) from (last_index + 1)
@@ -377,17 +341,6 @@ range_is m q from last_index first i last j s one two =
     ap (drop (last_index + 1)) (elements_cut m nodes last two.inside) ∙ ap (λ (k : ℕ). drop k (d ++ (e ++ f))) next ∙ (front_of d e f (j + 1) (omega (arith, room_two.0))).1 in
     ap (λ (xs : List (List ℕ)). a ++ xs) (append_assoc (take i b) (drop (j + 1) e) f) ∙ sym (append_assoc a (take i b) (drop (j + 1) e ++ f))
     ∙ ap (λ (xs : List (List ℕ)). xs ++ (drop (j + 1) e ++ f)) (sym front) ∙ ap (λ (xs : List (List ℕ)). take from (elements m q) ++ xs) (sym back)
-
--- where the last elements of one node go, the list loses them
-pub back_is : (m : Blocks) (q : Chain) (from to k i l j : ℕ) → IsQuick m q → IsPlace q.nodes from k i → IsPlace q.nodes (to - 1) l j → l ≡ k → from < to → j + 1 ≡ (node_at q.nodes k).count
-    → respelled m q k (take i (node_list m (node_at q.nodes k))) (k + 1) ≡ remove_range (elements m q) from to
-back_is m q from to k i l j s one two same less all =
-    let more : to - 1 + 1 ≡ to = omega (arith, less) in
-    let xs = node_list m (node_at q.nodes k) in
-    let none : drop (j + 1) xs ≡ [] = drop_all (j + 1) xs (omega (arith, all, (node_of m q.nodes k s.chain.each one.inside).counted)) in
-    ap (λ (ys : List (List ℕ)). respelled m q k ys (k + 1)) (sym (append-nil (take i xs)) ∙ ap (λ (ys : List (List ℕ)). take i xs ++ ys) (sym none))
-    ∙ ap (λ (t : ℕ). respelled m q k (take i xs ++ drop (j + 1) (node_list m (node_at q.nodes t))) (t + 1)) (sym same)
-    ∙ range_is m q from (to - 1) k i l j s one two ∙ ap (λ (t : ℕ). remove_range (elements m q) from t) more
 
 -- places stand in the order of their indexes
 sums_rise : (nodes : List Node) (i j : ℕ) → i ≤ j → sum_by count_of (take i nodes) ≤ sum_by count_of (take j nodes)

@@ -4,13 +4,11 @@ pub mod Going
 pub mod Cursors
 pub mod Depends
 pub mod Elements
-pub mod Filling
 pub mod Moving
 pub mod Overwriting
 pub mod Places
 pub mod Rebuilding
 pub mod Rests
-pub mod Retelling
 pub mod Rising
 pub mod Behind
 pub mod Written

@@ -13,7 +13,7 @@ use Rattle.blocks.proofs.Change.{live_once, changes_then, changes_owned, changes
 use Rattle.quicklist.specs.declared.node.Container.{Container}
 use Rattle.quicklist.specs.declared.node.Node.{Node}
 use Rattle.quicklist.specs.declared.piece.Piece.{Piece}
-use Rattle.quicklist.specs.Nodes.{IsNode, IsChain, IsReadable, IsPiece, IsPlacedOf, filled, Placed, held, IsHeld, node_at, node_list, bytes_of, piece_list, refs_of, elements_of}
+use Rattle.quicklist.specs.Nodes.{IsNode, IsChain, IsReadable, IsPiece, IsPlacedOf, Placed, held, IsHeld, node_at, node_list, bytes_of, piece_list, refs_of, elements_of}
 use Rattle.quicklist.specs.Nodes.{container_of, container_of_piece}
 use Rattle.quicklist.specs.Chain.{IsCopied, IsSettled, IsPassed, IsOutside, ref_at, passed_to}
 use Rattle.quicklist.proofs.Chains.{Same, node_read, readable_as, times_refs, elements_same, each_same, one_placed, cut_at, one_self, all_same, length-placed}
@@ -47,7 +47,7 @@ pub one_copied : (m mid n : Blocks) (nodes fresh : List Node) (k : ℕ) (node co
     → Placed m n (map (piece_for m) (take (k + 1) nodes)) (fresh ++ copy ∷ [])
 one_copied m mid n nodes fresh k node copy c h is p put count container =
     let same : bytes_of mid node ≡ bytes_of m node =
-    ap (λ (o : Option (List ℕ)). filled node.container (unwrap_or o [])) (placed_same m mid nodes fresh (map (piece_for m) (take k nodes)) c.owned p node.at (in_refs nodes k node h is)) in
+    ap (λ (o : Option (List ℕ)). unwrap_or o []) (placed_same m mid nodes fresh (map (piece_for m) (take k nodes)) c.owned p node.at (in_refs nodes k node h is)) in
     let more : take (k + 1) nodes ≡ take k nodes ++ node ∷ [] = take_more nodes k node h ∙ ap (λ (x : Node). take k nodes ++ x ∷ []) (sym is) in
     let all : map (piece_for m) (take (k + 1) nodes) ≡ map (piece_for m) (take k nodes) ++ piece_for m node ∷ [] = ap (map (piece_for m)) more ∙ map-append (piece_for m) (take k nodes) (node ∷ []) in
     let node_is : IsNode m node = subst (λ (x : Node). IsNode m x) (sym is) (c.each k node h) in
@@ -95,7 +95,7 @@ module _ (m n : Blocks) (front back : List Node) (node : Node) (at : BlockRef) (
       owned_others m n (node.at ∷ []) (at ∷ []) (refs_of (front ++ (node ∷ back))) own p r (omega (arith, isin, whole r node)) (omega (arith, isin, whole r node, own r, live_once m r))
 
   same_bytes : bytes_of n moved ≡ bytes_of m node
-  same_bytes = ap (λ (o : Option (List ℕ)). filled node.container (unwrap_or o [])) bytes
+  same_bytes = ap (λ (o : Option (List ℕ)). unwrap_or o []) bytes
 
   same_list : node_list n moved ≡ node_list m node
   same_list = ap (held node.container) same_bytes

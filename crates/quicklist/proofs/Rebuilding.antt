@@ -6,10 +6,11 @@ use Rattle.std.proofs.lemmas.List.{append-nil, take_at, drop_at, take_more, take
 use Rattle.std.proofs.lemmas.List.Concat.{flat_map-append}
 use Rattle.std.proofs.lemmas.List.Elements.{All-nil, All-cons, All-append, All-take, All-drop}
 use Rattle.blocks.specs.declared.BlockRef.{BlockRef}
-use Rattle.blocks.specs.Blocks.{Blocks, times, IsIn, Changes, Owned}
+use Rattle.blocks.specs.Blocks.{Blocks, bytes_at, times, IsIn, Changes, Owned}
 use Rattle.blocks.proofs.Refs.{apart_live, with_block_other}
 use Rattle.blocks.proofs.Times.{times-append}
 use Rattle.blocks.proofs.Change.{live_is_in_change, live_once, Counts, counts_placed, counts_changed, changes_counted, changes_then, changes_same, changes_owned, owned_others}
+use Rattle.blocks.proofs.Written.{bytes_at_placed}
 use Rattle.listpack.specs.Pack.{texts}
 use Rattle.object_codec.specs.declared.form.Form.{Form}
 use Rattle.object_codec.specs.declared.form.Form.TheVariants.{Intset, Listpack, Hashtable, Skiplist, Quicklist, Stream}
@@ -20,7 +21,7 @@ use Rattle.quicklist.specs.declared.clearing.Left.{Left}
 use Rattle.quicklist.specs.declared.clearing.Left.TheVariants.{Whole, Nothing, Part}
 use Rattle.quicklist.specs.declared.reach.Reach.{Reach}
 use Rattle.quicklist.specs.declared.rebuilt.Rebuilt.{Rebuilt}
-use Rattle.quicklist.specs.Nodes.{IsNode, IsChain, IsReadable, filled, IsHeld, IsPacked, held, node_list, bytes_of, elements_of, refs_of, container_of}
+use Rattle.quicklist.specs.Nodes.{IsNode, IsChain, IsReadable, IsHeld, IsPacked, held, node_list, bytes_of, elements_of, refs_of, container_of}
 use Rattle.quicklist.specs.Chain.{Chain, IsFormed, IsQuick, IsChanged}
 use Rattle.quicklist.specs.Equal.{cleared, IsLeft, IsKept, IsPackedNode, IsRebuilt, IsGrown, IsFresh, IsAdded, IsOpen, HasRoom}
 use Rattle.quicklist.proofs.Chains.{Same, times_refs, elements_same, each_same, all_same, node_read, readable_as}
@@ -130,7 +131,7 @@ module _ (m mid n : Blocks) (old : List Node) (node : Node) (list rest : List (L
   part_node : (fresh : Node) (bytes : List ℕ) (count : ℕ) → IsFresh mid n fresh bytes count → IsPacked bytes → texts bytes ≡ rest → count ≡ length rest → 0 < count → IsNode n fresh
       × (node_list n fresh ≡ rest)
   part_node fresh bytes count f packed left counted some =
-      let bytes_is : bytes_of n fresh ≡ bytes = f.placed.bytes_is in
+      let bytes_is : bytes_of n fresh ≡ bytes = ap (λ (k : Blocks). bytes_at k fresh.at) f.placed.placed ∙ bytes_at_placed mid fresh.at bytes in
       let list_here : node_list n fresh ≡ rest = ap (λ (c : Container). held c (bytes_of n fresh)) f.container ∙ ap texts bytes_is ∙ left in (
         record {
           is_held = subst (λ (c : Container). IsHeld c (bytes_of n fresh)) (sym f.container) (subst IsPacked (sym bytes_is) packed);
@@ -148,11 +149,11 @@ module _ (m mid n : Blocks) (old : List Node) (node : Node) (list rest : List (L
       let owned = nodes_owned m mid old list r own_old is in
       let apart = λ (at : BlockRef) (h : IsIn at (refs_of r.nodes.items)). live_is_in_change mid at (omega (arith, h, owned at, times-append at (refs_of r.nodes.items) (refs_of r.replaced.items))) in
       let same : Same mid n r.nodes.items = λ at isin. ap (λ k. k at) f.placed.placed
-      ∙ with_block_other mid fresh.at at (Some f.placed.block) (apart_live mid at fresh.at (apart at isin) f.placed.free) in
+      ∙ with_block_other mid fresh.at at (Some bytes) (apart_live mid at fresh.at (apart at isin) f.placed.free) in
       let placed_own = changes_owned m mid [] (refs_of r.placed.items) is.changes in
       let step : Changes mid n (refs_of r.placed.items) (refs_of (r.placed.items ++ fresh ∷ [])) =
       changes_counted mid n (refs_of r.placed.items) (refs_of (r.placed.items ++ fresh ∷ [])) placed_own
-      (counts_placed mid n fresh.at f.placed.block (refs_of r.placed.items) (refs_of (r.placed.items ++ fresh ∷ [])) f.placed.free f.placed.placed
+      (counts_placed mid n fresh.at bytes (refs_of r.placed.items) (refs_of (r.placed.items ++ fresh ∷ [])) f.placed.free f.placed.placed
       (λ at. omega (arith, times_refs at r.placed.items (fresh ∷ [])))) in
       let one' = part_node fresh bytes count f packed left counted some in
       record {
@@ -204,7 +205,7 @@ module _ (m mid : Blocks) (nodes placed : List Node) (k : ℕ) (node : Node) (by
 
   -- the bytes that are there are those that the node had before
   bytes_there : bytes_of m node ≡ bytes
-  bytes_there = ap (λ (o : Option (List ℕ)). filled node.container (unwrap_or o [])) (sym (node_stays m mid nodes placed k node c h is p)) ∙ there
+  bytes_there = ap (λ (o : Option (List ℕ)). unwrap_or o []) (sym (node_stays m mid nodes placed k node c h is p)) ∙ there
 
   -- the bytes that are there are such as the node's container holds
   pub held_there : IsHeld node.container bytes

@@ -23,7 +23,7 @@ use Rattle.quicklist.specs.Cursor.{IsCursor}
 use Rattle.quicklist.proofs.Chains.{length-placed}
 use Rattle.quicklist.proofs.Moving.{piece_for}
 use Rattle.quicklist.proofs.Going.{IsNext}
-use Rattle.quicklist.proofs.Elements.{count_at, held_at, part_list, count_small, range_is, range_len}
+use Rattle.quicklist.proofs.Elements.{held_at, part_list, count_small, range_is, range_len}
 
 -- the bytes are a packed node's of so many elements, one at least
 abbrev pub IsRest : ℕ → Vec ℕ → Type 0
@@ -145,12 +145,6 @@ next_some bytes j (Some at) h less = refl
 pub many_packed : (container : Container) (bytes : List ℕ) (count : ℕ) → count ≡ length (held container bytes) → (count ≡ 1 → ⊥) → container ≡ Packed
 many_packed Plain bytes count is many = absurd (many is)
 many_packed Packed bytes count is many = refl
-
--- and so are its bytes
-pub bytes_packed : (m : Blocks) (nodes : List Node) (k : ℕ) (node : Node) (bytes : List ℕ) → All (IsNode m) nodes → k < length nodes → node ≡ node_at nodes k → bytes_of m node ≡ bytes
-    → (node.count ≡ 1 → ⊥) → IsPacked bytes
-bytes_packed m nodes k node bytes each h is there many =
-    subst (λ (c : Container). IsHeld c bytes) (many_packed node.container bytes node.count (count_at m nodes k node bytes each h is there) many) (held_at m nodes k node bytes each h is there)
 
 -- the place of the element before one in its node
 pub place_before : (nodes : List Node) (index k j : ℕ) → 0 < j → IsPlace nodes index k j → IsPlace nodes (index - 1) k (j - 1)

@@ -78,9 +78,6 @@ pub pack_len_set : (xs : List (List ℕ)) (i : ℕ) (text : List ℕ) → i < le
 pack_len_set xs i text h =
     omega (arith, ap pack_len (set_split xs i text h), pack_len_append (take i xs) (text ∷ drop (suc i) xs), pack_len_append (text ∷ []) (drop (suc i) xs))
 
-pub pack_len_insert_le : (xs : List (List ℕ)) (i : ℕ) (text : List ℕ) → pack_len (text ∷ []) ≤ pack_len (insert xs i text)
-pack_len_insert_le xs i text = omega (arith, pack_len_insert xs i text, alone_len text)
-
 -- and elements taken out
 pub pack_len_remove : (xs : List (List ℕ)) (i j : ℕ) → i ≤ j → pack_len (remove_range xs i j) ≤ pack_len xs
 pack_len_remove xs i j h =

@@ -6,7 +6,7 @@ use Rattle.std.specs.Borrow.{Bor}
 use Rattle.std.specs.Global.{Vec}
 use Rattle.blocks.specs.declared.BlockRef.{BlockRef}
 use Rattle.blocks.specs.Blocks.{Blocks, bytes_at, with_block, Changes, Owned}
-use Rattle.listpack.specs.Pack.{IsPack, total, texts, spellings_of}
+use Rattle.listpack.specs.Pack.{IsPack, texts, spellings_of}
 use Rattle.listpack.specs.Writing.{entry, spelling}
 use Rattle.quicklist.specs.declared.node.Container.{Container}
 use Rattle.quicklist.specs.declared.node.Container.TheVariants.{Plain, Packed}
@@ -33,13 +33,9 @@ abbrev pub IsHeld : Container → List ℕ → Type 0
 IsHeld Plain bytes = 8192 < pack_len (bytes ∷ [])
 IsHeld Packed bytes = IsPacked bytes
 
--- the bytes of a node by those of its block: a listpack tells its own length, and the block may go on behind it
-abbrev pub filled : Container → List ℕ → List ℕ
-filled Plain block = block
-filled Packed block = take (total block) block
-
+-- the bytes of a node are those of its block, and no others
 abbrev pub bytes_of : Blocks → Node → List ℕ
-bytes_of blocks node = filled node.container (bytes_at blocks node.at)
+bytes_of blocks node = bytes_at blocks node.at
 
 abbrev pub node_list : Blocks → Node → List (List ℕ)
 node_list blocks node = held node.container (bytes_of blocks node)
@@ -57,30 +53,28 @@ pub record IsReadable (blocks : Blocks) (node : Node) : Type 0 where
 
 -- A node was placed of these bytes, under a reference that wasn't live, and all other blocks stay.
 pub record IsPlacedOf (before after : Blocks) (bytes : List ℕ) (node : Node) : Type 0 where
-  pub block : List ℕ
   pub free : before node.at ≡ None
-  pub placed : after ≡ with_block before node.at (Some block)
-  pub bytes_is : bytes_of after node ≡ bytes
+  pub placed : after ≡ with_block before node.at (Some bytes)
 
--- The block of a packed node was written over, and no other: it begins with a listpack of these elements.
-pub record IsRewritten (before after : Blocks) (node : Node) (list : List (List ℕ)) : Type 0 where
-  pub block : List ℕ
-  pub put : after ≡ with_block before node.at (Some block)
-  pub packed : IsPacked (filled Packed block)
-  pub list_is : texts (filled Packed block) ≡ list
+-- The block of a packed node is a listpack of these elements now, under this reference, and all other blocks stay.
+pub record IsRemade (before after : Blocks) (node : Node) (list : List (List ℕ)) (at : BlockRef) : Type 0 where
+  pub changes : Changes before after (node.at ∷ []) (at ∷ [])
+  pub packed : IsPacked (bytes_at after at)
+  pub list_is : texts (bytes_at after at) ≡ list
 
--- The element at this index of a packed node stands behind all others there, and has room in the node's block.
-pub record HasSpace (blocks : Blocks) (node : Node) (index : ℕ) (element : List ℕ) : Type 0 where
-  pub behind : index ≡ node.count
+-- A packed node has room for the element beside its others.
+pub record HasSpace (blocks : Blocks) (node : Node) (element : List ℕ) : Type 0 where
   pub packed : node.container ≡ Packed
   pub short : length (bytes_of blocks node) + length (entry element) ≤ 8192
-  pub room : length (bytes_of blocks node) + length (entry element) ≤ length (bytes_at blocks node.at)
 
--- the elements from one index of a packed node to below another are its last ones, behind others
-pub record IsBack (node : Node) (from to : ℕ) : Type 0 where
-  pub packed : node.container ≡ Packed
-  pub some : 0 < from
-  pub last : to ≡ node.count
+-- how many bytes a node of these elements has: as many as one listpack of them, or as the element alone
+abbrev pub node_len : Container → List (List ℕ) → ℕ
+node_len Plain list = length (flat_map (λ element. element) list)
+node_len Packed list = pack_len list
+
+-- the block of a node is as long as the node, and no longer
+abbrev pub IsExact : Blocks → Node → Type 0
+IsExact blocks node = length (bytes_at blocks node.at) ≡ node_len node.container (node_list blocks node)
 
 abbrev pub count_of : Node → ℕ
 count_of node = node.count

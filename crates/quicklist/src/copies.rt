@@ -1,9 +1,9 @@
 // Lists copied, and lists whose blocks move.
 
-ghost use Rattle.std.specs.Prelude.{◌≡◌, ◌≢◌, ℕ, ◌<◌, ◌≤◌, ◌+◌, [], Some, None, IsSome, IfOk, OnErr, length, slice_set, slice_index_or, false};
-ghost use Rattle.blocks.specs.Blocks.{Changes, Served, Owned};
+ghost use Rattle.std.specs.Prelude.{◌≡◌, ◌≢◌, ℕ, ◌<◌, ◌≤◌, ◌+◌, [], Some, None, IfOk, OnErr, length, false};
+ghost use Rattle.blocks.specs.Blocks.{Changes, Served};
 ghost use Rattle.blocks.specs.Slabs.{wants, Calmer};
-ghost use Rattle.quicklist.specs.Nodes.{IsChain, IsReadable, IsPlacedOf, bytes_of, node_at, refs_of, elements_of};
+ghost use Rattle.quicklist.specs.Nodes.{IsChain, IsReadable, IsPlacedOf, bytes_of, node_at};
 ghost use Rattle.quicklist.specs.Chain.{elements, refs, IsQuick, IsCopied, IsSettled, IsOutside, IsPassed};
 
 use crate::exchange::end_nodes;

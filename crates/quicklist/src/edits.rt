@@ -1,58 +1,22 @@
 // Elements put in, replaced and taken out.
 
-ghost use Rattle.std.specs.Prelude.{◌≡◌, ◌∷◌, ◌<◌, ◌≤◌, ◌+◌, ◌⊎◌, [], length, take, drop, slice_set, sum_by, OnOk, OnErr};
+ghost use Rattle.std.specs.Prelude.{◌≡◌, ◌∷◌, ◌<◌, ◌≤◌, ◌+◌, [], length, slice_set, sum_by, OnOk, OnErr};
 ghost use Rattle.std.specs.List.{insert as inserted, remove as removed};
 ghost use Rattle.blocks.specs.Blocks.{Served};
-ghost use Rattle.listpack.specs.Pack.{texts};
-ghost use Rattle.quicklist.specs.Nodes.{IsPacked, IsGap, IsPart, IsPiece, three, pack_len, bytes_of, node_at, elements_of, node_list, count_of};
+ghost use Rattle.quicklist.specs.Nodes.{IsGap, IsPart, IsPiece, three, node_at, node_list, count_of};
 ghost use Rattle.quicklist.specs.Chain.{elements, IsQuick, IsChanged, IsWritten, IsOverfull, respelled, around};
 
 use crate::locate::find;
-use crate::node::{Container, Node};
-use crate::packs::{joined, pack_of, packed_piece, piece_of, replaced, without};
+use crate::node::Container;
+use crate::packs::{pack_of, packed_piece, piece_of, replaced, without};
 use crate::piece::Piece;
 use crate::quick::Quick;
-use crate::within::{has_room, has_space};
+use crate::within::has_space;
 use blocks::{BlockStore, Memory};
 use object_codec::Form;
 use std::alloc::AllocError;
 
 impl Quick {
-    // One packed node of these bytes in the place of the node k: in its block where they fill that well enough.
-    pub(crate) fn rewrite<B: BlockStore>(
-        &mut self,
-        store: &mut B,
-        k: usize,
-        bytes: &[u8],
-        count: u32,
-        len: usize,
-    ) -> Result<(), Memory>
-        requires quick { IsQuick (B.blocks store.old) self.old }
-        requires inside { k < length self.old.nodes }
-        requires packed { IsPacked bytes.now }
-        requires count { count ≡ length (texts bytes.now) }
-        requires some { 0 < count }
-        requires len { len ≡ length (respelled (B.blocks store.old) self.old k (texts bytes.now) (k + 1)) }
-        ensures written { OnOk result (IsWritten (B.blocks store.old) (B.blocks store.new) self.old self.new (respelled (B.blocks store.old) self.old k (texts bytes.now) (k + 1))) }
-        ensures form { self.new.form ≡ self.old.form }
-        ensures served { Served B.step store.old store.new }
-        ensures err_list { OnErr result (self.new ≡ self.old) }
-        ensures err_blocks { OnErr result (B.blocks store.new ≡ B.blocks store.old) }
-    {
-        let node = self.nodes[k];
-        if has_room(store, node, bytes.len()) {
-            self.overwrite(store, k, bytes, count, len);
-            return Ok(());
-        }
-        let form = self.form;
-        let piece = Piece {
-            container: Container::Packed,
-            count,
-            bytes,
-        };
-        self.exchange(store, k, 1, &[piece], len, form)
-    }
-
     // The element alone in a node, in the place of `gone` nodes from the node k on.
     fn place_alone<B: BlockStore>(
         &mut self,
@@ -214,15 +178,16 @@ impl Quick {
         }
         let (k, j) = self.gap(index);
         let node = self.nodes[k];
-        if has_space(store, node, j, element) {
-            return self.push_behind(store, k, element, len);
+        if has_space(store, node, element) {
+            return self.put_in(store, k, j, element, len);
         }
-        match joined(self.alloc, node.container, node.bytes(store), j, element)? {
-            Some(pack) => self.rewrite(store, k, &pack, node.count + 1, len),
-            None if j == 0 => self.place_alone(store, k, 0, element, len),
-            None if j == node.count as usize => self.place_alone(store, k + 1, 0, element, len),
-            None => self.split(store, k, j, j, element, len),
+        if j == 0 {
+            return self.place_alone(store, k, 0, element, len);
         }
+        if j == node.count as usize {
+            return self.place_alone(store, k + 1, 0, element, len);
+        }
+        self.split(store, k, j, j, element, len)
     }
 
     /// Puts an element in the place of the one at `index`.
@@ -270,7 +235,6 @@ impl Quick {
             let form = self.form;
             return self.exchange(store, k, 1, &[], len - 1, form);
         }
-        let pack = without(self.alloc, node.bytes(store), j, j + 1)?;
-        self.rewrite(store, k, &pack, node.count - 1, len - 1)
+        self.take_out(store, k, j, j + 1, len - 1)
     }
 }

@@ -1,6 +1,6 @@
 // Where an index stands.
 
-ghost use Rattle.std.specs.Prelude.{◌≡◌, ◌+◌, ◌<◌, ◌^◌, Some, IsSome, take, length, sum_by};
+ghost use Rattle.std.specs.Prelude.{◌≡◌, ◌+◌, ◌<◌, ◌^◌, Some, IsSome, sum_by};
 ghost use Rattle.quicklist.specs.Nodes.{IsPlace, count_of};
 
 use crate::node::Node;

@@ -1,7 +1,7 @@
 // The bytes of nodes, made of those of others.
 
-ghost use Rattle.std.specs.Prelude.{◌≡◌, ◌∷◌, ◌<◌, ◌≤◌, ◌+◌, [], length, take, drop, slice_set, slice_index_or, IfOk, IfSome, IfNone};
-ghost use Rattle.std.specs.List.{insert as inserted, remove_range as range_removed};
+ghost use Rattle.std.specs.Prelude.{◌≡◌, ◌∷◌, ◌<◌, ◌≤◌, ◌+◌, [], length, slice_set, slice_index_or, IfOk, IfSome, IfNone};
+ghost use Rattle.std.specs.List.{remove_range as range_removed};
 ghost use Rattle.listpack.specs.Pack.{texts};
 ghost use Rattle.listpack.specs.Element.{element_text};
 ghost use Rattle.quicklist.specs.Nodes.{IsHeld, IsPacked, IsPart, IsPiece, IsAlone, pack_len, held, piece_list};
@@ -85,49 +85,6 @@ pub(crate) fn piece_of<'a>(pack: &'a Option<Vec<u8>>, element: &'a [u8]) -> Piec
             count: 1,
             bytes: element,
         },
-    }
-}
-
-// The bytes of a packed node with an element put in before the one at an index, or none where they are too many.
-fn joined_pack(
-    alloc: Global,
-    bytes: &[u8],
-    index: usize,
-    element: &[u8],
-) -> Result<Option<Vec<u8>>, Memory>
-    requires packed { IsPacked bytes.now }
-    requires inside { index ≤ length (texts bytes.now) }
-    ensures some { IfOk result (λ pack. IfSome pack (λ v. IsPacked v.items × (texts v.items ≡ inserted (texts bytes.now) index element.now))) }
-    ensures none { IfOk result (λ pack. IfNone pack (8192 < pack_len (inserted (texts bytes.now) index element.now))) }
-{
-    if is_long(element) {
-        return Ok(None);
-    }
-    let size = entry_size(element);
-    if bytes.len() + size > PACKED_BYTES {
-        return Ok(None);
-    }
-    let mut pack = copy_with_room(alloc, bytes, size)?;
-    listpack::insert(&mut pack, index, element)?;
-    Ok(Some(pack))
-}
-
-/// The bytes of a node with an element put in before the one at an index, or none where that is too long for a packed node.
-pub(crate) fn joined(
-    alloc: Global,
-    container: Container,
-    bytes: &[u8],
-    index: usize,
-    element: &[u8],
-) -> Result<Option<Vec<u8>>, Memory>
-    requires held { IsHeld container bytes.now }
-    requires inside { index ≤ length (held container bytes.now) }
-    ensures some { IfOk result (λ pack. IfSome pack (λ v. IsPacked v.items × (texts v.items ≡ inserted (held container bytes.now) index element.now))) }
-    ensures none { IfOk result (λ pack. IfNone pack (8192 < pack_len (inserted (held container bytes.now) index element.now))) }
-{
-    match container {
-        Container::Plain => Ok(None),
-        Container::Packed => joined_pack(alloc, bytes, index, element),
     }
 }
 

@@ -1,11 +1,11 @@
 // What nodes are placed of.
 
-ghost use Rattle.std.specs.Prelude.{◌≡◌, ◌∷◌, ◌<◌, ◌≤◌, ◌^◌, ◌↔◌, [], IfOk, OnErr, IsTrue, length};
+ghost use Rattle.std.specs.Prelude.{◌≡◌, ◌∷◌, ◌<◌, ◌↔◌, [], IfOk, OnErr, IsTrue};
 ghost use Rattle.blocks.specs.Blocks.{Served};
-ghost use Rattle.quicklist.specs.Nodes.{IsPiece, IsPlacedOf, pack_len};
+ghost use Rattle.quicklist.specs.Nodes.{IsPlacedOf, pack_len};
 
 use crate::node::{Container, Node};
-use blocks::{BlockStore, CLASS_SIZES, Memory};
+use blocks::{BlockStore, Memory, put_block};
 use listpack::entry_size;
 
 /// The greatest length of a packed node in bytes.
@@ -19,33 +19,8 @@ pub(crate) struct Piece<'a> {
     pub(crate) bytes: &'a [u8],
 }
 
-// How long a block may be that holds so many bytes and takes no more memory: the size of the least class that holds it.
-fn room_for(len: usize) -> usize
-    ensures { len ≤ result }
-{
-    for class in 0..CLASS_SIZES.len() {
-        let size = CLASS_SIZES[class] as usize;
-        if len <= size {
-            return size;
-        }
-    }
-    len
-}
-
-// How long the block of a piece is. That of a packed node has the room behind its bytes that its class gives it.
-fn block_len(piece: Piece<'_>) -> usize
-    ensures room { length piece.entry.bytes.now ≤ result }
-    ensures plain { piece.entry.container ≡ Container.Plain → result ≡ length piece.entry.bytes.now }
-{
-    match piece.container {
-        Container::Plain => piece.bytes.len(),
-        Container::Packed => room_for(piece.bytes.len()),
-    }
-}
-
 /// Places a node.
 pub(crate) fn place_piece<B: BlockStore>(store: &mut B, piece: Piece<'_>) -> Result<Node, Memory>
-    requires { IsPiece piece }
     ensures placed { IfOk result (IsPlacedOf (B.blocks store.old) (B.blocks store.new) piece.entry.bytes.now) }
     ensures count { IfOk result (λ n. n.count ≡ piece.entry.count) }
     ensures container { IfOk result (λ n. n.container ≡ piece.entry.container) }
@@ -53,10 +28,8 @@ pub(crate) fn place_piece<B: BlockStore>(store: &mut B, piece: Piece<'_>) -> Res
     ensures err_blocks { OnErr result (B.blocks store.new ≡ B.blocks store.old) }
     ensures err_slabs { OnErr result (B.heap store.new ≡ B.heap store.old) }
 {
-    let at = store.place(block_len(piece))?;
-    store.write(at, 0, piece.bytes);
     Ok(Node {
-        at,
+        at: put_block(store, piece.bytes)?,
         count: piece.count,
         container: piece.container,
     })

@@ -1,6 +1,6 @@
 // Lists.
 
-ghost use Rattle.std.specs.Prelude.{◌≡◌, ◌∷◌, ◌≤◌, ◌↔◌, [], length, IsTrue, slice_index_or, MatchOption};
+ghost use Rattle.std.specs.Prelude.{◌≡◌, ◌≤◌, ◌↔◌, [], length, IsTrue, slice_index_or, MatchOption};
 ghost use Rattle.blocks.specs.Blocks.{Blocks, Changes, Owned, Served};
 ghost use Rattle.listpack.specs.Element.{element_text};
 ghost use Rattle.object_codec.specs.Forms.{IsLeast, FitsList};

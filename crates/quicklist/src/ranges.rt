@@ -1,18 +1,17 @@
 // Ranges of elements taken out.
 
-ghost use Rattle.std.specs.Prelude.{◌≡◌, ◌∷◌, ◌<◌, ◌≤◌, ◌^◌, ◌+◌, ◌-◌, ◌++◌, [], length, take, drop, IfOk, IfSome, OnOk, OnErr};
-ghost use Rattle.std.specs.List.{remove_range as range_removed, flat_map};
+ghost use Rattle.std.specs.Prelude.{◌≡◌, ◌<◌, ◌≤◌, ◌^◌, ◌+◌, ◌-◌, ◌++◌, [], length, take, drop, IfOk, IfSome, IsSome, OnOk, OnErr};
+ghost use Rattle.std.specs.List.{remove_range as range_removed};
 ghost use Rattle.blocks.specs.Blocks.{Served};
 ghost use Rattle.listpack.specs.Pack.{texts};
 ghost use Rattle.quicklist.specs.Nodes.{IsHeld, IsPacked, IsPiece, IsReadable, held, piece_list, node_at, node_list, left_list, rest_list};
-ghost use Rattle.quicklist.specs.Chain.{elements, IsQuick, IsChanged, IsFormed, respelled};
+ghost use Rattle.quicklist.specs.Chain.{elements, IsQuick, IsChanged, respelled};
 
 use crate::locate::find;
 use crate::node::{Container, Node};
 use crate::packs::{packed_piece, without};
 use crate::piece::Piece;
 use crate::quick::Quick;
-use crate::within::is_back;
 use blocks::{BlockStore, Memory};
 use std::alloc::Global;
 
@@ -89,7 +88,7 @@ impl Quick {
         self.exchange(store, k, gone, &[before, behind], len, form)
     }
 
-    // Pieces in the place of the nodes from k on, of which there are `gone`: none, or one.
+    // What is left in the place of the nodes from k on, of which there are `gone`: one node, or none.
     fn place_rest<B: BlockStore>(
         &mut self,
         store: &mut B,
@@ -101,6 +100,7 @@ impl Quick {
     ) -> Result<(), Memory>
         requires quick { IsQuick (B.blocks store.old) self.old }
         requires some { 0 < gone }
+        requires many { IsSome rest → 1 < gone }
         requires inside { k + gone ≤ length self.old.nodes }
         requires rest { IfSome rest (λ v. IsPacked v.now.items × (count ≡ length (texts v.now.items)) × (0 < count) × (count < 2 ^ 32)) }
         requires len { len ≡ length (respelled (B.blocks store.old) self.old k (rest_list rest) (k + gone)) }
@@ -112,7 +112,6 @@ impl Quick {
     {
         let form = self.form;
         match rest {
-            Some(bytes) if gone == 1 => self.rewrite(store, k, bytes, count as u32, len),
             Some(bytes) => {
                 let piece = Piece {
                     container: Container::Packed,
@@ -232,14 +231,10 @@ impl Quick {
         ensures err_list { OnErr result (self.new ≡ self.old) }
         ensures err_blocks { OnErr result (B.blocks store.new ≡ B.blocks store.old) }
     {
-        let node = self.nodes[k];
-        if is_back(store, node, i, j) {
-            self.cut_back(store, k, i, len);
-            return Ok(());
+        if j - i < self.nodes[k].count as usize {
+            return self.take_out(store, k, i, j, len);
         }
-        let rest = node_rest(self.alloc, store, node, i, j)?;
-        let left = node.count as usize - (j - i);
-        self.place_rest(store, k, 1, rest.as_ref(), left, len)
+        self.place_rest(store, k, 1, None, 0, len)
     }
 
     /// Takes out the elements from the index `from` to below `to`. Nodes of which all elements go are given back whole.

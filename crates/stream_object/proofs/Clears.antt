@@ -20,7 +20,6 @@ use Rattle.stream_object.specs.declared.stream.Stream.{Stream as Log}
 use Rattle.stream_object.specs.Parts.{Part, part_of, entries_in, refs_of, parts_of, all_refs, HasParts}
 use Rattle.stream_object.specs.Found.{Misses, Exchanges}
 use Rattle.stream_object.specs.Streams.{IsStream, AreUpto, nodes, refs, marks as all_marks}
-use Rattle.stream_object.specs.Block.{pack_in}
 use Rattle.stream_object.specs.Laws.{Stays, StreamLaws}
 use Rattle.stream_object.specs.Tail.{IsKept}
 use Rattle.stream_object.proofs.Parts.{parts_are, its_own, refs_are, parts_stay}
@@ -61,7 +60,7 @@ module _ (a b : Blocks) (s : Log) (same : (r : BlockRef) → IsIn r (refs a s) �
   read_same (e ∷ es) h =
       let counted : one e.value e.value ≡ 1 = ap one_if (ref_eq_refl e.value) in
       let here : b e.value ≡ a e.value = h e.value (omega (arith, counted)) in
-      λ i. record { key = key_id e.key; at = e.value; bytes = ap (λ (o : Option (List ℕ)). pack_in (unwrap_or o [])) here i } ∷ read_same es (λ r isin. h r (omega (arith, isin))) i
+      λ i. record { key = key_id e.key; at = e.value; bytes = ap (λ (o : Option (List ℕ)). unwrap_or o []) here i } ∷ read_same es (λ r isin. h r (omega (arith, isin))) i
 
   pub parts_same : parts_of b s.tree ≡ parts_of a s.tree
   unfolding parts_of

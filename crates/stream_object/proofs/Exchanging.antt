@@ -18,7 +18,6 @@ use Rattle.rax_packed.proofs.Entries.{all_front, all_back}
 use Rattle.stream_object.specs.Parts.{Part, part, IsNodeOf, IsPart, Rising, entry_of, refs_of, HasParts}
 use Rattle.stream_object.specs.Block.{Holds, IsPut}
 use Rattle.stream_object.specs.Found.{Stands, Exchanges}
-use Rattle.stream_object.proofs.Holdings.{pack_front}
 use Rattle.stream_object.proofs.Parts.{rising_without, exchanged, times_refs, value_there, with_there, without_there, with_last}
 
 -- what others own stays
@@ -99,17 +98,14 @@ module _ (m mid : Blocks) (tree : PackedTree) (xs : List BlockRef) (at : BlockRe
 -- a node comes behind all others
 module _ (m mid after : Blocks) (old new : PackedTree) (ps : List Part) (key : Id) (at : BlockRef) (bytes : List ℕ) (h : HasParts m old ps) (id : IsId key) (is : IsPut m mid at bytes)
     (c : Changes m mid [] (at ∷ [])) where
-  abbrev block : List ℕ
-  block = bytes ++ is.spare
-
   own_tree : Owned (rax.refs_of m old ++ []) m
   own_tree r = omega (arith, h.stands.owned r, times-append r (rax.refs_of m old) [])
 
   pub comes_tree : rax.IsSound mid old
-  comes_tree = placed_tree m mid old [] at block own_tree h.stands is.put c
+  comes_tree = placed_tree m mid old [] at bytes own_tree h.stands is c
 
   first : Changes m mid (rax.refs_of m old ++ []) (rax.refs_of mid old ++ (at ∷ []))
-  first = placed_changes m mid old [] at block own_tree h.stands is.put c
+  first = placed_changes m mid old [] at bytes own_tree h.stands is c
 
   pub comes : rax.IsSound after new → rax.entries_of after new ≡ with_entry (rax.entries_of mid old) (id_key key) at → Changes mid after (rax.refs_of mid old) (rax.refs_of after new)
       → IsNodeOf key bytes → Rising (ps ++ part key at bytes ∷ []) → Exchanges m after old new (ps ++ part key at bytes ∷ [])
@@ -117,11 +113,10 @@ module _ (m mid after : Blocks) (old new : PackedTree) (ps : List Part) (key : I
       let own = changes_owned m mid (rax.refs_of m old ++ []) (rax.refs_of mid old ++ (at ∷ [])) first in
       let second = beside_tree mid after old new (at ∷ []) own changes in
       let core = changes_then m mid after (rax.refs_of m old ++ []) (rax.refs_of mid old ++ (at ∷ [])) (rax.refs_of after new ++ (at ∷ [])) first second in
-      let there : after at ≡ Some block = outside mid after (rax.refs_of mid old) (rax.refs_of after new) (at ∷ []) own changes at (omega (arith, counts_itself at))
-      ∙ placed_block m mid old [] at block own_tree h.stands is.put c in
-      let held : Holds after at bytes = record { block = block; there = there; begins = pack_front bytes is.spare is_node.pack } in
+      let held : Holds after at bytes = outside mid after (rax.refs_of mid old) (rax.refs_of after new) (at ∷ []) own changes at (omega (arith, counts_itself at))
+      ∙ placed_block m mid old [] at bytes own_tree h.stands is c in
       let before : HasParts m old (ps ++ ([] ++ [])) = subst (HasParts m old) (sym (append-nil ps)) h in
-      let named = inserted ∙ ap (λ es. with_entry es (id_key key) at) (placed_entries m mid old [] at block own_tree h.stands is.put c ∙ h.named) ∙ with_last m ps key at bytes id h.each rising in
+      let named = inserted ∙ ap (λ es. with_entry es (id_key key) at) (placed_entries m mid old [] at bytes own_tree h.stands is c ∙ h.named) ∙ with_last m ps key at bytes id h.each rising in
       exchanged m after old new ps [] (part key at bytes ∷ []) [] before core sound named (record { id = id; block = held; is_node = is_node }, tt) rising
 
 -- one node among the others
@@ -182,17 +177,14 @@ module _ (m : Blocks) (old : PackedTree) (ps : List Part) (key : Id) (was : Bloc
 
   -- it gets other bytes
   module _ (mid later after : Blocks) (new : PackedTree) (at : BlockRef) (bytes : List ℕ) (is : IsPut m mid at bytes) (c : Changes m mid [] (at ∷ [])) where
-    abbrev whole : List ℕ
-    whole = bytes ++ is.spare
-
     pub set_tree : rax.IsSound mid old
-    set_tree = placed_tree m mid old (was ∷ []) at whole own_was h.stands is.put c
+    set_tree = placed_tree m mid old (was ∷ []) at bytes own_was h.stands is c
 
     pub set_value : value_at (rax.entries_of mid old) (id_key key) ≡ Some was
-    set_value = ap (λ es. value_at es (id_key key)) (placed_entries m mid old (was ∷ []) at whole own_was h.stands is.put c) ∙ stands_value
+    set_value = ap (λ es. value_at es (id_key key)) (placed_entries m mid old (was ∷ []) at bytes own_was h.stands is c) ∙ stands_value
 
     placing : Changes m mid (rax.refs_of m old ++ (was ∷ [])) (rax.refs_of mid old ++ (at ∷ (was ∷ [])))
-    placing = placed_changes m mid old (was ∷ []) at whole own_was h.stands is.put c
+    placing = placed_changes m mid old (was ∷ []) at bytes own_was h.stands is c
 
     module _ (sound : rax.IsSound later new) (set : rax.entries_of later new ≡ with_entry (rax.entries_of mid old) (id_key key) at)
         (change : Changes mid later (rax.refs_of mid old) (rax.refs_of later new)) where
@@ -212,16 +204,15 @@ module _ (m : Blocks) (old : PackedTree) (ps : List Part) (key : Id) (was : Bloc
       pub becomes : after ≡ with_block later was None → IsNodeOf key bytes → Rising (s.before ++ part key at bytes ∷ s.after) → Exchanges m after old new (s.before ++ part key at bytes ∷ s.after)
       becomes gone is_node rising =
           let mine : IsIn at (at ∷ []) = omega (arith, counts_itself at) in
-          let there : after at ≡ Some whole =
+          let held : Holds after at bytes =
           ended_block m later after new (rax.refs_of m old ++ (was ∷ [])) (at ∷ []) was setting gone at mine
           ∙ outside mid later (rax.refs_of mid old) (rax.refs_of later new) (at ∷ (was ∷ [])) own_placed change at (omega (arith, counts_itself at))
-          ∙ placed_block m mid old (was ∷ []) at whole own_was h.stands is.put c in
-          let held : Holds after at bytes = record { block = whole; there = there; begins = pack_front bytes is.spare is_node.pack } in
+          ∙ placed_block m mid old (was ∷ []) at bytes own_was h.stands is c in
           exchanged m after old new s.before (part key was s.bytes ∷ []) (part key at bytes ∷ []) s.after parts
           (ended_changes m later after new (rax.refs_of m old ++ (was ∷ [])) (at ∷ []) was setting gone)
           (ended_tree m later after new (rax.refs_of m old ++ (was ∷ [])) (at ∷ []) was setting gone sound)
           (ended_entries m later after new (rax.refs_of m old ++ (was ∷ [])) (at ∷ []) was setting gone ∙ set
-          ∙ ap (λ es. with_entry es (id_key key) at) (placed_entries m mid old (was ∷ []) at whole own_was h.stands is.put c ∙ parts.named)
+          ∙ ap (λ es. with_entry es (id_key key) at) (placed_entries m mid old (was ∷ []) at bytes own_was h.stands is c ∙ parts.named)
           ∙ with_there m s.before s.after (part key was s.bytes) back.0 front back.1 parts.rising at bytes)
           (record { id = stands_id; block = held; is_node = is_node }, tt) rising
 
@@ -230,7 +221,7 @@ module _ (m : Blocks) (old : PackedTree) (ps : List Part) (key : Id) (was : Bloc
     written : Changes m after (was ∷ []) (was ∷ [])
     written =
         changes_counted m after (was ∷ []) (was ∷ []) (λ r. omega (arith, own_was r, times-append r (rax.refs_of m old) (was ∷ [])))
-        (counts_written m after was (bytes ++ is.spare) (was ∷ []) (was ∷ []) (ap is_some stands_block.there) is.put (omega (arith, counts_itself was)) (λ r. refl))
+        (counts_written m after was bytes (was ∷ []) (was ∷ []) (ap is_some stands_block) is (omega (arith, counts_itself was)) (λ r. refl))
 
     settled : Stays m after old
     settled = tree_stays m after old (was ∷ []) (was ∷ []) own_was written
@@ -248,7 +239,6 @@ module _ (m : Blocks) (old : PackedTree) (ps : List Part) (key : Id) (was : Bloc
 
     pub rewritten : IsNodeOf key bytes → Rising (s.before ++ part key was bytes ∷ s.after) → Exchanges m after old old (s.before ++ part key was bytes ∷ s.after)
     rewritten is_node rising =
-        let there : after was ≡ Some (bytes ++ is.spare) = ap (λ (b : Blocks). b was) is.put ∙ with_block_same m was (Some (bytes ++ is.spare)) in
-        let held : Holds after was bytes = record { block = bytes ++ is.spare; there = there; begins = pack_front bytes is.spare is_node.pack } in
+        let held : Holds after was bytes = ap (λ (b : Blocks). b was) is ∙ with_block_same m was (Some bytes) in
         exchanged m after old old s.before (part key was s.bytes ∷ []) (part key was bytes ∷ []) s.after parts over (settled.sound h.stands) named
         (record { id = stands_id; block = held; is_node = is_node }, tt) rising

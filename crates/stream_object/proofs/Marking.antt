@@ -122,10 +122,10 @@ length_over old head entry seven some header =
     )
 
 -- what is written over a node gives it one entry more
-pub over_grown : (key id : Id) (old : List ℕ) (room : ℕ) (behind : Behind) (pairs : List Pair) → IsNodeOf key old
+pub over_grown : (key id : Id) (old : List ℕ) (behind : Behind) (pairs : List Pair) → IsNodeOf key old
     → AllByRecursion (λ e. id_number e.id < id_number id) (entries_of key (texts old)) → IsOver key old behind.head behind.entry.items id pairs
-    → length (entries_of key (texts old)) < 100 → length old + length behind.entry.items ≤ 4103 → length old + length behind.entry.items ≤ room + 7 → IsOverGrown key old room behind id pairs
-over_grown key id old room behind pairs n less over few short within =
+    → length (entries_of key (texts old)) < 100 → length old + length behind.entry.items ≤ 4103 → IsOverGrown key old behind id pairs
+over_grown key id old behind pairs n less over few short =
     let q = over.entry_pack in
     let header : 7 ≤ length behind.entry.items = q.header in
     let long = length_over old behind.head behind.entry.items over.seven over.some header in
@@ -134,7 +134,7 @@ over_grown key id old room behind pairs n less over few short within =
       seven = over.seven;
       some = over.some;
       header = header;
-      within = within;
+      within = short;
     }
 
 -- an empty listpack

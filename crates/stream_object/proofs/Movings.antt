@@ -33,7 +33,6 @@ use Rattle.stream_object.specs.Parts.{Part, part, IsPart, EndsBefore, Rising, en
 use Rattle.stream_object.specs.Relocation.{PassesOne, PassesAll, Moves, node_mark, entry_mark, tree_marks}
 use Rattle.stream_object.proofs.Clears.{exchanges_then}
 use Rattle.stream_object.proofs.Exchanging.{outside, counts_itself, tree_stays, beside_tree}
-use Rattle.stream_object.proofs.Holdings.{holds_there}
 use Rattle.stream_object.proofs.Parts.{times_refs, refs_are, parts_are, its_own, with_there, exchanged}
 use Rattle.stream_object.proofs.Passed.{passes_append, passes_none, count_cons, count_append, count_zero}
 use Rattle.stream_object.proofs.Walks.{keys_before, keys_after}
@@ -251,7 +250,7 @@ module _ (m m1 : Blocks) (t0 t1 : PackedTree) (key : Id) (at : BlockRef) (h : Ha
   back = all_back (IsPart m1) s.before (part key at s.bytes ∷ s.after) here.each
 
   pub at_live : IsSome (m1 at)
-  at_live = ap is_some back.0.block.there
+  at_live = ap is_some back.0.block
 
   own1 : Owned (rax.refs_of m1 t1 ++ (at ∷ [])) m1
   own1 r = omega (
@@ -292,7 +291,7 @@ module _ (m m1 : Blocks) (t0 t1 : PackedTree) (key : Id) (at : BlockRef) (h : Ha
       core = changes_then m1 m2 m3 (rax.refs_of m1 t1 ++ (at ∷ [])) (rax.refs_of m2 t1 ++ (new ∷ [])) (rax.refs_of m3 t2 ++ (new ∷ [])) changes12 (beside_tree m2 m3 t1 t2 (new ∷ []) own2 changes3)
 
       block3 : Holds m3 new s.bytes
-      block3 = holds_there m1 m3 at new s.bytes (outside m2 m3 (rax.refs_of m2 t1) (rax.refs_of m3 t2) (new ∷ []) own2 changes3 new (omega (arith, counts_itself new)) ∙ bytes2) back.0.block
+      block3 = outside m2 m3 (rax.refs_of m2 t1) (rax.refs_of m3 t2) (new ∷ []) own2 changes3 new (omega (arith, counts_itself new)) ∙ bytes2 ∙ back.0.block
 
       named3 : rax.entries_of m3 t2 ≡ map entry_of (s.before ++ part key new s.bytes ∷ s.after)
       named3 = set3 ∙ ap (λ es. with_entry es (id_key key) new) (stay2.entries_are ∙ here.named) ∙ with_there m1 s.before s.after (part key at s.bytes) back.0 front back.1 here.rising new s.bytes

@@ -14,12 +14,11 @@ use Rattle.rax_packed.specs.declared.tree.PackedTree.{PackedTree}
 use Rattle.rax_packed.specs.Trees.{Entry}
 use Rattle.rax_packed.specs.Packed.{order, value_at, nearest, first_of, last_of, or_else}
 use Rattle.rax_packed.specs.Maps as rax
-use Rattle.listpack.specs.Pack.{IsPack}
 use Rattle.stream_object.specs.Block.{Holds}
 use Rattle.stream_object.specs.Parts.{Part, part, IsPart, entry_of, HasParts}
 use Rattle.stream_object.specs.Found.{Reaches, Misses, IsNear, Stands}
 use Rattle.stream_object.proofs.Holdings.{holds_one}
-use Rattle.stream_object.proofs.Exchanging.{stands_id, stands_block, stands_node, stands_value}
+use Rattle.stream_object.proofs.Exchanging.{stands_id, stands_block, stands_value}
 
 -- which entries a search looks at
 abbrev test : Bool → Id → Entry → Bool
@@ -119,9 +118,6 @@ module _ (m : Blocks) (tree : PackedTree) (ps : List Part) (h : HasParts m tree 
 
   pub found_block : Holds m f.0.at f.0.bytes
   found_block = stands_block m tree ps f.0.key f.0.at h stands
-
-  pub found_pack : IsPack f.0.bytes
-  found_pack = (stands_node m tree ps f.0.key f.0.at h stands).pack
 
   pub found_near : (at : BlockRef) (bytes : List ℕ) → Some at ≡ value_at (rax.entries_of m tree) key → Holds m at bytes → IsNear up ps id (part (key_id key) at bytes)
   found_near at bytes is block =

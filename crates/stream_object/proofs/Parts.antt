@@ -23,9 +23,7 @@ use Rattle.rax_packed.proofs.Keys.{order_same}
 use Rattle.rax_packed.proofs.Entries.{All, all-append, all_front, all_back, value_at_parts, with_entry_parts, without_parts, drops}
 use Rattle.rax_packed.proofs.Splits.{one_entry}
 use Rattle.stream_object.specs.Parts.{Part, part, stored_in, live_of, IsPart, EndsBefore, Rising, entry_of, part_of, refs_of, parts_of, all_refs, HasParts}
-use Rattle.stream_object.specs.Block.{pack_in}
 use Rattle.stream_object.specs.Found.{Exchanges}
-use Rattle.stream_object.proofs.Holdings.{holds_there}
 
 -- a node has an entry between its key and the next node's
 pub between : (es : List Stored) (k n : ℕ) → 0 < length (live_of es) → AllByRecursion (λ e. k ≤ id_number e.id) es → AllByRecursion (λ e. id_number e.id < n) es → k < n
@@ -124,7 +122,7 @@ with_last m ps key at bytes id each rising =
 read_back : (m : Blocks) (ps : List Part) → AllByRecursion (IsPart m) ps → map (part_of m) (map entry_of ps) ≡ ps
 read_back m [] each = refl
 read_back m (p ∷ ps) each =
-    let bytes : pack_in (bytes_at m p.at) ≡ p.bytes = ap (λ (o : Option (List ℕ)). pack_in (unwrap_or o [])) each.0.block.there ∙ each.0.block.begins in
+    let bytes : bytes_at m p.at ≡ p.bytes = ap (λ (o : Option (List ℕ)). unwrap_or o []) each.0.block in
     λ i. part (id_laws.back p.key each.0.id i) p.at (bytes i) ∷ read_back m ps each.1 i
 
 pub parts_are : (m : Blocks) (tree : PackedTree) (ps : List Part) → HasParts m tree ps → parts_of m tree ≡ ps
@@ -150,7 +148,7 @@ pub parts_stay : (a b : Blocks) (ps : List Part) → ((r : BlockRef) → IsIn r 
 parts_stay a b [] same each = tt
 parts_stay a b (p ∷ ps) same each =
     let here : one p.at p.at ≡ 1 = ap one_if (ref_eq_refl p.at) in (
-      record { id = each.0.id; block = holds_there a b p.at p.at p.bytes (same p.at (omega (arith, here))) each.0.block; is_node = each.0.is_node },
+      record { id = each.0.id; block = same p.at (omega (arith, here)) ∙ each.0.block; is_node = each.0.is_node },
       parts_stay a b ps
           (λ r isin. same r (omega (arith, isin))) each.1,
     )

@@ -7,6 +7,7 @@ use Rattle.blocks.specs.Blocks.{Blocks, Changes}
 use Rattle.rax_packed.specs.declared.tree.PackedTree.{PackedTree}
 use Rattle.stream_object.specs.declared.spot.Spot.{Spot}
 use Rattle.blocks.specs.declared.BlockRef.{BlockRef}
+use Rattle.stream_object.specs.Block.{IsPut}
 use Rattle.stream_object.specs.Parts.{Part, part, IsNodeOf, Rising, HasParts, parts_of, all_refs}
 
 -- the key isn't below the id; or, looked for the other way, isn't above it
@@ -53,6 +54,13 @@ abbrev pub Comes : Blocks → Blocks → PackedTree → PackedTree → Id → Li
 Comes m after old new key bytes at =
     let ps = parts_of m old in
     IsNodeOf key bytes → Rising (ps ++ part key at bytes ∷ []) → Exchanges m after old new (ps ++ part key at bytes ∷ [])
+
+-- Bytes for a node stand in a block beside its own, which the tree still names.
+pub record IsBeside (m mid : Blocks) (tree : PackedTree) (key : Id) (was at : BlockRef) (bytes : List ℕ) : Type 0 where
+  pub parts : HasParts m tree (parts_of m tree)
+  pub stands : Stands (parts_of m tree) key was
+  pub put : IsPut m mid at bytes
+  pub changes : Changes m mid [] (at ∷ [])
 
 -- A node has these bytes now, in this block, wherever it stands among the others.
 abbrev pub Becomes : Blocks → Blocks → PackedTree → PackedTree → Id → BlockRef → List ℕ → BlockRef → Type 0

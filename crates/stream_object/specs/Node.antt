@@ -20,19 +20,19 @@ pub record IsGrown (key : Id) (old : List Stored) (bytes : List ℕ) (id : Id) (
   pub is_node : IsNodeOf key bytes
   pub entries_are : entries_of key (texts bytes) ≡ old ++ put id pairs ∷ []
 
--- What is written over a node gives it one entry more, in a block of so many bytes.
-pub record IsOverGrown (key : Id) (old : List ℕ) (room : ℕ) (behind : Behind) (id : Id) (pairs : List Pair) : Type 0 where
+-- What is written over a node gives it one entry more, and leaves it no longer than 4096 bytes.
+pub record IsOverGrown (key : Id) (old : List ℕ) (behind : Behind) (id : Id) (pairs : List Pair) : Type 0 where
   pub grown : IsGrown key (entries_of key (texts old)) (written_over old behind.head (drop 6 behind.entry.items)) id pairs
   pub seven : length behind.head ≡ 7
   pub some : 8 ≤ length old
   pub header : 7 ≤ length behind.entry.items
-  pub within : length old + length behind.entry.items ≤ room + 7
+  pub within : length old + length behind.entry.items ≤ 4096 + 7
 
 -- what becomes of a node with one entry more
-abbrev pub IsGrowth : Id → List ℕ → ℕ → Id → List Pair → Growth → Type 0
-IsGrowth key old room id pairs (Over behind) = IsOverGrown key old room behind id pairs
-IsGrowth key old room id pairs (Whole pack) = IsGrown key (entries_of key (texts old)) pack.items id pairs
-IsGrowth key old room id pairs Full = Unit {0}
+abbrev pub IsGrowth : Id → List ℕ → Id → List Pair → Growth → Type 0
+IsGrowth key old id pairs (Over behind) = IsOverGrown key old behind id pairs
+IsGrowth key old id pairs (Whole pack) = IsGrown key (entries_of key (texts old)) pack.items id pairs
+IsGrowth key old id pairs Full = Unit {0}
 
 -- An entry that isn't deleted stands behind so many others.
 pub record IsAt (es : List Stored) (index : ℕ) (e : Stored) : Type 0 where

@@ -12,7 +12,7 @@ use Rattle.rax_packed.specs.declared.tree.PackedTree.{PackedTree}
 use Rattle.rax_packed.specs.Trees.{Entry}
 use Rattle.rax_packed.specs.Maps as rax
 use Rattle.plain_world.specs.Streams.{StreamEntry}
-use Rattle.stream_object.specs.Block.{Holds, pack_in}
+use Rattle.stream_object.specs.Block.{Holds}
 
 -- a node: its key, the block that it stands in, and its bytes
 pub record Part : Type 0 where
@@ -55,7 +55,7 @@ pub record IsNodeOf (key : Id) (bytes : List ℕ) : Type 0 where
   pub short : length bytes ≤ 536870000
   pub from : AllByRecursion (λ e. id_number key ≤ id_number e.id) (entries_of key (texts bytes))
 
--- The node stands in its block, which may go on behind it.
+-- The node stands in its block, which has exactly its bytes.
 pub record IsPart (m : Blocks) (p : Part) : Type 0 where
   pub id : IsId p.key
   pub block : Holds m p.at p.bytes
@@ -75,7 +75,7 @@ abbrev pub entry_of : Part → Entry
 entry_of p = record { key = id_key p.key; value = p.at }
 
 abbrev pub part_of : Blocks → Entry → Part
-part_of m e = record { key = key_id e.key; at = e.value; bytes = pack_in (bytes_at m e.value) }
+part_of m e = record { key = key_id e.key; at = e.value; bytes = bytes_at m e.value }
 
 abbrev pub refs_of : List Part → List BlockRef
 refs_of ps = map (λ (p : Part). p.at) ps

@@ -8,9 +8,8 @@ ghost use Rattle.stream_object.specs.Streams.{AreBelow, Grows};
 ghost use Rattle.stream_object.specs.Tail.{IsKept};
 
 use crate::Memory;
-use crate::block::write_behind;
 use crate::node::{Growth, begun, joined};
-use crate::nodes::{put_last, replace};
+use crate::nodes::{extend, put_last, replace};
 use crate::spot::Spot;
 use crate::tail::{Tail, last_node};
 use blocks::BlockStore;
@@ -64,11 +63,9 @@ pub(crate) fn put_entry<B: BlockStore>(
         return put_alone(alloc, store, tree, id, pairs);
     };
     let Spot { key, at, bytes } = spot;
-    let len = bytes.len();
-    let room = store.bytes(at).len();
-    match joined(alloc, key, bytes, room, id, pairs)? {
+    match joined(alloc, key, bytes, id, pairs)? {
         Growth::Over(behind) => {
-            write_behind(store, at, len, &behind);
+            let at = extend(store, tree, key, at, &behind)?;
             Ok(Tail { key, at })
         }
         Growth::Whole(pack) => {

@@ -49,7 +49,7 @@ pub(crate) fn begun(alloc: Global, id: Id, pairs: &Pairs) -> Result<Vec<u8>, Mem
 /// What becomes of a node with one entry more behind all others.
 #[derive(Drop)]
 pub(crate) enum Growth {
-    /// This is written over it in its block.
+    /// This is written over it.
     Over(Behind),
     /// It gets these bytes.
     Whole(Vec<u8>),
@@ -71,7 +71,7 @@ fn written_anew(
     requires short { alone_len id pairs.now ≤ 536870000 }
     requires bytes { length bytes.now ≤ 4096 }
     requires few { length (entries_of key (texts bytes.now)) < 100 }
-    ensures { IfOk result (λ growth. (room : ℕ) → IsGrowth key bytes.now room id pairs.now growth) }
+    ensures { IfOk result (IsGrowth key bytes.now id pairs.now) }
 {
     let pack = with_entry(alloc, bytes, key, id, pairs)?;
     if pack.len() > MOST_BYTES {
@@ -80,12 +80,11 @@ fn written_anew(
     Ok(Growth::Whole(pack))
 }
 
-/// What becomes of a node with one entry more behind all others, in a block of so many bytes.
+/// What becomes of a node with one entry more behind all others.
 pub(crate) fn joined(
     alloc: Global,
     key: Id,
     bytes: &[u8],
-    room: usize,
     id: Id,
     pairs: &Pairs,
 ) -> Result<Growth, Memory>
@@ -93,7 +92,7 @@ pub(crate) fn joined(
     requires below { AllByRecursion (λ e. id_number e.id < id_number id) (entries_of key (texts bytes.now)) }
     requires some { 0 < length pairs.now }
     requires short { alone_len id pairs.now ≤ 536870000 }
-    ensures { IfOk result (λ growth. IsGrowth key bytes.now room id pairs.now growth) }
+    ensures { IfOk result (IsGrowth key bytes.now id pairs.now) }
 {
     if bytes.len() > MOST_BYTES {
         return Ok(Growth::Full);
@@ -105,7 +104,7 @@ pub(crate) fn joined(
         return written_anew(alloc, key, bytes, id, pairs);
     };
     let len = bytes.len() + behind.entry.len() - 7;
-    if len > MOST_BYTES || len > room {
+    if len > MOST_BYTES {
         return written_anew(alloc, key, bytes, id, pairs);
     }
     Ok(Growth::Over(behind))

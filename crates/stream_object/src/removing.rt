@@ -12,7 +12,7 @@ ghost use Rattle.stream_object.specs.Parts.{HasParts, live_of, parts_of};
 ghost use Rattle.stream_object.specs.Streams.{IsChanged, IsStream, Loses, entries, greater, has_id, stream_of, without};
 
 use crate::Memory;
-use crate::block::{node_in, write_mark};
+use crate::block::write_mark;
 use crate::node::{find, live_count, marked};
 use crate::nodes::{drop_node, near, replace};
 use crate::spot::Spot;
@@ -40,7 +40,7 @@ pub(crate) fn mark_out<B: BlockStore>(
     ensures err_tree { OnErr result (tree.new ≡ tree.old) }
     ensures err_blocks { OnErr result (B.blocks store.new ≡ B.blocks store.old) }
 {
-    let bytes = node_in(store, at);
+    let bytes = store.bytes(at);
     if let Some(mark) = mark_over(bytes, index) {
         write_mark(store, at, mark);
         return Ok(());
@@ -66,7 +66,7 @@ fn take_out<B: BlockStore>(
     ensures err_tree { OnErr result (tree.new ≡ tree.old) }
     ensures err_blocks { OnErr result (B.blocks store.new ≡ B.blocks store.old) }
 {
-    let bytes = node_in(store, at);
+    let bytes = store.bytes(at);
     if live_count(bytes) == 1 {
         drop_node(store, tree, key, at);
         return Ok(());

@@ -5,7 +5,6 @@ ghost use Rattle.stream_object.specs.Found.{part_at};
 ghost use Rattle.stream_object.specs.Parts.{HasParts, parts_of};
 ghost use Rattle.stream_object.specs.Tail.{IsEnd, IsKept};
 
-use crate::block::node_in;
 use crate::nodes::{GREATEST, near};
 use crate::spot::Spot;
 use blocks::{BlockRef, BlockStore};
@@ -33,7 +32,7 @@ pub(crate) fn last_node<'a, B: BlockStore>(
         Some(tail) => Some(Spot {
             key: tail.key,
             at: tail.at,
-            bytes: node_in(store, tail.at),
+            bytes: store.bytes(tail.at),
         }),
         None => near(store, tree, GREATEST, false),
     }

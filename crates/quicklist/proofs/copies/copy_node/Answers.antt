@@ -1,18 +1,11 @@
-use Rattle.std.proofs.Common.{◌≡◌, ℕ, List, length, ap, ◌∙◌, sym, subst}
+use Rattle.std.proofs.Common.{◌≡◌, ℕ, List, ◌∙◌, sym, subst}
 use Rattle.std.specs.Prelude.{IfOk}
 use Rattle.blocks.specs.Blocks.{no_step}
-use Rattle.quicklist.specs.Nodes.{IsHeld, IsPlacedOf, held, bytes_of}
+use Rattle.quicklist.specs.Nodes.{IsPlacedOf, bytes_of}
 use Rattle.quicklist.proofs.copies.copy_node.Goals as goal
 
 pub returns-in_err-bytes-clause-served : goal.returns-in_err-bytes-clause-served
 returns-in_err-bytes-clause-served g c = no_step
-
-pub place_piece-requires : goal.place_piece-requires
-place_piece-requires g c =
-    let node = c.args.node in
-    let is = c.requires.is_node in
-    let same : bytes_of (g.B.BlockStore.blocks c.args.store.now) node ≡ c.deref.result.now = c.bytes.ensures ∙ sym c.in_ok-bytes.ensures.items ∙ sym c.deref.ensures.value in
-    record { is_held = subst (IsHeld node.container) same is.is_held; counted = is.counted ∙ ap (λ (bytes : List ℕ). length (held node.container bytes)) same; some = is.some }
 
 pub returns-clause-placed : goal.returns-clause-placed
 returns-clause-placed g c =

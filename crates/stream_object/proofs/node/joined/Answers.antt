@@ -1,5 +1,4 @@
 use Rattle.std.proofs.Common.{length, ap, arith, inr}
-use Rattle.std.proofs.lemmas.Result.{IfOk-weaker}
 use Rattle.stream_node.specs.Ids.{IsId}
 use Rattle.stream_object.proofs.Marking.{above_held, joined_room, over_grown}
 use Rattle.stream_object.proofs.node.joined.Goals as goal
@@ -21,12 +20,9 @@ written_anew-requires-clause-few c = omega (arith, ap length c.entries.ensures)
 pub written_anew-requires-then-len-gt-MOST_BYTES-clause-few : goal.written_anew-requires-then-len-gt-MOST_BYTES-clause-few
 written_anew-requires-then-len-gt-MOST_BYTES-clause-few c = omega (arith, ap length c.entries.ensures)
 
-pub returns-in_default : goal.returns-in_default
-returns-in_default c = IfOk-weaker c.written_anew.result _ _ (λ growth all. all c.args.room) c.written_anew.ensures
-
 pub returns : goal.returns
 returns c =
     let over = rw c.in-Some.is at c.in_ok-behind.ensures in
     let behind = c.in-Some.behind in
-    over_grown c.args.key c.args.id c.args.bytes.now c.args.room behind c.args.pairs.now c.requires.is_node c.requires.below over (omega (arith, ap length c.entries.ensures))
-    (omega (arith, over.some, over.short)) (omega (arith, over.some, over.short))
+    over_grown c.args.key c.args.id c.args.bytes.now behind c.args.pairs.now c.requires.is_node c.requires.below over (omega (arith, ap length c.entries.ensures))
+    (omega (arith, over.some, over.short))

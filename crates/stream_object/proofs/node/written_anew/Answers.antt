@@ -16,5 +16,5 @@ with_entry-requires-clause-room c = joined_room c.args.key c.args.id c.args.byte
 
 pub returns : goal.returns
 returns c =
-    λ room. joined_grown c.args.key c.args.id c.args.bytes.now c.in_ok-pack.pack.items c.args.pairs.now c.requires.is_node c.requires.below c.in_ok-pack.ensures c.requires.few
+    joined_grown c.args.key c.args.id c.args.bytes.now c.in_ok-pack.pack.items c.args.pairs.now c.requires.is_node c.requires.below c.in_ok-pack.ensures c.requires.few
     (omega (arith, c.in_ok-pack.pack.ok.0))

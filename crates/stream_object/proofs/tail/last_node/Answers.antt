@@ -1,20 +1,20 @@
-use Rattle.std.proofs.Common.{refl}
+use Rattle.std.proofs.Common.{is_some, refl, ap}
 use Rattle.std.proofs.lemmas.Option.{IfSome_then}
 use Rattle.stream_object.specs.Found.{part_at}
 use Rattle.stream_object.proofs.Tails.{tail_part, tail_read, near_end}
 use Rattle.stream_object.proofs.tail.last_node.Goals as goal
 
-pub node_in-requires : goal.node_in-requires
-node_in-requires g c =
+pub bytes-requires : goal.bytes-requires
+bytes-requires g c =
     let m = g.B.BlockStore.blocks c.args.store.now in
     let kept = rw c.in-Some.is at c.requires.kept in
     let p = tail_part m c.args.tree.now c.in-Some.tail c.requires.parts kept in
-    (kept.0, p.block, p.is_node.pack)
+    ap is_some p.block
 
 pub returns-in-Some : goal.returns-in-Some
 returns-in-Some g c =
     let m = g.B.BlockStore.blocks c.args.store.now in
-    tail_read m c.args.tree.now c.in-Some.tail c.requires.parts (rw c.in-Some.is at c.requires.kept) c.node_in.result.now c.node_in.ensures
+    tail_read m c.args.tree.now c.in-Some.tail c.requires.parts (rw c.in-Some.is at c.requires.kept) c.bytes.result.now c.bytes.ensures
 
 pub returns-in-None : goal.returns-in-None
 returns-in-None g c =

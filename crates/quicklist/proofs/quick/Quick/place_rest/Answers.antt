@@ -1,80 +1,43 @@
-use Rattle.std.proofs.Common.{◌≡◌, ◌+◌, ◌<◌, ℕ, List, [], length, map, ap, ◌∙◌, sym, subst, arith}
+use Rattle.std.proofs.Common.{◌+◌, ◌<◌, [], length, map, ap, ◌∙◌, sym, subst, refl, arith}
+use Rattle.std.specs.Prelude.{IsSome}
 use Rattle.std.proofs.lemmas.List.{append-nil, length-map}
 use Rattle.std.proofs.lemmas.List.Elements.{All-nil, All-cons}
 use Rattle.object_codec.specs.declared.form.Form.{Form}
 use Rattle.listpack.specs.Pack.{texts}
 use Rattle.quicklist.specs.Nodes.{IsPacked, IsPiece, container_of, rest_list}
-use Rattle.quicklist.specs.Chain.{IsChanged, IsFormed, respelled}
-use Rattle.quicklist.proofs.Rising.{at_some, on_ok, on_ok_three, changed_by, changed_from}
+use Rattle.quicklist.specs.Chain.{IsFormed, respelled}
+use Rattle.quicklist.proofs.Rising.{at_some, on_ok_three, changed_by}
 use Rattle.quicklist.proofs.Rests.{IsRest, form_of, formed_many, formed_fewer}
 use Rattle.quicklist.proofs.quick.Quick.place_rest.Goals as goal
 
-pub rewrite-requires-clause-len : goal.rewrite-requires-clause-len
-rewrite-requires-clause-len g c =
-    let m = g.B.BlockStore.blocks c.args.store.now in
-    let q = c.args.self.now in
-    let k = c.args.k in
-    let list = texts c.deref.result.now in
-    c.requires.len
-    ∙ ap (λ (xs : List (List ℕ)). length (respelled m q k xs (k + c.args.gone))) (ap rest_list c.in-Some.is ∙ sym (ap texts c.deref.ensures.value))
-    ∙ ap (λ (gone : ℕ). length (respelled m q k list (k + gone))) c.if-gone-eq1.true
-
-pub returns-in-Some-clause-changed : goal.returns-in-Some-clause-changed
-returns-in-Some-clause-changed g c =
-    let m = g.B.BlockStore.blocks c.args.store.now in
-    let n = g.B.BlockStore.blocks c.rewrite.new.store in
-    let q = c.args.self.now in
-    let k = c.args.k in
-    let list = texts c.deref.result.now in
-    let same : respelled m q k list (k + 1) ≡ respelled m q k (rest_list c.args.rest) (k + c.args.gone) =
-    ap (λ (gone : ℕ). respelled m q k list (k + gone)) (sym c.if-gone-eq1.true)
-    ∙ ap (λ (xs : List (List ℕ)). respelled m q k xs (k + c.args.gone)) (ap texts c.deref.ensures.value ∙ sym (ap rest_list c.in-Some.is)) in
-    on_ok c.rewrite.result (λ w. subst (IsChanged m n q c.rewrite.new.self) same (changed_from m n q c.rewrite.new.self _ w)) c.rewrite.ensures.written
-
-pub overflow_cast-count : goal.overflow_cast-count
-overflow_cast-count g c = record { fits = (at_some (λ v. IsRest c.args.count v.now) c.args.rest c.in-Some.bytes c.in-Some.is c.requires.rest).3 }
-
-pub rewrite-requires-clause-inside : goal.rewrite-requires-clause-inside
-rewrite-requires-clause-inside g c = omega (arith, c.requires.inside, c.requires.some)
-
-pub rewrite-requires-clause-packed : goal.rewrite-requires-clause-packed
-rewrite-requires-clause-packed g c = subst IsPacked (sym c.deref.ensures.value) (at_some (λ v. IsRest c.args.count v.now) c.args.rest c.in-Some.bytes c.in-Some.is c.requires.rest).0
-
-pub rewrite-requires-clause-count : goal.rewrite-requires-clause-count
-rewrite-requires-clause-count g c =
-    (at_some (λ v. IsRest c.args.count v.now) c.args.rest c.in-Some.bytes c.in-Some.is c.requires.rest).1 ∙ ap (λ xs. length (texts xs)) (sym c.deref.ensures.value)
-
-pub rewrite-requires-clause-some : goal.rewrite-requires-clause-some
-rewrite-requires-clause-some g c = (at_some (λ v. IsRest c.args.count v.now) c.args.rest c.in-Some.bytes c.in-Some.is c.requires.rest).2
-
 pub overflow_cast-piece : goal.overflow_cast-piece
-overflow_cast-piece g c = record { fits = (at_some (λ v. IsRest c.args.count v.now) c.args.rest c.in-Some-2.bytes c.in-Some-2.is c.requires.rest).3 }
+overflow_cast-piece g c = record { fits = (at_some (λ v. IsRest c.args.count v.now) c.args.rest c.in-Some.bytes c.in-Some.is c.requires.rest).3 }
 
 pub exchange-requires-clause-pieces : goal.exchange-requires-clause-pieces
 exchange-requires-clause-pieces g c =
-    let r = at_some (λ v. IsRest c.args.count v.now) c.args.rest c.in-Some-2.bytes c.in-Some-2.is c.requires.rest in
-    let there = sym c.deref-in-Some-2.ensures.value in
+    let r = at_some (λ v. IsRest c.args.count v.now) c.args.rest c.in-Some.bytes c.in-Some.is c.requires.rest in
+    let there = sym c.deref.ensures.value in
     All-cons IsPiece _ [] (record { is_held = subst IsPacked there r.0; counted = r.1 ∙ ap (λ xs. length (texts xs)) there; some = r.2 }) (All-nil IsPiece)
 
 pub exchange-requires-in-None-clause-pieces : goal.exchange-requires-in-None-clause-pieces
 exchange-requires-in-None-clause-pieces g c = All-nil IsPiece
 
-pub returns-in-Some-2-clause-changed : goal.returns-in-Some-2-clause-changed
-returns-in-Some-2-clause-changed g c =
+pub returns-in-Some-clause-changed : goal.returns-in-Some-clause-changed
+returns-in-Some-clause-changed g c =
     let m = g.B.BlockStore.blocks c.args.store.now in
     let n = g.B.BlockStore.blocks c.exchange.new.store in
     let q = c.args.self.now in
     let e = c.args.k + c.args.gone in
     let formed = subst (λ (f : Form). IsFormed f (map container_of q.nodes)) (sym (ap (λ v. v.form) c.self.view_is)) c.requires.quick.formed in
-    let many : 1 < length (map container_of q.nodes) = omega (arith, c.requires.inside, c.requires.some, c.if-gone-eq1.false, length-map q.nodes container_of) in
-    let list = ap rest_list c.in-Some-2.is ∙ sym (ap texts c.deref-in-Some-2.ensures.value) ∙ sym (append-nil (texts c.deref-in-Some-2.result.now)) in
+    let many : 1 < length (map container_of q.nodes) = omega (arith, c.requires.inside, c.requires.many (subst IsSome (sym c.in-Some.is) refl), length-map q.nodes container_of) in
+    let list = ap rest_list c.in-Some.is ∙ sym (ap texts c.deref.ensures.value) ∙ sym (append-nil (texts c.deref.result.now)) in
     on_ok_three c.exchange.result
     (λ x len is. changed_by m n q c.exchange.new.self (respelled m q c.args.k (rest_list c.args.rest) e) c.args.k e c.args.len c.self.inside.form _
     (ap (λ xs. respelled m q c.args.k xs e) list) c.requires.len (formed_many c.self.inside.form (map container_of q.nodes) _ many formed) x len is)
     c.exchange.ensures.ok c.exchange.ensures.len c.exchange.ensures.form
 
-pub returns-in-Some-2-clause-form : goal.returns-in-Some-2-clause-form
-returns-in-Some-2-clause-form g c =
+pub returns-in-Some-clause-form : goal.returns-in-Some-clause-form
+returns-in-Some-clause-form g c =
     form_of c.exchange.result c.args.self.now c.exchange.new.self c.self.inside.form (ap (λ v. v.form) c.self.view_is) c.exchange.ensures.form c.exchange.ensures.err_list
 
 pub returns-in-None-clause-changed : goal.returns-in-None-clause-changed

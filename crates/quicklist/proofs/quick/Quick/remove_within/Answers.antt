@@ -1,91 +1,58 @@
-use Rattle.std.proofs.Common.{◌+◌, ◌-◌, ◌++◌, length, take, drop, get_or, ap, ◌∙◌, sym, subst, refl, arith}
+use Rattle.std.proofs.Common.{◌≡◌, ◌+◌, ◌-◌, ◌≤◌, length, get_or, ap, ◌∙◌, sym, subst, arith}
 use Rattle.std.specs.Prelude.{OnOk}
-use Rattle.blocks.specs.Blocks.{no_step}
-use Rattle.quicklist.specs.Nodes.{left_list, node_at, node_list, count_of}
+use Rattle.quicklist.specs.Nodes.{bytes_of, count_of, node_at, node_list}
 use Rattle.quicklist.specs.Chain.{respelled, IsChanged}
-use Rattle.quicklist.proofs.Chains.{node_read}
-use Rattle.quicklist.proofs.Elements.{node_is, node_of, front_left}
-use Rattle.quicklist.proofs.Rising.{changed_from}
-use Rattle.quicklist.proofs.Rests.{copied_list, copied_rest}
+use Rattle.quicklist.proofs.Elements.{node_is, node_of}
+use Rattle.quicklist.proofs.Overwriting.{none_left}
+use Rattle.quicklist.proofs.Rising.{on_ok, changed_from}
+use Rattle.quicklist.proofs.Rests.{many_packed}
 use Rattle.quicklist.proofs.quick.Quick.remove_within.Goals as goal
 
-pub is_back-requires : goal.is_back-requires
-is_back-requires g c =
-    node_read (g.B.BlockStore.blocks c.args.store.now) c.args.self.now.nodes c.args.k c.index-node.result.now c.requires.inside
-    (c.index-node.ensures ∙ ap (λ v. get_or v.nodes c.args.k c.index-node.result.now) c.self.view_is) c.requires.quick.chain
-
-pub cut_back-requires-clause-back : goal.cut_back-requires-clause-back
-cut_back-requires-clause-back g c =
-    let node = c.index-node.result.now in
-    let is = node_is c.args.self.now.nodes c.args.k node c.requires.inside (c.index-node.ensures ∙ ap (λ v. get_or v.nodes c.args.k node) c.self.view_is) in
-    let back = c.is_back.ensures c.if-is_back.true in
-    record { packed = ap (λ n. n.container) (sym is) ∙ back.packed; some = back.some; last = refl }
-
-pub cut_back-requires-clause-from : goal.cut_back-requires-clause-from
-cut_back-requires-clause-from g c = omega (arith, c.requires.order, c.requires.to)
-
-pub cut_back-requires-clause-len : goal.cut_back-requires-clause-len
-cut_back-requires-clause-len g c =
-    let m = g.B.BlockStore.blocks c.args.store.now in
-    let q = c.args.self.now in
-    let node = c.index-node.result.now in
-    let is = node_is q.nodes c.args.k node c.requires.inside (c.index-node.ensures ∙ ap (λ v. get_or v.nodes c.args.k node) c.self.view_is) in
-    let end = (c.is_back.ensures c.if-is_back.true).last ∙ ap count_of is ∙ (node_of m q.nodes c.args.k c.requires.quick.chain.each c.requires.inside).counted in
-    c.requires.len ∙ ap (λ xs. length (respelled m q c.args.k xs (c.args.k + 1))) (front_left (node_list m (node_at q.nodes c.args.k)) c.args.i c.args.j end)
-
-pub returns-then-is_back-clause-changed : goal.returns-then-is_back-clause-changed
-returns-then-is_back-clause-changed g c =
-    let m = g.B.BlockStore.blocks c.args.store.now in
-    let n = g.B.BlockStore.blocks c.cut_back.new.store in
-    let q = c.args.self.now in
-    let node = c.index-node.result.now in
-    let is = node_is q.nodes c.args.k node c.requires.inside (c.index-node.ensures ∙ ap (λ v. get_or v.nodes c.args.k node) c.self.view_is) in
-    let end = (c.is_back.ensures c.if-is_back.true).last ∙ ap count_of is ∙ (node_of m q.nodes c.args.k c.requires.quick.chain.each c.requires.inside).counted in
-    subst (λ xs. IsChanged m n q c.cut_back.new.self (respelled m q c.args.k xs (c.args.k + 1))) (sym (front_left (node_list m (node_at q.nodes c.args.k)) c.args.i c.args.j end))
-    (changed_from m n q c.cut_back.new.self _ c.cut_back.ensures.written)
-
-pub node_rest-requires-clause-readable : goal.node_rest-requires-clause-readable
-node_rest-requires-clause-readable g c =
-    node_read (g.B.BlockStore.blocks c.args.store.now) c.args.self.now.nodes c.args.k c.index-node.result.now c.requires.inside
-    (c.index-node.ensures ∙ ap (λ v. get_or v.nodes c.args.k c.index-node.result.now) c.self.view_is) c.requires.quick.chain
-
-pub node_rest-requires-clause-inside : goal.node_rest-requires-clause-inside
-node_rest-requires-clause-inside g c =
+pub take_out-requires-clause-packed : goal.take_out-requires-clause-packed
+take_out-requires-clause-packed g c =
     let m = g.B.BlockStore.blocks c.args.store.now in
     let nodes = c.args.self.now.nodes in
-    let node = c.index-node.result.now in
-    let is = node_is nodes c.args.k node c.requires.inside (c.index-node.ensures ∙ ap (λ v. get_or v.nodes c.args.k node) c.self.view_is) in
-    omega (arith, c.requires.to, (node_of m nodes c.args.k c.requires.quick.chain.each c.requires.inside).counted, ap count_of is)
+    let k = c.args.k in
+    let node = c.index.result.now in
+    let is = node_is nodes k node c.requires.inside (c.index.ensures ∙ ap (λ v. get_or v.nodes k node) c.self.view_is) in
+    let there = node_at nodes k in
+    let many : there.count ≡ 1 → ⊥ = λ one. absurd (omega (arith, one, ap count_of is, c.if-j-i.true, c.requires.order)) in
+    many_packed there.container (bytes_of m there) there.count (node_of m nodes k c.requires.quick.chain.each c.requires.inside).counted many
 
-pub returns-in_err-rest-clause-served : goal.returns-in_err-rest-clause-served
-returns-in_err-rest-clause-served g c = no_step
-
-pub overflow_sub-left : goal.overflow_sub-left
-overflow_sub-left g c =
+pub take_out-requires-clause-left : goal.take_out-requires-clause-left
+take_out-requires-clause-left g c =
     let m = g.B.BlockStore.blocks c.args.store.now in
     let nodes = c.args.self.now.nodes in
-    let node = c.index-node.result.now in
-    let is = node_is nodes c.args.k node c.requires.inside (c.index-node.ensures ∙ ap (λ v. get_or v.nodes c.args.k node) c.self.view_is) in
-    omega (arith, c.requires.to, (node_of m nodes c.args.k c.requires.quick.chain.each c.requires.inside).counted, ap count_of is)
+    let node = c.index.result.now in
+    let is = node_is nodes c.args.k node c.requires.inside (c.index.ensures ∙ ap (λ v. get_or v.nodes c.args.k node) c.self.view_is) in
+    omega (arith, (node_of m nodes c.args.k c.requires.quick.chain.each c.requires.inside).counted, ap count_of is, c.if-j-i.true)
 
-pub place_rest-requires-clause-rest : goal.place_rest-requires-clause-rest
-place_rest-requires-clause-rest g c = copied_rest c.as_ref.result c.in_ok-rest.rest _ _ c.as_ref.ensures.value refl c.in_ok-rest.ensures.rest
+pub take_out-requires-clause-len : goal.take_out-requires-clause-len
+take_out-requires-clause-len g c = c.requires.len
+
+pub returns-then-j-i-clause-changed : goal.returns-then-j-i-clause-changed
+returns-then-j-i-clause-changed g c =
+    on_ok c.take_out.result (λ w. changed_from (g.B.BlockStore.blocks c.args.store.now) (g.B.BlockStore.blocks c.take_out.new.store) c.args.self.now c.take_out.new.self _ w) c.take_out.ensures.written
 
 pub place_rest-requires-clause-len : goal.place_rest-requires-clause-len
 place_rest-requires-clause-len g c =
     let m = g.B.BlockStore.blocks c.args.store.now in
     let q = c.args.self.now in
-    let node = c.index-node.result.now in
-    let is = node_is q.nodes c.args.k node c.requires.inside (c.index-node.ensures ∙ ap (λ v. get_or v.nodes c.args.k node) c.self.view_is) in
-    let list = copied_list c.as_ref.result ∙ ap left_list c.as_ref.ensures.value ∙ c.in_ok-rest.ensures.list ∙ ap (λ n. take c.args.i (node_list m n) ++ drop c.args.j (node_list m n)) is in
-    c.requires.len ∙ ap (λ xs. length (respelled m q c.args.k xs (c.args.k + 1))) (sym list)
+    let k = c.args.k in
+    let node = c.index.result.now in
+    let is = node_is q.nodes k node c.requires.inside (c.index.ensures ∙ ap (λ v. get_or v.nodes k node) c.self.view_is) in
+    let all : length (node_list m (node_at q.nodes k)) ≤ c.args.j - c.args.i = omega (arith, (node_of m q.nodes k c.requires.quick.chain.each c.requires.inside).counted, ap count_of is, c.if-j-i.false) in
+    let none = none_left (node_list m (node_at q.nodes k)) c.args.i c.args.j (omega (arith, c.requires.order)) c.requires.to all in
+    c.requires.len ∙ ap (λ xs. length (respelled m q k xs (k + 1))) none
 
 pub returns-clause-changed : goal.returns-clause-changed
 returns-clause-changed g c =
     let m = g.B.BlockStore.blocks c.args.store.now in
-    let q = c.args.self.now in
-    let node = c.index-node.result.now in
-    let is = node_is q.nodes c.args.k node c.requires.inside (c.index-node.ensures ∙ ap (λ v. get_or v.nodes c.args.k node) c.self.view_is) in
-    let list = copied_list c.as_ref.result ∙ ap left_list c.as_ref.ensures.value ∙ c.in_ok-rest.ensures.list ∙ ap (λ n. take c.args.i (node_list m n) ++ drop c.args.j (node_list m n)) is in
     let n = g.B.BlockStore.blocks c.place_rest.new.store in
-    subst (λ xs. OnOk c.place_rest.result (IsChanged m n q c.place_rest.new.self (respelled m q c.args.k xs (c.args.k + 1)))) list c.place_rest.ensures.changed
+    let q = c.args.self.now in
+    let k = c.args.k in
+    let node = c.index.result.now in
+    let is = node_is q.nodes k node c.requires.inside (c.index.ensures ∙ ap (λ v. get_or v.nodes k node) c.self.view_is) in
+    let all : length (node_list m (node_at q.nodes k)) ≤ c.args.j - c.args.i = omega (arith, (node_of m q.nodes k c.requires.quick.chain.each c.requires.inside).counted, ap count_of is, c.if-j-i.false) in
+    let none = none_left (node_list m (node_at q.nodes k)) c.args.i c.args.j (omega (arith, c.requires.order)) c.requires.to all in
+    subst (λ xs. OnOk c.place_rest.result (IsChanged m n q c.place_rest.new.self (respelled m q k xs (k + 1)))) (sym none) c.place_rest.ensures.changed

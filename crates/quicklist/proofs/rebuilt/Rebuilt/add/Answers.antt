@@ -1,9 +1,8 @@
-use Rattle.std.proofs.Common.{List, ℕ, length, ap, ◌∙◌, sym, subst}
+use Rattle.std.proofs.Common.{List, ℕ, sym, subst}
 use Rattle.blocks.specs.Blocks.{no_step}
 use Rattle.quicklist.specs.declared.clearing.Left.{Left}
-use Rattle.listpack.specs.Pack.{texts}
-use Rattle.quicklist.specs.Nodes.{IsPacked, IsPlacedOf}
-use Rattle.quicklist.specs.Equal.{IsAdded, IsKept}
+use Rattle.quicklist.specs.Nodes.{IsPlacedOf}
+use Rattle.quicklist.specs.Equal.{IsAdded}
 use Rattle.quicklist.proofs.rebuilt.Rebuilt.add.Goals as goal
 
 pub returns-in-Whole-clause-served : goal.returns-in-Whole-clause-served
@@ -11,12 +10,6 @@ returns-in-Whole-clause-served g c = no_step
 
 pub returns-in-Nothing-clause-served : goal.returns-in-Nothing-clause-served
 returns-in-Nothing-clause-served g c = no_step
-
-pub place_piece-requires : goal.place_piece-requires
-place_piece-requires g c =
-    let kept = subst IsKept c.in-Part.is c.requires.left in
-    let value = c.deref.ensures.value in
-    record { is_held = subst IsPacked (sym value) kept.0; counted = kept.1 ∙ ap (λ (bytes : List ℕ). length (texts bytes)) (sym value); some = kept.2 }
 
 pub returns-in_ok-fresh-in-Part-clause-added : goal.returns-in_ok-fresh-in-Part-clause-added
 returns-in_ok-fresh-in-Part-clause-added g c =
