@@ -1,6 +1,6 @@
 mod Short
 mod Fit
 mod Engines
-mod Closing
+mod Left
 mod Whole
 mod Readings

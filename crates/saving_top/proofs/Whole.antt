@@ -1,5 +1,6 @@
--- A whole run that is saved.
-use Rattle.std.proofs.Common.{◌≡◌, ℕ, List, Option, Some, None, sym, refl, ap, ◌∙◌, subst, arith}
+-- A whole run behind which more may be done.
+use Rattle.std.proofs.Common.{◌≡◌, ℕ, List, Bool, Option, Some, None, sym, refl, ap, ◌∙◌, subst, inl, inr, arith}
+use Rattle.std.specs.Prelude.{◌⊎◌}
 use Rattle.outside.specs.Counts.{Rose}
 use Rattle.outside.specs.Files.{ShelfSeen}
 use Rattle.outside.specs.Streams.{SinkSeen}
@@ -16,66 +17,116 @@ use Rattle.program_top.specs.Stepped.{BeginsEngine, goes, goes_cut, engine_clock
 use Rattle.program_top.specs.TopAnswers.{AnswersBy}
 use Rattle.program_top.specs.declared.ending.Ending.{Ending}
 use Rattle.program_top.specs.declared.ending.Ending.TheVariants as endings
-use Rattle.saving_top.specs.Asked.{Asked, Plain, Saved}
+use Rattle.saving_top.specs.Asked.{Asked, Plain, Closed, Closing}
 use Rattle.saving_top.specs.AskedRead.{asked_read}
+use Rattle.saving_top.specs.Closing.{Audits, unasked, other, tells, no_memory, TellsSlabs, Saves, StoresIn, saved, failed, untouched, AuditsEngine, StoresEngine}
+use Rattle.saving_top.specs.TopAnswers.{Keeps, KeepsEngine, ClosedAnswers, TopAnswers}
 use Rattle.saving_top.specs.declared.words.Asked as words
-use Rattle.saving_top.specs.Saving.{left_of, Saves, SavesEngine, Closes, saved, failed, untouched, ClosesEngine}
-use Rattle.saving_top.specs.TopAnswers.{SavedAnswers, TopAnswers}
-use Rattle.rdb_writer.specs.Saving.{IsSaved}
 use Rattle.serving.specs.Timed.{Timed}
 use Rattle.serving.specs.declared.ending.Ended.{Ended}
 
-module _ (options : Options) (name : List ℕ) (before mid : Outside) (noted' : SinkSeen) (shelf shelf' : ShelfSeen) (status : ℕ) where
-  -- all that is answered where nothing is saved
-  abbrev Answers : ℕ → Type 0
-  Answers served = AnswersBy (Saves name shelf shelf' status) (SavesEngine name shelf shelf' status) (Run options) before mid served
+-- the status that the slabs leave is 0 only where the serving's was
+pub zero_served : (asked : Bool) (served : ℕ) (noted told : SinkSeen) (audited : ℕ) → Audits asked served noted told audited → audited ≡ 0 → served ≡ 0
+zero_served asked served noted told audited (unasked not is same) zero = sym is ∙ zero
+zero_served asked served noted told audited (other not is same) zero = sym is ∙ zero
+zero_served asked served noted told audited (tells is none still) zero = none
+zero_served asked served noted told audited (no_memory is none eight line) zero = absurd (omega (arith, zero, eight))
 
+-- it is the serving's, or memory wanted
+audited_is : (asked : Bool) (served : ℕ) (noted told : SinkSeen) (audited : ℕ) → Audits asked served noted told audited → (audited ≡ served) ⊎ (audited ≡ 8)
+audited_is asked served noted told audited (unasked not is same) = inl is
+audited_is asked served noted told audited (other not is same) = inl is
+audited_is asked served noted told audited (tells is none still) = inl (still ∙ sym none)
+audited_is asked served noted told audited (no_memory is none eight line) = inr eight
+
+-- the status that the saving leaves is that of before, where the shelf didn't fail
+stored_is : (save : Option (List ℕ)) (audited : ℕ) (told noted : SinkSeen) (shelf shelf' : ShelfSeen) (status : ℕ) → StoresIn save audited told noted shelf shelf' status
+    → (Rose shelf.faults shelf'.faults → ⊥) → status ≡ audited
+stored_is None audited told noted shelf shelf' status s never = s.0
+stored_is (Some name) audited told noted shelf shelf' status (saved zero is same kept others) never = is ∙ sym zero
+stored_is (Some name) audited told noted shelf shelf' status (failed zero is line rose others) never = absurd (never rose)
+stored_is (Some name) audited told noted shelf shelf' status (untouched not is same kept) never = is
+
+-- where nothing is saved
+stores_same : (save : Option (List ℕ)) (status : ℕ) (noted : SinkSeen) (shelf : ShelfSeen) → (status ≡ 0 → ⊥) → StoresIn save status noted noted shelf shelf status
+stores_same None status noted shelf not = (refl, refl, refl)
+stores_same (Some name) status noted shelf not = untouched not refl refl refl
+
+no_engine : (left : Option Engine) (engine : Engine) → left ≡ None → left ≡ Some engine → ⊥
+no_engine left engine none some = cc
+
+module _ (options : Options) (before mid : Outside) (noted' : SinkSeen) where
   -- the notes have no part in whether the host failed
   no_fault : (file : Option (List ℕ)) → NoHostFault file before (record mid { notes = noted' }) → NoHostFault file before mid
   no_fault None h = h
   no_fault (Some name) h = h
 
-  noted_completes : Completes (Run options) before mid status → Completes (Run options) before (record mid { notes = noted' }) status
-  noted_completes c = record {
+  noted_completes : (status : ℕ) → Completes (Run options) before mid status → Completes (Run options) before (record mid { notes = noted' }) status
+  noted_completes status c = record {
     served = λ options bytes asked end e can told frames well few no_host no_read no_write. c.served options bytes asked end e can told frames well few (no_fault options.file no_host)
         no_read no_write;
     generated = c.generated;
   }
 
-  -- where the shelf didn't fail, a run that surely completes does so with the status that is answered
-  completes : (served : ℕ) → Closes name served mid.notes noted' shelf shelf' status → Answers served → (Rose shelf.faults shelf'.faults → ⊥)
-      → Completes (Run options) before (record mid { notes = noted' }) status
-  completes served (saved zero is noted same others) a never = noted_completes (subst (Completes (Run options) before mid) (zero ∙ sym is) a.complete)
-  completes served (failed zero is line rose others) a never = absurd (never rose)
-  completes served (untouched not is noted same) a never = noted_completes (subst (Completes (Run options) before mid) (sym is) a.complete)
+  -- a run that completes does so with the same status, and with 8
+  completes_by : (served status : ℕ) → Completes (Run options) before mid served → (status ≡ served) ⊎ (status ≡ 8) → Completes (Run options) before (record mid { notes = noted' }) status
+  completes_by served status c (inl is) = noted_completes status (subst (Completes (Run options) before mid) (sym is) c)
+  completes_by served status c (inr eight) = record {
+    served = λ options bytes asked end e can told frames well few no_host no_read no_write. inr eight;
+    generated = λ n options e fits. inr eight;
+  }
 
-  saved_by : (served : ℕ) → Closes name served mid.notes noted' shelf shelf' status → Answers served → SavedAnswers options name before (record mid { notes = noted' }) shelf shelf' status
-  saved_by served closes a = record { served = served; noted = mid.notes; serves = a; closes = closes; complete = completes served closes a }
+module _ (options : Options) (closing : Closing) (before mid : Outside) (noted' : SinkSeen) (shelf shelf' : ShelfSeen) (audited : ℕ) (told : SinkSeen) (status : ℕ) where
+  -- all that is answered where nothing is done
+  abbrev Answers : ℕ → Type 0
+  Answers served = AnswersBy (Keeps closing.save shelf shelf' status) (KeepsEngine closing shelf shelf' audited mid.notes told status) (Run options) before mid served
+
+  -- the status is the serving's where the shelf didn't fail, or memory wanted
+  status_is : (served : ℕ) → Audits closing.audit served mid.notes told audited → StoresIn closing.save audited told noted' shelf shelf' status → (Rose shelf.faults shelf'.faults → ⊥)
+      → (status ≡ served) ⊎ (status ≡ 8)
+  status_is served a s never =
+      let same = stored_is closing.save audited told noted' shelf shelf' status s never in
+      elim (audited_is closing.audit served mid.notes told audited a) [ inl is ↦ inl (same ∙ is) | inr eight ↦ inr (same ∙ eight) ]
+
+  closed_by : (served : ℕ) → Audits closing.audit served mid.notes told audited → StoresIn closing.save audited told noted' shelf shelf' status → Answers served
+      → ClosedAnswers options closing before (record mid { notes = noted' }) shelf shelf' status
+  closed_by served audits stores a = record {
+    served = served;
+    noted = mid.notes;
+    audited = audited;
+    told = told;
+    serves = a;
+    audits = audits;
+    stores = stores;
+    complete = λ never. completes_by options before mid noted' served status a.complete (status_is served audits stores never);
+  }
 
   -- what a run answers whose last engine was closed
   pub closed_answers : (ending : Ending) (left : Option Engine) (engine : Engine) → left ≡ Some engine → RunsNoted (Leaves left) (Run options) before mid ending
-      → (served : ℕ) → served ≡ status_of ending → ClosesEngine engine name served mid.notes noted' shelf shelf' status
-      → SavedAnswers options name before (record mid { notes = noted' }) shelf shelf' status
-  closed_answers ending left engine is n served of c =
-      let r = closed_as (Leaves left) (SavesEngine name shelf shelf' status) saves options before mid ending n in
-      saved_by served c.closes (answers_from (Saves name shelf shelf' status) (SavesEngine name shelf shelf' status) (λ last ended s. s) before mid ending (Run options) served (read r.run) r.line of)
+      → (served : ℕ) → served ≡ status_of ending → AuditsEngine engine closing.audit served mid.notes told audited → StoresEngine engine closing.save audited told noted' shelf shelf' status
+      → ClosedAnswers options closing before (record mid { notes = noted' }) shelf shelf' status
+  closed_answers ending left engine is n served of a s =
+      let r = closed_as (Leaves left) (KeepsEngine closing shelf shelf' audited mid.notes told status) keeps options before mid ending n in
+      closed_by served a.audits s.stores
+      (answers_from (Keeps closing.save shelf shelf' status) (KeepsEngine closing shelf shelf' audited mid.notes told status) (λ last ended k. k.0) before mid ending (Run options) served
+      (read r.run) r.line of)
     where
-      saves : (last : Timed Engine) (ended : Ended) → Leaves left last ended → SavesEngine name shelf shelf' status last ended
-      saves last ended l =
-          let same : engine ≡ last.engine = cc in
-          subst (λ (e : Engine). status ≡ 0 → IsSaved shelf.files shelf'.files name e.last (left_of (world_of e) e.last)) same c.saves
+      keeps : (last : Timed Engine) (ended : Ended) → Leaves left last ended → KeepsEngine closing shelf shelf' audited mid.notes told status last ended
+      keeps last ended l =
+          let same : engine ≡ last.engine = cc in (
+            subst (λ (e : Engine). Saves closing.save shelf shelf' status (world_of e) e.last) same s.saves,
+            subst (λ (e : Engine). TellsSlabs closing.audit audited mid.notes told e) same a.tells,
+          )
 
-no_engine : (left : Option Engine) (engine : Engine) → left ≡ None → left ≡ Some engine → ⊥
-no_engine left engine none some = cc
-
-module _ (options : Options) (name : List ℕ) (before after : Outside) (shelf : ShelfSeen) where
+module _ (options : Options) (closing : Closing) (before after : Outside) (shelf : ShelfSeen) where
   -- what a run answers that left no engine
   pub unclosed_answers : (ending : Ending) (left : Option Engine) → left ≡ None → RunsNoted (Leaves left) (Run options) before after ending
-      → (status : ℕ) → status ≡ status_of ending → SavedAnswers options name before after shelf shelf status
+      → (status : ℕ) → status ≡ status_of ending → ClosedAnswers options closing before after shelf shelf status
   unclosed_answers ending left none n status of =
-      let r = closed_as (Leaves left) (SavesEngine name shelf shelf status) (λ last ended l. absurd (no_engine left last.engine none l)) options before after ending n in
-      saved_by options name before after after.notes shelf shelf status status (untouched not refl refl refl)
-      (answers_from (Saves name shelf shelf status) (SavesEngine name shelf shelf status) (λ last ended s. s) before after ending (Run options) status (read r.run) r.line of)
+      let K : Timed Engine → Ended → Type 0 = KeepsEngine closing shelf shelf status after.notes after.notes status in
+      let r = closed_as (Leaves left) K (λ last ended l. absurd (no_engine left last.engine none l)) options before after ending n in
+      closed_by options closing before after after.notes shelf shelf status after.notes status status (other not refl refl) (stores_same closing.save status after.notes shelf not)
+      (answers_from (Keeps closing.save shelf shelf status) K (λ last ended k. k.0) before after ending (Run options) status (read r.run) r.line of)
     where
       not_zero : RunsOptions BeginsEngine goes goes_cut engine_clock (Leaves left) options before after ending → status ≡ 0 → ⊥
       not_zero (begun first last ended b host s reads is l) zero = no_engine left last.engine none l
@@ -85,20 +136,23 @@ module _ (options : Options) (name : List ℕ) (before after : Outside) (shelf :
       not = not_zero n.run
 
   -- what is answered where memory wanted before the words were read
-  unread_saved : LeavesAll before after → Notes before.notes after.notes (line_of endings.Memory) → SavedAnswers options name before after shelf shelf 8
-  unread_saved same line =
-      saved_by options name before after after.notes shelf shelf 8 8 (untouched (λ zero. omega (arith, zero)) refl refl refl)
-      (answers_from (Saves name shelf shelf 8) (SavesEngine name shelf shelf 8) (λ last ended s. s) before after endings.Memory (Run options) 8 (unread same refl) line refl)
+  unread_closed : LeavesAll before after → Notes before.notes after.notes (line_of endings.Memory) → ClosedAnswers options closing before after shelf shelf 8
+  unread_closed same line =
+      let K : Timed Engine → Ended → Type 0 = KeepsEngine closing shelf shelf 8 after.notes after.notes 8 in
+      let not : 8 ≡ 0 → ⊥ = λ zero. omega (arith, zero) in
+      closed_by options closing before after after.notes shelf shelf 8 after.notes 8 8 (other not refl refl) (stores_same closing.save 8 after.notes shelf not)
+      (answers_from (Keeps closing.save shelf shelf 8) K (λ last ended k. k.0) before after endings.Memory (Run options) 8 (unread same refl) line refl)
 
 module _ (before after : Outside) (shelf : ShelfSeen) where
-  -- what a run answers that saves nothing
+  -- what a run answers behind which nothing is done
   pub plain_answers : (given : Given) (ending : Ending) (status : ℕ) → RunsNoted Drops given before after ending → status ≡ status_of ending → TopAnswers (Plain given) before after shelf shelf status
   plain_answers given ending status n is = (answers_dropped before after ending given status (read n.run) n.line is, refl)
 
   -- what is answered where memory wanted before the words were read
   pub unread_answers : (asked : Asked) (status : ℕ) → LeavesAll before after → Notes before.notes after.notes (line_of endings.Memory) → status ≡ 8 → TopAnswers asked before after shelf shelf status
   unread_answers (Plain given) status same line is = (answers_dropped before after endings.Memory given status (unread same refl) line is, refl)
-  unread_answers (Saved options name) status same line is = subst (SavedAnswers options name before after shelf shelf) (sym is) (unread_saved options name before after shelf same line)
+  unread_answers (Closed options closing) status same line is =
+      subst (ClosedAnswers options closing before after shelf shelf) (sym is) (unread_closed options closing before after shelf same line)
 
 -- what is answered to what was read is answered to what was asked for
 pub asked_answers : (asked : Asked) (taken shown : words.Asked) (before after : Outside) (shelf shelf' : ShelfSeen) (status : ℕ) → asked ≡ asked_read taken → taken ≡ shown

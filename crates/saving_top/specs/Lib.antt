@@ -1,6 +1,6 @@
 pub mod Asked
 pub mod AskedRead
-pub mod Saving
+pub mod Closing
 pub mod TopAnswers
 pub mod Ends
 pub mod Laws

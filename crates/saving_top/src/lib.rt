@@ -1,9 +1,9 @@
-//! A run that may be saved, from its words on: serves as a run does that saves nothing, and then writes the world that is left
-//! into the file that the words name.
+//! A run behind which more may be done, from its words on: serves as other runs do, and then tells what stands in the slabs, and
+//! writes the world that is left into a file, where the words ask for that.
 #![tactic(auto)]
 
+mod closing;
 pub mod laws;
 pub mod process;
-mod saving;
 pub mod top_call;
 pub mod words;

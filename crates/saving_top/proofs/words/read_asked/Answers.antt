@@ -2,11 +2,11 @@ use Rattle.std.proofs.Common.{sym, ◌∙◌, map, subst}
 use Rattle.std.specs.Prelude.{string_bytes}
 use Rattle.program_top.proofs.Readings.{found_some, found_none}
 use Rattle.program_top.specs.WordsRead.{IsPlainCommand}
-use Rattle.saving_top.proofs.Readings.{asked_taken, asked_refused, plain_saving}
+use Rattle.saving_top.proofs.Readings.{asked_taken, asked_refused, plain_closing}
 use Rattle.saving_top.proofs.words.read_asked.Goals as goal
 
 pub matched-requires : goal.matched-requires
-matched-requires c = subst IsPlainCommand (sym c.in_ok-command.ensures) plain_saving
+matched-requires c = subst IsPlainCommand (sym c.in_ok-command.ensures) plain_closing
 
 pub returns-in-Ok-Some-clause-asked : goal.returns-in-Ok-Some-clause-asked
 returns-in-Ok-Some-clause-asked c =
