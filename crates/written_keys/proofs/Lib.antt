@@ -1,0 +1,5 @@
+pub mod Base
+pub mod Values
+pub mod Collections
+pub mod Staying
+pub mod Lists
