@@ -1,4 +1,7 @@
 pub mod Lists
+pub mod Passing
+pub mod Marking
+pub mod Untouched
 pub mod Serving
 pub mod Looking
 pub mod Rooming

@@ -1,6 +1,6 @@
 //! What a session is answered (Redis documentation, "Transactions").
 
-ghost use Rattle.std.specs.Prelude.{◌≡◌, ◌++◌, ◌∷◌, [], map, drop, None, Some, false, max, IfOk};
+ghost use Rattle.std.specs.Prelude.{◌≡◌, ◌≢◌, ◌++◌, ◌∷◌, [], map, drop, None, Some, false, max, IfOk};
 ghost use Rattle.plain_world.specs.Parts.{IsReply};
 ghost use Rattle.plain_model.specs.Meant.{asks_to_quit};
 ghost use Rattle.plain_sessions.specs.Transactions.{asked_of, ok};
@@ -19,11 +19,22 @@ use resp_frames::Request;
 use serving::Done;
 use std::alloc::{AllocError, Global};
 
-/// What a request led to, and whether a command was run.
+/// What was run.
+#[derive(Clone, Copy)]
+pub enum Ran {
+    Nothing,
+    /// The request, at once.
+    Request,
+    /// Queued requests.
+    Queue,
+}
+
+/// What a request led to, what was run, and in which database a request was.
 #[derive(Drop)]
 pub struct Answered {
     pub done: Done,
-    pub ran: bool,
+    pub ran: Ran,
+    pub db: usize,
 }
 
 // A reply of one part, for which nothing was run.
@@ -31,7 +42,7 @@ fn told(alloc: Global, part: Part) -> Result<Answered, Memory>
     requires { IsReply (part ∷ []) }
     ensures reply { IfOk result (λ answered. answered.done.reply ≡ part ∷ []) }
     ensures quit { IfOk result (λ answered. answered.done.quit ≡ false) }
-    ensures ran { IfOk result (λ answered. answered.ran ≡ false) }
+    ensures ran { IfOk result (λ answered. answered.ran ≡ Ran.Nothing) }
 {
     let mut parts = Parts::new(alloc);
     parts.push(part)?;
@@ -40,7 +51,8 @@ fn told(alloc: Global, part: Part) -> Result<Answered, Memory>
             reply: parts.into_reply(),
             quit: false,
         },
-        ran: false,
+        ran: Ran::Nothing,
+        db: 0,
     })
 }
 
@@ -57,12 +69,18 @@ fn run_one<E: DeskEngine>(
     ensures quit { IfOk result (λ answered. answered.done.quit ≡ asks_to_quit request.now) }
     ensures within { IfOk result (λ answered. IsWithin session.new) }
     ensures alive { IfOk result (λ answered. E.spent engine.new ≡ false) }
-    ensures ran { IfOk result (λ answered. answered.ran ≡ false → engine.new ≡ engine.old) }
+    ensures ran { IfOk result (λ answered. answered.ran ≡ Ran.Nothing → engine.new ≡ engine.old) }
+    ensures request { IfOk result (λ answered. answered.ran ≡ Ran.Request → E.executes moment (E.model.choose engine.old answered.db) request.now answered.done.reply engine.new) }
 {
-    engine.select(session.db);
+    let db = session.db;
+    engine.select(db);
     let done = engine.execute(request, moment)?;
     session.db = engine.db();
-    Ok(Answered { done, ran: true })
+    Ok(Answered {
+        done,
+        ran: Ran::Request,
+        db,
+    })
 }
 
 // Runs the queued commands at once, in the session's database; without any nothing is done.
@@ -80,7 +98,8 @@ fn run_queue<E: DeskEngine>(
     ensures quit { IfOk result (λ answered. answered.done.quit ≡ false) }
     ensures within { IfOk result (λ answered. IsWithin session.new) }
     ensures alive { IfOk result (λ answered. E.spent engine.new ≡ false) }
-    ensures ran { IfOk result (λ answered. answered.ran ≡ false → engine.new ≡ engine.old) }
+    ensures ran { IfOk result (λ answered. answered.ran ≡ Ran.Nothing → engine.new ≡ engine.old) }
+    ensures queue { IfOk result (λ answered. answered.ran ≢ Ran.Request) }
 {
     session.close();
     if queue.len() == 0 {
@@ -94,7 +113,8 @@ fn run_queue<E: DeskEngine>(
     session.db = engine.db();
     Ok(Answered {
         done: Done { reply, quit: false },
-        ran: true,
+        ran: Ran::Queue,
+        db: 0,
     })
 }
 
@@ -113,7 +133,8 @@ fn exec<E: DeskEngine>(
     ensures quit { IfOk result (λ answered. answered.done.quit ≡ false) }
     ensures within { IfOk result (λ answered. IsWithin session.new) }
     ensures alive { IfOk result (λ answered. E.spent engine.new ≡ false) }
-    ensures ran { IfOk result (λ answered. answered.ran ≡ false → engine.new ≡ engine.old) }
+    ensures ran { IfOk result (λ answered. answered.ran ≡ Ran.Nothing → engine.new ≡ engine.old) }
+    ensures queue { IfOk result (λ answered. answered.ran ≢ Ran.Request) }
 {
     if session.is_spoilt {
         session.close();
@@ -141,18 +162,11 @@ fn watch<E: DeskEngine>(
         (looks E.told session.old.watched.items ++ map (watch (seen E.model (max (E.model.last engine.now) moment) engine.now) session.old.db) (drop 1 request.now))) }
     ensures reply { IfOk result (λ answered. answered.done.reply ≡ ok) }
     ensures quit { IfOk result (λ answered. answered.done.quit ≡ false) }
-    ensures ran { IfOk result (λ answered. answered.ran ≡ false) }
+    ensures ran { IfOk result (λ answered. answered.ran ≡ Ran.Nothing) }
     ensures within { IfOk result (λ answered. IsWithin session.new) }
 {
     let late = engine.moment().max(moment);
-    watch_keys(
-        alloc,
-        engine,
-        &mut session.watched,
-        session.db,
-        request,
-        late,
-    )?;
+    watch_keys(alloc, engine, session, request, late)?;
     let answered = told(alloc, Part::Simple(Line::ok()))?;
     Ok(answered)
 }
@@ -173,7 +187,8 @@ fn answer_outside<E: DeskEngine>(
     ensures quit { IfOk result (λ answered. answered.done.quit ≡ asks_to_quit request.now) }
     ensures within { IfOk result (λ answered. IsWithin session.new) }
     ensures alive { IfOk result (λ answered. E.spent engine.new ≡ false) }
-    ensures ran { IfOk result (λ answered. answered.ran ≡ false → engine.new ≡ engine.old) }
+    ensures ran { IfOk result (λ answered. answered.ran ≡ Ran.Nothing → engine.new ≡ engine.old) }
+    ensures request { IfOk result (λ answered. answered.ran ≡ Ran.Request → E.executes moment (E.model.choose engine.old answered.db) request.now answered.done.reply engine.new) }
 {
     match asks_of(request) {
         Asks::Multi => {
@@ -205,7 +220,8 @@ fn enqueue<E: DeskEngine>(
     ensures quit { IfOk result (λ answered. answered.done.quit ≡ asks_to_quit request.now) }
     ensures within { IfOk result (λ answered. IsWithin session.new) }
     ensures alive { IfOk result (λ answered. E.spent engine.new ≡ false) }
-    ensures ran { IfOk result (λ answered. answered.ran ≡ false → engine.new ≡ engine.old) }
+    ensures ran { IfOk result (λ answered. answered.ran ≡ Ran.Nothing → engine.new ≡ engine.old) }
+    ensures request { IfOk result (λ answered. answered.ran ≡ Ran.Request → E.executes moment (E.model.choose engine.old answered.db) request.now answered.done.reply engine.new) }
 {
     match queueing_of(alloc, request)? {
         Queueing::Quits => {
@@ -242,7 +258,8 @@ fn answer_inside<E: DeskEngine>(
     ensures quit { IfOk result (λ answered. answered.done.quit ≡ asks_to_quit request.now) }
     ensures within { IfOk result (λ answered. IsWithin session.new) }
     ensures alive { IfOk result (λ answered. E.spent engine.new ≡ false) }
-    ensures ran { IfOk result (λ answered. answered.ran ≡ false → engine.new ≡ engine.old) }
+    ensures ran { IfOk result (λ answered. answered.ran ≡ Ran.Nothing → engine.new ≡ engine.old) }
+    ensures request { IfOk result (λ answered. answered.ran ≡ Ran.Request → E.executes moment (E.model.choose engine.old answered.db) request.now answered.done.reply engine.new) }
 {
     match asks_of(request) {
         Asks::Multi => {
@@ -283,7 +300,8 @@ pub fn answer_session<E: DeskEngine>(
     ensures quit { IfOk result (λ answered. answered.done.quit ≡ asks_to_quit request.now) }
     ensures within { IfOk result (λ answered. IsWithin session.new) }
     ensures alive { IfOk result (λ answered. E.spent engine.new ≡ false) }
-    ensures ran { IfOk result (λ answered. answered.ran ≡ false → engine.new ≡ engine.old) }
+    ensures ran { IfOk result (λ answered. answered.ran ≡ Ran.Nothing → engine.new ≡ engine.old) }
+    ensures request { IfOk result (λ answered. answered.ran ≡ Ran.Request → E.executes moment (E.model.choose engine.old answered.db) request.now answered.done.reply engine.new) }
 {
     match session.queue.take() {
         None => answer_outside(alloc, engine, session, request, moment),

@@ -8,6 +8,7 @@ mod engine;
 mod over_engine;
 mod session;
 mod watching;
+mod writing;
 
 pub use desk::Desk;
 pub use engine::DeskEngine;

@@ -1,5 +1,5 @@
 -- What stands at a key where something is put at another, or another is removed.
-use Rattle.std.proofs.Common.{◌≡◌, inl, inr, ℕ, Bool, true, false, List, [], ◌∷◌, Option, None, Some, refl, sym, ap, ◌∙◌, subst}
+use Rattle.std.proofs.Common.{◌≡◌, inl, inr, ℕ, Bool, true, false, List, ◌∷◌, Option, None, Some, refl, sym, ap, ◌∙◌, subst}
 use Rattle.std.specs.Prelude.{if◌then◌else◌}
 use Rattle.std.specs.List.{Contains}
 use Rattle.std.proofs.lemmas.Bool.{cond-true, cond-false, eq-eqb, ne_eqb, cases_eq, cases_Bool}
@@ -10,8 +10,8 @@ use Rattle.std.specs.Cmp.Lexicographic.{slice_cmp, nat_list_cmp_total}
 use Rattle.std.specs.FinMap.{get, insert, get-remove, get-insert, slice_cmp-IsAntisymmetric, nat_cmp-IsAntisymmetric}
 use Rattle.std.specs.FinMap as map
 use Rattle.plain_world.proofs.Containing.{contains_first, contains_later}
-use Rattle.plain_world.specs.Worlds.{World, Database, Value, Entry, look, look_in, put, put_in, remove, stand, with_base, in_time, selecting}
-use Rattle.plain_model.specs.Outcomes.{Outcome, refused}
+use Rattle.plain_world.specs.Worlds.{World, Database, Value, Entry, look_in, put, put_in, remove, stand, with_base, in_time, selecting}
+use Rattle.plain_model.specs.Outcomes.{Outcome}
 use Rattle.plain_model.specs.OfType.{on_type, of_type}
 use Rattle.written_keys.specs.Written.{Place, at}
 

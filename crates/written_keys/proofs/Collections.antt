@@ -1,8 +1,8 @@
 -- What commands on lists, sets, hashes, sorted sets and streams leave where they don't write.
-use Rattle.std.proofs.Common.{◌≡◌, ℕ, Bool, true, false, List, [], ◌∷◌, Option, None, Some, Result, Ok, Err, refl, sym, ap, ◌∙◌, subst}
-use Rattle.std.specs.Prelude.{ℤ, pos, negsuc, is_some, ◌==◌, bytes_eq, length, ◌-◌, ◌+ℤ◌, codes, if◌then◌else◌}
+use Rattle.std.proofs.Common.{◌≡◌, ℕ, Bool, List, [], ◌∷◌, Option, None, Some, Result, Ok, Err, sym, ap, ◌∙◌, subst}
+use Rattle.std.specs.Prelude.{ℤ, is_some, ◌==◌, bytes_eq, length, ◌+ℤ◌}
 use Rattle.std.specs.List.{list_any}
-use Rattle.std.specs.FinMap.{FinMap, empty, get, insert, len, entries, contains_key}
+use Rattle.std.specs.FinMap.{empty, get, insert, len, entries, contains_key}
 use Rattle.std.specs.FinMap as finite
 use Rattle.int_text.specs.Decimal.{is_i64, canonical}
 use Rattle.stream_groups.specs.Groups.{Id, Group}
@@ -10,8 +10,8 @@ use Rattle.plain_world.specs.Streams.{Stream}
 use Rattle.plain_world.specs.Worlds.{World, Value, ListOf, SetOf, HashOf, SortedOf, StreamOf, Entry, look, look_in, put, remove, deadline_of}
 use Rattle.plain_world.specs.declared.refusal.Refusal.{Refusal}
 use Rattle.plain_world.specs.declared.reply.Part.{Part}
-use Rattle.plain_model.specs.Outcomes.{Outcome, refused, leaves, tells, IsOutcome}
-use Rattle.plain_model.specs.OfType.{on_type, keep, may_tell, may_tell_of, may_do, may_do_of, list_in, set_in, hash_in, zset_in, stream_in}
+use Rattle.plain_model.specs.Outcomes.{Outcome}
+use Rattle.plain_model.specs.OfType.{keep, may_tell, may_tell_of, may_do, may_do_of, list_in, set_in, hash_in, zset_in, stream_in}
 use Rattle.plain_model.specs.ListSteps as list_steps
 use Rattle.plain_model.specs.ListSteps.{Elements, on_list, keep_list, list_outcome, from_end, added, or_none, move_first, move_there, move_element}
 use Rattle.plain_model.specs.SetSteps as set_steps
@@ -41,7 +41,7 @@ use Rattle.plain_model.specs.declared.stream_command.Trim.{Trim}
 use Rattle.plain_model.specs.declared.stream_command.NewId.{NewId}
 use Rattle.plain_model.specs.declared.stream_command.AppendOptions.{AppendOptions}
 use Rattle.plain_model.specs.declared.zset_command.Direction.{Direction}
-use Rattle.written_keys.specs.Written.{Place, at, asked_at, list_places, set_places, hash_places, zset_places, stream_places}
+use Rattle.written_keys.specs.Written.{at, asked_at, list_places, set_places, hash_places, zset_places, stream_places}
 use Rattle.written_keys.proofs.Base.{Stays, Apart, Off, Leaves, apart_first, off_rest, none, onward, put_stays, remove_stays, if_stays, if_leaves, on_type_leaves}
 
 module _ (d : ℕ) (q : List ℕ) where

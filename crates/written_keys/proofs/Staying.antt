@@ -1,6 +1,6 @@
 -- What a command leaves where it doesn't write.
-use Rattle.std.proofs.Common.{◌≡◌, inl, inr, ℕ, ◌+◌, List, [], ◌∷◌, Option, refl, sym, ap, ◌∙◌}
-use Rattle.plain_world.specs.Worlds.{World, look_in, no_keys, with_base, Database}
+use Rattle.std.proofs.Common.{◌≡◌, inl, inr, ℕ, List, ap, ◌∙◌}
+use Rattle.plain_world.specs.Worlds.{World, look_in, Database}
 use Rattle.std.specs.FinMap.{get}
 use Rattle.std.proofs.lemmas.Bool.{cond-false, ne_eqb}
 use Rattle.plain_world.specs.declared.reply.Part.{Part}
@@ -10,7 +10,7 @@ use Rattle.plain_model.specs.declared.command.Command.{Command}
 use Rattle.plain_model.specs.declared.command.Command.TheVariants.{Strings, Lists, Sets, Hashes, Zsets, Streams, Keys, Connection}
 use Rattle.plain_model.specs.declared.connection.ConnectionCommand.{ConnectionCommand}
 use Rattle.plain_model.specs.declared.connection.ConnectionCommand.TheVariants as connection
-use Rattle.written_keys.specs.Written.{at, IsEmptied, emptied_here, IsWritten}
+use Rattle.written_keys.specs.Written.{IsEmptied, emptied_here, IsWritten}
 use Rattle.written_keys.proofs.Values.{strings_leave, keys_stay}
 use Rattle.written_keys.proofs.Collections.{lists_leave, sets_stay, hashes_stay, zsets_stay, streams_leave}
 

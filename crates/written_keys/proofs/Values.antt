@@ -1,17 +1,16 @@
 -- What commands on strings, on keys and on the server leave where they don't write.
 use Rattle.std.proofs.Common.{◌≡◌, ℕ, Bool, true, false, List, [], ◌∷◌, Option, None, Some, refl, sym, ap, ◌∙◌, subst}
-use Rattle.std.specs.Prelude.{ℤ, pos, int_lt, is_some, ◌==◌, ◌&&◌, not, bytes_eq, length, codes, nat_le, ◌++◌, ◌+ℤ◌, ◌-ℤ◌, if◌then◌else◌}
+use Rattle.std.specs.Prelude.{ℤ, pos, int_lt, is_some, ◌==◌, ◌&&◌, not, bytes_eq, length, nat_le, ◌++◌, ◌+ℤ◌, ◌-ℤ◌}
 use Rattle.int_text.specs.Decimal.{is_i64, canonical}
 use Rattle.plain_world.specs.Words.{longest}
-use Rattle.plain_world.specs.Worlds.{World, Value, Str, Entry, look, look_in, put, put_in, remove, stand, deadline_of, no_keys, selecting}
-use Rattle.plain_world.specs.declared.refusal.Refusal.TheVariants.{InvalidExpireTime, ValueOutOfRange, Overflow, SameSourceAndDestination, NoSuchKey}
+use Rattle.plain_world.specs.Worlds.{World, Value, Str, Entry, look, look_in, put, put_in, remove, stand, deadline_of}
+use Rattle.plain_world.specs.declared.refusal.Refusal.TheVariants.{InvalidExpireTime, ValueOutOfRange, Overflow, SameSourceAndDestination}
 use Rattle.plain_world.specs.declared.reply.Part.{Part}
-use Rattle.plain_world.specs.declared.reply.Part.TheVariants.{Number, Null, Simple}
+use Rattle.plain_world.specs.declared.reply.Part.TheVariants.{Number}
 use Rattle.plain_model.specs.Outcomes.{Outcome, refused, leaves, tells}
 use Rattle.plain_model.specs.Deadlines.{with_due, due, from_zero, lasts_until, lasts, expire, persist}
 use Rattle.plain_model.specs.StringSteps.{with_string, on_string, change, replace, replace_all, any_there, allows, with_lifetime, set, append, set_range, written_over, or_empty, number_at, counted, count_on, count, set_outcome, set_for, getex_outcome, string_outcome, or_null, ok}
-use Rattle.plain_model.specs.KeySteps.{counts, removed, remove_all, permits, expire_where_permitted, expire_outcome, rename, rename_outcome, renamenx_outcome, or_selected, copy, copy_outcome, move, move_outcome, key_outcome, may_keys}
-use Rattle.plain_model.specs.ConnectionSteps.{connection_outcome, may_connection}
+use Rattle.plain_model.specs.KeySteps.{counts, remove_all, permits, expire_where_permitted, expire_outcome, rename, rename_outcome, renamenx_outcome, or_selected, copy, copy_outcome, move, move_outcome, key_outcome, may_keys}
 use Rattle.plain_model.specs.declared.command.Condition.{Condition}
 use Rattle.plain_model.specs.declared.times.Time.{Time}
 use Rattle.plain_model.specs.declared.times.TimeUnit.{TimeUnit}

@@ -253,11 +253,7 @@ fn places_of_keys<'a>(
 
 /// The places that a command writes by their keys, where a database is selected: what it writes there and else isn't said, and
 /// it may leave them. `Memory` where memory was refused.
-pub fn places_of<'a>(
-    alloc: Global,
-    command: &Command<'a>,
-    db: usize,
-) -> Result<Places<'a>, Memory>
+pub fn places_of<'a>(alloc: Global, command: &Command<'a>, db: usize) -> Result<Places<'a>, Memory>
     ensures { IfOk result (λ list. list.items ≡ places db command.now) }
 {
     match command {
