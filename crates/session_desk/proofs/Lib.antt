@@ -4,5 +4,6 @@ pub mod Marking
 pub mod Untouched
 pub mod Serving
 pub mod Looking
+pub mod Gathering
 pub mod Rooming
 pub mod OverEngine

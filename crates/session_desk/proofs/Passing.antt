@@ -1,9 +1,9 @@
 -- Watched keys that are gone over.
-use Rattle.std.proofs.Common.{◌≡◌, inl, inr, ℕ, ◌+◌, ◌<◌, Bool, true, false, List, [], ◌∷◌, ◌++◌, take, length, get_or, set, Option, refl, sym, ap, ◌∙◌, subst, arith}
+use Rattle.std.proofs.Common.{◌≡◌, inl, inr, ℕ, ◌+◌, ◌<◌, Bool, true, false, List, [], ◌∷◌, ◌++◌, map, take, length, get_or, set, Option, refl, sym, ap, ◌∙◌, subst, arith}
 use Rattle.std.specs.Prelude.{◌≢◌, ◌⊎◌}
 use Rattle.std.specs.List.{Contains}
 use Rattle.std.proofs.lemmas.Bool.{cases_eq}
-use Rattle.std.proofs.lemmas.List.{length-set, get_or-set_same, get_or-set_other, take_more}
+use Rattle.std.proofs.lemmas.List.{length-set, get_or-set_same, get_or-set_other, take_more, map_push}
 use Rattle.std.proofs.lemmas.List.Elements.{Contains-push_cases}
 use Rattle.plain_world.specs.Worlds.{Entry}
 use Rattle.session_desk.specs.Kept.{Look, no_look}
@@ -14,6 +14,13 @@ use Rattle.session_desk.specs.Passing.{Passed, left, seen, EachPassed}
 pub contains_more : {A : Type 0} (xs : List A) (i : ℕ) (x y : A) → i < length xs → x ≡ get_or xs i x → Contains (take (i + 1) xs) y → Contains (take i xs) y ⊎ (x ≡ y)
 contains_more xs i x y inside is c =
     Contains-push_cases (take i xs) x y (subst (λ l. Contains l y) (take_more xs i x inside ∙ ap (λ z. take i xs ++ z ∷ []) (sym is)) c)
+
+-- the same of what they are mapped to
+pub mapped_cases : {A B : Type 0} (f : A → B) (xs : List A) (i : ℕ) (x : A) (y : B) → i < length xs → x ≡ get_or xs i x → Contains (map f (take (i + 1) xs)) y
+    → Contains (map f (take i xs)) y ⊎ (f x ≡ y)
+mapped_cases f xs i x y inside is c =
+    Contains-push_cases (map f (take i xs)) (f x) y (subst (λ l. Contains l y)
+    (ap (map f) (take_more xs i x inside ∙ ap (λ z. take i xs ++ z ∷ []) (sym is)) ∙ map_push f (take i xs) x) c)
 
 module _ (sees : ℕ → List ℕ → Option Entry) where
   -- a look after a look is one

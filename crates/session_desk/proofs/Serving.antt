@@ -16,13 +16,14 @@ use Rattle.session_desk.specs.Watching.{Each, Reviews, AreReviewed, IsSilent}
 use Rattle.session_desk.specs.Passing.{Passed, left, seen}
 use Rattle.written_keys.specs.Written.{Place}
 use Rattle.written_keys.specs.declared.emptying.Emptied.{Emptied}
+use Rattle.session_desk.specs.Answered.{RanQueue}
 use Rattle.session_desk.specs.Writing.{IsIn, MayHaveWritten}
 use Rattle.session_desk.specs.declared.answering.Ran.{Ran}
 use Rattle.session_desk.specs.declared.answering.Ran.TheVariants as rans
 use Rattle.session_desk.specs.Desks.{Glances, left_out, looked, AnswersOf, Serves}
 use Rattle.session_desk.proofs.Lists.{each_at}
 use Rattle.session_desk.proofs.Passing.{passed_weaker}
-use Rattle.session_desk.proofs.Untouched.{untouched}
+use Rattle.session_desk.proofs.Untouched.{untouched, queue_stays}
 
 -- a session that watches nothing
 blank : (R : Look → Look → Type 0) → Reviews R new_kept new_kept
@@ -59,25 +60,32 @@ module _ {E : Type 0} (v : View E) (executes : ℕ → E → Words → List Part
   abbrev after : ℕ → List ℕ → Option Entry
   after = seen_in v (max (v.last new) moment) new
 
+  -- what was run
+  pub record Told (ran : Ran) (db : ℕ) (queue : Option (List (List ℕ))) : Type 0 where
+    pub nothing : ran ≡ rans.Nothing → new ≡ old
+    pub request : ran ≡ rans.Request → executes moment (v.choose old db) words reply new
+    pub queued : ran ≡ rans.Queue → RanQueue v executes moment old queue new
+
   -- what needn't be looked at stands as it stood
-  glanced : (ran : Ran) (db : ℕ) → (ran ≡ rans.Nothing → new ≡ old) → (ran ≡ rans.Request → executes moment (v.choose old db) words reply new) → (one one' : Look)
-      → Passed (MayHaveWritten ran db words one.db one.key) after one one' → Glances before after one one'
-  glanced ran db same x one one' (seen l) = looked l
-  glanced rans.Nothing db same x one one' (left off is) = left_out (ap (λ (e : E). seen_in v (max (v.last e) moment) e one.db one.key) (same refl)) is
-  glanced rans.Request db same x one one' (left off is) = left_out (untouched v executes works quits modelled moment old new db words reply (x refl) one.db one.key off) is
-  glanced rans.Queue db same x one one' (left off is) = absurd (off tt)
+  glanced : (ran : Ran) (db : ℕ) (queue : Option (List (List ℕ))) → Told ran db queue → (one one' : Look)
+      → Passed (MayHaveWritten ran db words queue one.db one.key) after one one' → Glances before after one one'
+  glanced ran db queue t one one' (seen l) = looked l
+  glanced rans.Nothing db queue t one one' (left off is) = left_out (ap (λ (e : E). seen_in v (max (v.last e) moment) e one.db one.key) (t.nothing refl)) is
+  glanced rans.Request db queue t one one' (left off is) = left_out (untouched v executes works quits modelled moment old new db words reply (t.request refl) one.db one.key off) is
+  glanced rans.Queue db queue t one one' (left off is) = left_out (queue_stays v executes works quits modelled moment old new queue (t.queued refl) one.db one.key off) is
 
   -- watched keys are looked at where something may have been written
-  pub serves_passed : (sessions : ℕ → Kept) (mids news : List Kept) (number : ℕ) (ran : Ran) (db : ℕ) → AnswersOf v executes moment old new sessions (session_at mids) number words reply
-      → (ran ≡ rans.Nothing → new ≡ old) → (ran ≡ rans.Request → executes moment (v.choose old db) words reply new)
-      → AreReviewed (λ one one'. Passed (MayHaveWritten ran db words one.db one.key) after one one') mids news
+  pub serves_passed : (sessions : ℕ → Kept) (mids news : List Kept) (number : ℕ) (ran : Ran) (db : ℕ) (queue : Option (List (List ℕ)))
+      → AnswersOf v executes moment old new sessions (session_at mids) number words reply → Told ran db queue
+      → AreReviewed (λ one one'. Passed (MayHaveWritten ran db words queue one.db one.key) after one one') mids news
       → Serves v executes moment old new sessions (session_at news) number words reply
-  serves_passed sessions mids news number ran db a same x passed = record {
+  serves_passed sessions mids news number ran db queue a t passed = record {
     request = a.request;
     kept = a.kept;
     answers = a.answers;
     reviews = λ other. subst (λ (s : Kept). Reviews (Glances before after) s (session_at news other)) (a.are other)
-        (weaker (λ one one'. Passed (MayHaveWritten ran db words one.db one.key) after one one') (Glances before after) (glanced ran db same x) (session_at mids other) (session_at news other) (passed other));
+        (weaker (λ one one'. Passed (MayHaveWritten ran db words queue one.db one.key) after one one') (Glances before after) (glanced ran db queue t) (session_at mids other) (session_at news other)
+        (passed other));
   }
 
 -- sessions of which nothing needs a look

@@ -1,8 +1,13 @@
 -- Watched keys that were gone over: they were looked at, or left out.
-use Rattle.std.specs.Prelude.{◌≡◌, ℕ, ◌<◌, List, length, Option, slice_index_or}
+use Rattle.std.specs.Prelude.{◌≡◌, ℕ, ◌<◌, List, length, Option, None, Some, slice_index_or}
 use Rattle.plain_world.specs.Worlds.{Entry}
 use Rattle.session_desk.specs.Kept.{Look, no_look}
 use Rattle.session_desk.specs.Watching.{IsLooked}
+
+-- a database is this one, where one is told
+abbrev pub IsOf : Option ℕ → ℕ → Type 0
+IsOf None db = Unit {0}
+IsOf (Some number) db = db ≡ number
 
 -- a watched key was looked at, or left out where it needn't be
 pub data Passed (needs : Type 0) (sees : ℕ → List ℕ → Option Entry) (one new : Look) : Type 0 where

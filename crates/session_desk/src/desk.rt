@@ -9,16 +9,19 @@ ghost use Rattle.session_desk.specs.Engines.{seen};
 ghost use Rattle.session_desk.specs.Kept.{all_kept, session_at, new_kept, turned};
 ghost use Rattle.session_desk.specs.Watching.{AreReviewed, IsWithin, IsSilent, NoneWatch};
 ghost use Rattle.session_desk.specs.Passing.{Passed};
-ghost use Rattle.session_desk.specs.Writing.{IsAmong, IsMeant, MayHaveWritten};
+ghost use Rattle.session_desk.specs.Writing.{IsAmong, IsMeant, SomeWrite, MayHaveWritten};
+ghost use Rattle.session_desk.specs.Answered.{RanQueue};
 ghost use Rattle.session_desk.specs.Desks.{AnswersOf, Serves, DeskAnswers, DeskRests};
 
 use crate::answering::{Answered, Ran, answer_session};
 use crate::engine::DeskEngine;
+use crate::naming::written_behind;
 use crate::session::Session;
 use crate::watching::review_all;
 use crate::writing::{Written, written_by};
 use outside::Plan;
 use plain_world::Memory;
+use request_queue::Queue;
 use resp_frames::Request;
 use serving::{Done, Server};
 use session_server::Sessions;
@@ -103,6 +106,7 @@ fn answer_of<E: DeskEngine>(
     ensures alive { IfOk result (λ answered. E.spent engine.new ≡ false) }
     ensures ran { IfOk result (λ answered. answered.ran ≡ Ran.Nothing → engine.new ≡ engine.old) }
     ensures request { IfOk result (λ answered. answered.ran ≡ Ran.Request → E.executes moment (E.model.choose engine.old answered.db) request.now answered.done.reply engine.new) }
+    ensures queue { IfOk result (λ answered. answered.ran ≡ Ran.Queue → RanQueue E.model E.executes moment engine.old answered.queue engine.new) }
     ensures watches { IfOk result (λ answered. NoneWatch sessions.old.items may_watch.old → NoneWatch sessions.new.items may_watch.new) }
 {
     prove!(request.len() > 0);
@@ -165,34 +169,57 @@ fn review_request<E: DeskEngine>(
     review_written(alloc, engine, sessions, may_watch, &written, moment)
 }
 
+// The same behind queued requests, which were run in whatever databases.
+fn review_queue<E: DeskEngine>(
+    alloc: Global,
+    engine: &E,
+    sessions: &mut Vec<Session<E::Told>>,
+    may_watch: &mut bool,
+    queue: &Option<Queue>,
+    moment: u64,
+) -> Result<(), Memory>
+    requires alive { E.spent engine.now ≡ false }
+    requires within { All IsWithin sessions.old.items }
+    ensures passed { OnOk result (AreReviewed (λ one new. Passed (SomeWrite queue.now one.db one.key) (seen E.model (max (E.model.last engine.now) moment) engine.now) one new) (all_kept E.told sessions.old.items) (all_kept E.told sessions.new.items)) }
+    ensures within { OnOk result (All IsWithin sessions.new.items) }
+    ensures watches { OnOk result (NoneWatch sessions.new.items may_watch.new) }
+{
+    let written = written_behind(alloc, queue)?;
+    review_written(alloc, engine, sessions, may_watch, &written, moment)
+}
+
 // The same behind what was run; where no session watches a key, nothing is looked at.
 fn review_behind<E: DeskEngine>(
     alloc: Global,
     engine: &E,
     sessions: &mut Vec<Session<E::Told>>,
     may_watch: &mut bool,
-    ran: Ran,
+    answered: &Answered,
     request: &Request<'_>,
-    db: usize,
     moment: u64,
 ) -> Result<(), Memory>
     requires alive { E.spent engine.now ≡ false }
     requires within { All IsWithin sessions.old.items }
     requires watches { NoneWatch sessions.old.items may_watch.old }
-    ensures passed { OnOk result (AreReviewed (λ one new. Passed (MayHaveWritten ran db request.now one.db one.key) (seen E.model (max (E.model.last engine.now) moment) engine.now) one new) (all_kept E.told sessions.old.items) (all_kept E.told sessions.new.items)) }
+    ensures passed { OnOk result (AreReviewed (λ one new. Passed (MayHaveWritten answered.now.ran answered.now.db request.now answered.now.queue one.db one.key) (seen E.model (max (E.model.last engine.now) moment) engine.now) one new) (all_kept E.told sessions.old.items) (all_kept E.told sessions.new.items)) }
     ensures within { OnOk result (All IsWithin sessions.new.items) }
     ensures watches { OnOk result (NoneWatch sessions.new.items may_watch.new) }
 {
     if !*may_watch {
         return Ok(());
     }
-    match ran {
+    match answered.ran {
         Ran::Nothing => Ok(()),
-        Ran::Request => review_request(alloc, engine, sessions, may_watch, request, db, moment),
-        Ran::Queue => {
-            let written = Written::anywhere(alloc);
-            review_written(alloc, engine, sessions, may_watch, &written, moment)
-        }
+        Ran::Request => review_request(
+            alloc,
+            engine,
+            sessions,
+            may_watch,
+            request,
+            answered.db,
+            moment,
+        ),
+        Ran::Queue => review_queue(alloc, engine, sessions, may_watch, &answered.queue, moment),
     }
 }
 
@@ -217,14 +244,7 @@ fn serve<E: DeskEngine>(
 {
     let answered = answer_of(alloc, engine, sessions, may_watch, number, request, moment)?;
     review_behind(
-        alloc,
-        engine,
-        sessions,
-        may_watch,
-        answered.ran,
-        request,
-        answered.db,
-        moment,
+        alloc, engine, sessions, may_watch, &answered, request, moment,
     )?;
     Ok(answered.done)
 }

@@ -5,6 +5,7 @@ mod answering;
 mod asking;
 mod desk;
 mod engine;
+mod naming;
 mod over_engine;
 mod session;
 mod watching;

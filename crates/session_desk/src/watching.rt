@@ -1,13 +1,13 @@
 //! Watched keys (Redis documentation, "Transactions", "Optimistic locking using check-and-set").
 
-ghost use Rattle.std.specs.Prelude.{◌≡◌, ◌<◌, ◌≤◌, ◌++◌, ◌∷◌, [], false, map, drop, IfOk, OnOk};
+ghost use Rattle.std.specs.Prelude.{◌≡◌, ◌↔◌, ◌<◌, ◌≤◌, ◌++◌, ◌∷◌, [], false, map, drop, IfOk, OnOk, IsTrue};
 ghost use Rattle.std.specs.List.{All, Contains};
 ghost use Rattle.written_keys.specs.Written.{at, IsEmptied};
 ghost use Rattle.session_desk.specs.Engines.{seen};
 ghost use Rattle.session_desk.specs.Kept.{new_kept, kept_of, all_kept, looks, look_of, watching};
 ghost use Rattle.session_desk.specs.Watching.{watch, IsChange, Moves, IsLooked, Each, Reviews, AreWithin, IsWithin, watched_keys};
-ghost use Rattle.session_desk.specs.Passing.{Passed, EachPassed};
-ghost use Rattle.session_desk.specs.Writing.{IsAmong};
+ghost use Rattle.session_desk.specs.Passing.{IsOf, Passed, EachPassed};
+ghost use Rattle.session_desk.specs.Writing.{texts_of, IsAmong};
 
 use crate::engine::DeskEngine;
 use crate::session::{Session, Watch};
@@ -122,44 +122,54 @@ fn review_one<E: DeskEngine>(
     Ok(())
 }
 
-// Looks at the one in a place, where there is one, in this database.
+// Whether a database is this one, where one is told.
+fn is_of(number: Option<usize>, db: usize) -> bool
+    ensures { IsTrue result ↔ IsOf number db }
+{
+    match number {
+        None => true,
+        Some(number) => db == number,
+    }
+}
+
+// Looks at the one in a place, where there is one, in this database or in any.
 fn review_place<E: DeskEngine>(
     alloc: Global,
     engine: &E,
     watched: &mut Vec<Watch<E::Told>>,
     place: usize,
-    db: usize,
+    db: Option<usize>,
     moment: u64,
 ) -> Result<(), Memory>
     requires alive { E.spent engine.now ≡ false }
     requires within { AreWithin watched.old.items }
     requires late { E.model.last engine.now ≤ moment }
-    ensures passed { OnOk result (EachPassed (λ k one. (place ≡ k) × (one.db ≡ db)) (seen E.model moment engine.now) (looks E.told watched.old.items) (looks E.told watched.new.items)) }
+    ensures passed { OnOk result (EachPassed (λ k one. (place ≡ k) × IsOf db one.db) (seen E.model moment engine.now) (looks E.told watched.old.items) (looks E.told watched.new.items)) }
     ensures within { OnOk result (AreWithin watched.new.items) }
     ensures keys { OnOk result (watched_keys watched.new.items ≡ watched_keys watched.old.items) }
 {
     if place >= watched.len() {
         return Ok(());
     }
-    if watched[place].db != db {
+    if !is_of(db, watched[place].db) {
         return Ok(());
     }
     review_one(alloc, engine, &mut watched[place], moment)
 }
 
-// Looks at those in these places that are in this database.
+// Looks at those in these places that are in this database, or at all.
 fn review_marked<E: DeskEngine>(
     alloc: Global,
     engine: &E,
     watched: &mut Vec<Watch<E::Told>>,
     places: &[usize],
-    db: usize,
+    db: Option<usize>,
     moment: u64,
 ) -> Result<(), Memory>
     requires alive { E.spent engine.now ≡ false }
     requires within { AreWithin watched.old.items }
     requires late { E.model.last engine.now ≤ moment }
-    ensures passed { OnOk result (EachPassed (λ k one. Contains places.now k × (one.db ≡ db)) (seen E.model moment engine.now) (looks E.told watched.old.items) (looks E.told watched.new.items)) }
+    ensures passed { OnOk result (EachPassed (λ k one. Contains places.now k × IsOf db one.db) (seen E.model moment engine.now) (looks E.told watched.old.items) (looks E.told watched.new.items)) }
     ensures within { OnOk result (AreWithin watched.new.items) }
     ensures keys { OnOk result (watched_keys watched.new.items ≡ watched_keys watched.old.items) }
 {
@@ -169,19 +179,19 @@ fn review_marked<E: DeskEngine>(
     Ok(())
 }
 
-// Looks at those of one key of a database.
+// Looks at those of one key of a database, or of each database.
 fn review_key<E: DeskEngine>(
     alloc: Global,
     engine: &E,
     session: &mut Session<E::Told>,
-    db: usize,
+    db: Option<usize>,
     key: &[u8],
     moment: u64,
 ) -> Result<(), Memory>
     requires alive { E.spent engine.now ≡ false }
     requires within { IsWithin session.old }
     requires late { E.model.last engine.now ≤ moment }
-    ensures passed { OnOk result (EachPassed (λ k one. (db, key.now) ≡ at one.db one.key) (seen E.model moment engine.now) (looks E.told session.old.watched.items) (looks E.told session.new.watched.items)) }
+    ensures passed { OnOk result (EachPassed (λ k one. (key.now ≡ one.key) × IsOf db one.db) (seen E.model moment engine.now) (looks E.told session.old.watched.items) (looks E.told session.new.watched.items)) }
     ensures kept { OnOk result (kept_of E.told session.new ≡ watching (kept_of E.told session.old) (looks E.told session.new.watched.items)) }
     ensures within { OnOk result (IsWithin session.new) }
 {
@@ -205,7 +215,35 @@ fn review_keys<E: DeskEngine>(
     ensures within { OnOk result (IsWithin session.new) }
 {
     for place in places {
-        review_key(alloc, engine, session, place.0, place.1.as_slice(), moment)?;
+        review_key(
+            alloc,
+            engine,
+            session,
+            Some(place.0),
+            place.1.as_slice(),
+            moment,
+        )?;
+    }
+    Ok(())
+}
+
+// Looks at those of these names, in whatever database.
+fn review_names<E: DeskEngine>(
+    alloc: Global,
+    engine: &E,
+    session: &mut Session<E::Told>,
+    names: &[Vec<u8>],
+    moment: u64,
+) -> Result<(), Memory>
+    requires alive { E.spent engine.now ≡ false }
+    requires within { IsWithin session.old }
+    requires late { E.model.last engine.now ≤ moment }
+    ensures passed { OnOk result (EachPassed (λ k one. Contains (texts_of names.now) one.key) (seen E.model moment engine.now) (looks E.told session.old.watched.items) (looks E.told session.new.watched.items)) }
+    ensures kept { OnOk result (kept_of E.told session.new ≡ watching (kept_of E.told session.old) (looks E.told session.new.watched.items)) }
+    ensures within { OnOk result (IsWithin session.new) }
+{
+    for name in names {
+        review_key(alloc, engine, session, None, name, moment)?;
     }
     Ok(())
 }
@@ -315,7 +353,8 @@ fn review<E: DeskEngine>(
         written.emptied,
         written.selected,
         moment,
-    )
+    )?;
+    review_names(alloc, engine, session, &written.names, moment)
 }
 
 /// Looks at the watched keys of each session where something may have been written, and keeps which have changed.

@@ -1,6 +1,6 @@
 //! What a request may have written.
 
-ghost use Rattle.std.specs.Prelude.{◌≡◌, ◌↔◌, [], IfOk, IsTrue};
+ghost use Rattle.std.specs.Prelude.{◌≡◌, ◌↔◌, true, IfOk, IsTrue};
 ghost use Rattle.plain_model.specs.Meant.{meant};
 ghost use Rattle.written_keys.specs.Written.{IsEmptied};
 ghost use Rattle.session_desk.specs.Writing.{places_meant, emptied_meant};
@@ -16,6 +16,8 @@ use written_keys::{Emptied, Places, emptied_by, places_of};
 pub struct Written<'a> {
     /// These keys.
     pub places: Places<'a>,
+    /// And these, in whatever database.
+    pub names: Vec<Vec<u8>>,
     /// And all of these databases.
     pub emptied: Emptied,
     /// The database that was selected.
@@ -29,7 +31,26 @@ impl<'a> Written<'a> {
     {
         Written {
             places: Vec::new(alloc),
+            names: Vec::new(alloc),
             emptied: Emptied::All,
+            selected: 0,
+        }
+    }
+
+    /// Keys of these names in whatever database, or any place.
+    pub fn of_names(alloc: Global, names: Vec<Vec<u8>>, is_anywhere: bool) -> Written<'a>
+        ensures names { result.names ≡ names }
+        ensures emptied { is_anywhere ≡ true → result.emptied ≡ Emptied.All }
+    {
+        let emptied = if is_anywhere {
+            Emptied::All
+        } else {
+            Emptied::Nothing
+        };
+        Written {
+            places: Vec::new(alloc),
+            names,
+            emptied,
             selected: 0,
         }
     }
@@ -48,11 +69,13 @@ pub fn written_by<'a>(
     match read(alloc, request) {
         Ok(command) => Ok(Written {
             places: places_of(alloc, &command, db)?,
+            names: Vec::new(alloc),
             emptied: emptied_by(&command),
             selected: db,
         }),
         Err(ReadingFault::Refused(_)) => Ok(Written {
             places: Vec::new(alloc),
+            names: Vec::new(alloc),
             emptied: Emptied::Nothing,
             selected: db,
         }),

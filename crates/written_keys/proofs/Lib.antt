@@ -3,3 +3,4 @@ pub mod Values
 pub mod Collections
 pub mod Staying
 pub mod Lists
+pub mod Keys

@@ -32,6 +32,10 @@ Place = ℕ × List ℕ
 abbrev pub at : ℕ → List ℕ → Place
 at db key = (db, key)
 
+-- the key of a place
+abbrev pub key_of : Place → List ℕ
+key_of place = place.1
+
 -- these keys of a database
 abbrev pub each_at : ℕ → Words → List Place
 each_at db words = map (at db) words

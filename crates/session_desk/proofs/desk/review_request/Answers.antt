@@ -1,4 +1,4 @@
-use Rattle.std.proofs.Common.{max, sym}
+use Rattle.std.proofs.Common.{inl, max, sym}
 use Rattle.plain_model.specs.Meant.{meant}
 use Rattle.session_desk.specs.Engines.{seen}
 use Rattle.session_desk.specs.Kept.{Look, all_kept}
@@ -20,6 +20,6 @@ returns-clause-passed g c =
     ok_so c.review_written.result
     (λ (r : AreReviewed (λ one new. Passed (IsAmong w one.db one.key) sees one new) olds news).
     all_weaker sees (λ (one : Look). IsAmong w one.db one.key) (λ (one : Look). IsMeant c.args.db c.args.request.now one.db one.key)
-    (λ one. among_is (places_meant c.args.db asked) w.places.items (emptied_meant asked) w.emptied c.args.db w.selected one.db one.key
-    (sym c.in_ok-written.ensures.places) (sym c.in_ok-written.ensures.emptied) (sym c.in_ok-written.ensures.selected)) olds news r)
+    (λ one m. inl (among_is (places_meant c.args.db asked) w.places.items (emptied_meant asked) w.emptied c.args.db w.selected one.db one.key
+    (sym c.in_ok-written.ensures.places) (sym c.in_ok-written.ensures.emptied) (sym c.in_ok-written.ensures.selected) m)) olds news r)
     c.review_written.ensures.passed

@@ -1,11 +1,11 @@
 use Rattle.std.proofs.Common.{◌≡◌, ℕ, ◌+◌, take, refl, sym, ap, ◌∙◌, subst, arith}
-use Rattle.std.specs.Prelude.{◌⊎◌}
+use Rattle.std.specs.Prelude.{◌⊎◌, Some}
 use Rattle.std.specs.List.{Contains}
 use Rattle.std.proofs.lemmas.List.{take_all}
 use Rattle.written_keys.specs.Written.{Place, at}
 use Rattle.session_desk.specs.Engines.{seen}
 use Rattle.session_desk.specs.Kept.{Look, Kept, looks, watching}
-use Rattle.session_desk.specs.Passing.{EachPassed}
+use Rattle.session_desk.specs.Passing.{IsOf, EachPassed}
 use Rattle.session_desk.proofs.Passing.{contains_more, each_left, each_weaker, each_twice}
 use Rattle.session_desk.proofs.watching.review_keys.Goals as goal
 
@@ -31,8 +31,9 @@ loop-place-preserved g c =
     let news = looks told c.review_key.new.session.watched.items in
     let N : ℕ → Look → Type 0 = λ k one. Contains (take i places) (at one.db one.key) in
     let M : ℕ → Look → Type 0 = λ k one. place ≡ at one.db one.key in
+    let R : ℕ → Look → Type 0 = λ k one. (c.as_slice.result.now ≡ one.key) × IsOf (Some place.0) one.db in
     let passed : EachPassed M sees mids news =
-    subst (λ key. EachPassed (λ k one. at place.0 key ≡ at one.db one.key) sees mids news) c.as_slice.ensures c.in_ok-review_key.ensures.passed in
+    each_weaker sees R M mids news (λ k below m. (c.as_slice.ensures ∙ ap (λ (p : Place). p.1) m, sym (ap (λ (p : Place). p.0) m))) c.in_ok-review_key.ensures.passed in
     record {
       passed = each_weaker sees (λ k one. N k one ⊎ M k one) (λ k one. Contains (take (i + 1) places) (at one.db one.key)) olds news
           (λ k below n. contains_more places i place _ c.loop-place-test.true c.place-item.is n)

@@ -3,7 +3,7 @@ use Rattle.std.proofs.lemmas.List.{length-map, get_or-map, map-set}
 use Rattle.session_desk.specs.Engines.{seen}
 use Rattle.session_desk.specs.Kept.{Look, no_look, look_of, looks}
 use Rattle.session_desk.specs.Watching.{IsLooked}
-use Rattle.session_desk.specs.Passing.{Passed, EachPassed, seen as was_seen}
+use Rattle.session_desk.specs.Passing.{IsOf, Passed, EachPassed, seen as was_seen}
 use Rattle.session_desk.proofs.Lists.{ok_so}
 use Rattle.session_desk.proofs.Marking.{same_keys}
 use Rattle.session_desk.proofs.Passing.{each_one}
@@ -21,7 +21,7 @@ returns-clause-passed g c =
     let long = length-map items (look_of told) in
     let inside : place < length (looks told items) = omega (arith, here, long) in
     let at : get_or (looks told items) place no_look ≡ look_of told x = get_or-map (look_of told) items place x no_look here ∙ ap (look_of told) (sym c.index_mut.ensures.value) in
-    let N : ℕ → Look → Type 0 = λ k one. (place ≡ k) × (one.db ≡ c.args.db) in
+    let N : ℕ → Look → Type 0 = λ k one. (place ≡ k) × IsOf c.args.db one.db in
     ok_so c.review_one.result
     (λ (l : IsLooked sees (look_of told x) (look_of told y)).
     subst (EachPassed N sees (looks told items)) (sym (map-set (look_of told) items place y))

@@ -25,4 +25,5 @@ returns-clause-within g c =
       own = c.requires.within.own;
       watched = subst (All (λ w. w.db < 16)) (sym c.in_ok-push.ensures.items) (All-push (λ (w : Watch g.row.E-Told.Denot). w.db < 16) items one c.requires.within.watched c.requires.within.own);
       marked = subst (λ l. AreMarked c.add.new.self l) (sym keys_are) (subst (λ m. AreMarked m (keys ++ key ∷ [])) (sym marks_are) (marked_more marks keys key c.requires.within.marked));
+      queued = c.requires.within.queued;
     }
