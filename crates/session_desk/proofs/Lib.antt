@@ -1,5 +1,9 @@
 pub mod Lists
+pub mod Passing
+pub mod Marking
+pub mod Untouched
 pub mod Serving
 pub mod Looking
+pub mod Gathering
 pub mod Rooming
 pub mod OverEngine

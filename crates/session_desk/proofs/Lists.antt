@@ -1,6 +1,6 @@
 -- Lists whose elements are gone over one by one.
 use Rattle.std.proofs.Common.{◌≡◌, inl, inr, ℕ, zero, suc, ◌+◌, ◌-◌, ◌<◌, ◌≤◌, List, [], ◌∷◌, ◌++◌, map, take, drop, length, get_or, set, refl, sym, ap, ◌∙◌, subst, arith}
-use Rattle.std.specs.Prelude.{◌≢◌}
+use Rattle.std.specs.Prelude.{◌≢◌, Result, Ok, Err, OnOk}
 use Rattle.std.specs.List.{Contains}
 use Rattle.std.proofs.lemmas.Bool.{cases_eq, cases_lt}
 use Rattle.std.proofs.lemmas.Grind.{common_steps}
@@ -51,6 +51,15 @@ module _ {A : Type 0} (none : A) (R : A → A → Type 0) where
     | inr above ↦ (let many = e.many in
         subst (λ (x : A). R x (get_or news k none)) (sym (get_or_past olds k none above)) (subst (λ (y : A). R none y) (sym (get_or_past news k none (omega (arith, above, many)))) blank))
   ]
+
+-- what is known where a call succeeded
+pub ok_so : {A E : Type 0} (r : Result A E) {P Q : Type 0} → (P → Q) → OnOk r P → OnOk r Q
+ok_so (Ok a) f p = f p
+ok_so (Err e) f p = tt
+
+pub ok_both : {A E : Type 0} (r : Result A E) {P Q R : Type 0} → (P → Q → R) → OnOk r P → OnOk r Q → OnOk r R
+ok_both (Ok a) f p q = f p q
+ok_both (Err e) f p q = tt
 
 -- the elements behind the first, one more of them
 module _ {A B : Type 0} (f : A → B) where

@@ -104,7 +104,7 @@ module _ {A : Type 0} where
   ]
 
 module _ {A B : Type 0} (f : A → B) where
-  contains_map : (xs : List A) (x : A) → Contains xs x → Contains (map f xs) (f x)
+  pub contains_map : (xs : List A) (x : A) → Contains xs x → Contains (map f xs) (f x)
   contains_map [] x c = absurd (contains_none x c)
   contains_map (y ∷ xs) x c = elim (contains_cases y x xs c) [
     | inl same ↦ subst (λ (z : A). Contains (f y ∷ map f xs) (f z)) same (contains_first (f y) (map f xs))

@@ -1,9 +1,9 @@
 -- What the engine reads out is what is seen of it.
-use Rattle.std.proofs.Common.{◌≡◌, ℕ, ◌≤◌, List, Option, sym, ap, ◌∙◌}
+use Rattle.std.proofs.Common.{◌≡◌, ℕ, ◌≤◌, List, sym, ap}
 use Rattle.blocks.specs.Blocks.{Blocks}
 use Rattle.keyspace.specs.Databases.{means}
 use Rattle.plain_world.proofs.Lives.{live_later}
-use Rattle.plain_world.specs.Worlds.{Entry, live, look_in}
+use Rattle.plain_world.specs.Worlds.{live, look_in}
 use Rattle.redis_core.specs.Engines.{State}
 use Rattle.session_desk.specs.Engines.{seen}
 use Rattle.session_desk.specs.OverEngine.{engine_view}

@@ -40,7 +40,7 @@ all_more P [] x all p = (p, tt)
 all_more P (y ∷ xs) x all p = (all.0, all_more P xs x all.1 p)
 
 -- one request more is queued
-one_more : (kept : List (List ℕ)) (asked : List Words) (words : Words) → AreQueued kept asked → IsRequest words → AreQueued (kept ++ request_bytes words ∷ []) (asked ++ words ∷ [])
+pub one_more : (kept : List (List ℕ)) (asked : List Words) (words : Words) → AreQueued kept asked → IsRequest words → AreQueued (kept ++ request_bytes words ∷ []) (asked ++ words ∷ [])
 one_more kept asked words q request = record {
   are = ap (λ l. l ++ request_bytes words ∷ []) q.are ∙ sym (map-append request_bytes asked (words ∷ []));
   each = all_more IsRequest asked words q.each request;

@@ -8,7 +8,8 @@ use Rattle.plain_world.specs.declared.reply.Part.{Part}
 use Rattle.plain_model.specs.Meant.{meant, asks_to_quit}
 use Rattle.plain_sessions.specs.Transactions.{Asked, Multi, Exec, Discard, Watch, Misnumbered, Common, ok, queued, null_array, refused, array_of, wrong_words}
 use Rattle.resp_frames.specs.Frames.{request_bytes}
-use Rattle.request_queue.specs.Queued.{RunsQueued}
+use Rattle.request_queue.specs.Queued.{AreQueued, RunsQueued}
+use Rattle.serving.specs.Path.{path}
 use Rattle.session_desk.specs.Engines.{View, seen}
 use Rattle.session_desk.specs.Watching.{watch, HasMoved, IsStill}
 use Rattle.session_desk.specs.Kept.{Kept, begun, closed, queueing, spoiling, at_db, watching}
@@ -71,3 +72,15 @@ module _ {E : Type 0} (v : View E) (executes : ℕ → E → Words → List Part
   Answers (Some queue) words (Watch keys) came = came ≡ resting (refused WatchInsideMulti) s
   Answers (Some queue) words Misnumbered came = came ≡ resting (refused WrongNumberOfArguments) (spoiling s)
   Answers (Some queue) words Common came = Queues queue words (asks_to_quit words) came
+
+-- requests whose bytes these are were run, one behind the other, in some database
+pub record RanAll {E : Type 0} (v : View E) (executes : ℕ → E → Words → List Part → E → Type 0) (moment : ℕ) (old : E) (kept : List (List ℕ)) (new : E) : Type 0 where
+  pub db : ℕ
+  pub asked : List Words
+  pub are : AreQueued kept asked
+  pub replies : List (List Part)
+  pub way : path (executes moment) (v.choose old db) asked replies new
+
+abbrev pub RanQueue : {E : Type 0} → View E → (ℕ → E → Words → List Part → E → Type 0) → ℕ → E → Option (List (List ℕ)) → E → Type 0
+RanQueue v executes moment old None new = ⊥
+RanQueue v executes moment old (Some kept) new = RanAll v executes moment old kept new

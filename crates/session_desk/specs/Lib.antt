@@ -2,6 +2,8 @@ pub mod Codes
 pub mod Engines
 pub mod Kept
 pub mod Watching
+pub mod Passing
+pub mod Writing
 pub mod Asking
 pub mod Answered
 pub mod Desks

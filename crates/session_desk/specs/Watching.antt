@@ -1,7 +1,12 @@
 -- Watched keys, over what stands where (Redis documentation, "Transactions", "Optimistic locking using check-and-set").
-use Rattle.std.specs.Prelude.{◌≡◌, ◌≢◌, ◌⊎◌, ℕ, ◌<◌, List, [], length, Option, Bool, true, false, slice_index_or}
+use Rattle.std.specs.Prelude.{◌≡◌, ◌≢◌, ◌⊎◌, ℕ, ◌<◌, List, [], length, map, Option, None, Some, Bool, true, false, slice_index_or}
 use Rattle.std.specs.List.{Contains, All}
+use Rattle.std.specs.FinMap.{FinMap}
+use Rattle.stream_groups.specs.Groups.{name_cmp}
+use Rattle.key_marks.specs.Marked.{marks_at}
+use Rattle.plain_world.specs.Words.{Words}
 use Rattle.plain_world.specs.Worlds.{Entry}
+use Rattle.request_queue.specs.Queued.{AreQueued}
 use Rattle.session_desk.specs.Kept.{Look, no_look, Kept, session_at}
 use Rattle.session_desk.specs.declared.session.Watch.{Watch}
 use Rattle.session_desk.specs.declared.session.Session.{Session}
@@ -56,10 +61,25 @@ AreReviewed R olds news = (number : ℕ) → Reviews R (session_at olds number) 
 abbrev pub AreWithin : {T : Type 0} → List (Watch T) → Type 0
 AreWithin watched = All (λ watch. watch.db < 16) watched
 
--- the session's database and those of its watched keys are
+-- the keys that are watched
+abbrev pub watched_keys : {T : Type 0} → List (Watch T) → List (List ℕ)
+watched_keys watched = map (λ watch. watch.key.items) watched
+
+-- each key of a list has its place among the marks
+abbrev pub AreMarked : FinMap name_cmp (List ℕ) → List (List ℕ) → Type 0
+AreMarked marks keys = (k : ℕ) → k < length keys → Contains (marks_at marks (slice_index_or keys k [])) k
+
+-- what is queued are requests' bytes
+abbrev pub IsQueued : Option (List (List ℕ)) → Type 0
+IsQueued None = Unit {0}
+IsQueued (Some kept) = (asked : List Words) × AreQueued kept asked
+
+-- the session's database and those of its watched keys are, each of these keys is marked, and requests are queued
 pub record IsWithin {T : Type 0} (s : Session T) : Type 0 where
   pub own : s.db < 16
   pub watched : AreWithin s.watched.items
+  pub marked : AreMarked s.marks (watched_keys s.watched.items)
+  pub queued : IsQueued s.queue
 
 -- the session watches nothing
 abbrev pub IsSilent : {T : Type 0} → Session T → Type 0

@@ -1,13 +1,14 @@
 //! What a session is answered (Redis documentation, "Transactions").
 
-ghost use Rattle.std.specs.Prelude.{◌≡◌, ◌++◌, ◌∷◌, [], map, drop, None, Some, false, max, IfOk};
+ghost use Rattle.std.specs.Prelude.{◌≡◌, ◌≢◌, ◌++◌, ◌∷◌, [], map, drop, None, Some, false, max, IfOk};
 ghost use Rattle.plain_world.specs.Parts.{IsReply};
 ghost use Rattle.plain_model.specs.Meant.{asks_to_quit};
 ghost use Rattle.plain_sessions.specs.Transactions.{asked_of, ok};
 ghost use Rattle.session_desk.specs.Kept.{kept_of, looks, queueing, watching};
+ghost use Rattle.resp_frames.specs.Frames.{request_bytes};
 ghost use Rattle.session_desk.specs.Engines.{seen};
-ghost use Rattle.session_desk.specs.Watching.{watch, IsWithin};
-ghost use Rattle.session_desk.specs.Answered.{Answers, RunsOne, RunsQueue, Executes, Queues};
+ghost use Rattle.session_desk.specs.Watching.{watch, IsWithin, IsQueued};
+ghost use Rattle.session_desk.specs.Answered.{Answers, RunsOne, RunsQueue, Executes, Queues, RanQueue};
 
 use crate::asking::{Asks, Queueing, asks_of, queueing_of};
 use crate::engine::DeskEngine;
@@ -19,11 +20,25 @@ use resp_frames::Request;
 use serving::Done;
 use std::alloc::{AllocError, Global};
 
-/// What a request led to, and whether a command was run.
+/// What was run.
+#[derive(Clone, Copy)]
+pub enum Ran {
+    Nothing,
+    /// The request, at once.
+    Request,
+    /// Queued requests.
+    Queue,
+}
+
+/// What a request led to, and what was run.
 #[derive(Drop)]
 pub struct Answered {
     pub done: Done,
-    pub ran: bool,
+    pub ran: Ran,
+    /// In which database the request was run.
+    pub db: usize,
+    /// The queued requests that were.
+    pub queue: Option<Queue>,
 }
 
 // A reply of one part, for which nothing was run.
@@ -31,7 +46,7 @@ fn told(alloc: Global, part: Part) -> Result<Answered, Memory>
     requires { IsReply (part ∷ []) }
     ensures reply { IfOk result (λ answered. answered.done.reply ≡ part ∷ []) }
     ensures quit { IfOk result (λ answered. answered.done.quit ≡ false) }
-    ensures ran { IfOk result (λ answered. answered.ran ≡ false) }
+    ensures ran { IfOk result (λ answered. answered.ran ≡ Ran.Nothing) }
 {
     let mut parts = Parts::new(alloc);
     parts.push(part)?;
@@ -40,7 +55,9 @@ fn told(alloc: Global, part: Part) -> Result<Answered, Memory>
             reply: parts.into_reply(),
             quit: false,
         },
-        ran: false,
+        ran: Ran::Nothing,
+        db: 0,
+        queue: None,
     })
 }
 
@@ -57,12 +74,20 @@ fn run_one<E: DeskEngine>(
     ensures quit { IfOk result (λ answered. answered.done.quit ≡ asks_to_quit request.now) }
     ensures within { IfOk result (λ answered. IsWithin session.new) }
     ensures alive { IfOk result (λ answered. E.spent engine.new ≡ false) }
-    ensures ran { IfOk result (λ answered. answered.ran ≡ false → engine.new ≡ engine.old) }
+    ensures ran { IfOk result (λ answered. answered.ran ≡ Ran.Nothing → engine.new ≡ engine.old) }
+    ensures request { IfOk result (λ answered. answered.ran ≡ Ran.Request → E.executes moment (E.model.choose engine.old answered.db) request.now answered.done.reply engine.new) }
+    ensures queue { IfOk result (λ answered. answered.ran ≢ Ran.Queue) }
 {
-    engine.select(session.db);
+    let db = session.db;
+    engine.select(db);
     let done = engine.execute(request, moment)?;
     session.db = engine.db();
-    Ok(Answered { done, ran: true })
+    Ok(Answered {
+        done,
+        ran: Ran::Request,
+        db,
+        queue: None,
+    })
 }
 
 // Runs the queued commands at once, in the session's database; without any nothing is done.
@@ -70,17 +95,20 @@ fn run_queue<E: DeskEngine>(
     alloc: Global,
     engine: &mut E,
     session: &mut Session<E::Told>,
-    queue: &Queue,
+    queue: Queue,
     moment: u64,
 ) -> Result<Answered, Memory>
     requires within { IsWithin session.old }
     requires alive { E.spent engine.old ≡ false }
-    ensures runs { IfOk result (λ answered. RunsQueue E.model E.executes moment engine.old (kept_of E.told session.old) queue.now
+    requires queued { IsQueued (Some queue) }
+    ensures runs { IfOk result (λ answered. RunsQueue E.model E.executes moment engine.old (kept_of E.told session.old) queue
         (record { engine = engine.new; reply = answered.done.reply; kept = kept_of E.told session.new })) }
     ensures quit { IfOk result (λ answered. answered.done.quit ≡ false) }
     ensures within { IfOk result (λ answered. IsWithin session.new) }
     ensures alive { IfOk result (λ answered. E.spent engine.new ≡ false) }
-    ensures ran { IfOk result (λ answered. answered.ran ≡ false → engine.new ≡ engine.old) }
+    ensures ran { IfOk result (λ answered. answered.ran ≡ Ran.Nothing → engine.new ≡ engine.old) }
+    ensures request { IfOk result (λ answered. answered.ran ≢ Ran.Request) }
+    ensures queue { IfOk result (λ answered. answered.ran ≡ Ran.Queue → RanQueue E.model E.executes moment engine.old answered.queue engine.new) }
 {
     session.close();
     if queue.len() == 0 {
@@ -94,7 +122,9 @@ fn run_queue<E: DeskEngine>(
     session.db = engine.db();
     Ok(Answered {
         done: Done { reply, quit: false },
-        ran: true,
+        ran: Ran::Queue,
+        db: 0,
+        queue: Some(queue),
     })
 }
 
@@ -103,17 +133,20 @@ fn exec<E: DeskEngine>(
     alloc: Global,
     engine: &mut E,
     session: &mut Session<E::Told>,
-    queue: &Queue,
+    queue: Queue,
     moment: u64,
 ) -> Result<Answered, Memory>
     requires within { IsWithin session.old }
     requires alive { E.spent engine.old ≡ false }
-    ensures executes { IfOk result (λ answered. Executes E.model E.executes moment engine.old (kept_of E.told session.old) queue.now
+    requires queued { IsQueued (Some queue) }
+    ensures executes { IfOk result (λ answered. Executes E.model E.executes moment engine.old (kept_of E.told session.old) queue
         (record { engine = engine.new; reply = answered.done.reply; kept = kept_of E.told session.new })) }
     ensures quit { IfOk result (λ answered. answered.done.quit ≡ false) }
     ensures within { IfOk result (λ answered. IsWithin session.new) }
     ensures alive { IfOk result (λ answered. E.spent engine.new ≡ false) }
-    ensures ran { IfOk result (λ answered. answered.ran ≡ false → engine.new ≡ engine.old) }
+    ensures ran { IfOk result (λ answered. answered.ran ≡ Ran.Nothing → engine.new ≡ engine.old) }
+    ensures request { IfOk result (λ answered. answered.ran ≢ Ran.Request) }
+    ensures queue { IfOk result (λ answered. answered.ran ≡ Ran.Queue → RanQueue E.model E.executes moment engine.old answered.queue engine.new) }
 {
     if session.is_spoilt {
         session.close();
@@ -141,18 +174,11 @@ fn watch<E: DeskEngine>(
         (looks E.told session.old.watched.items ++ map (watch (seen E.model (max (E.model.last engine.now) moment) engine.now) session.old.db) (drop 1 request.now))) }
     ensures reply { IfOk result (λ answered. answered.done.reply ≡ ok) }
     ensures quit { IfOk result (λ answered. answered.done.quit ≡ false) }
-    ensures ran { IfOk result (λ answered. answered.ran ≡ false) }
+    ensures ran { IfOk result (λ answered. answered.ran ≡ Ran.Nothing) }
     ensures within { IfOk result (λ answered. IsWithin session.new) }
 {
     let late = engine.moment().max(moment);
-    watch_keys(
-        alloc,
-        engine,
-        &mut session.watched,
-        session.db,
-        request,
-        late,
-    )?;
+    watch_keys(alloc, engine, session, request, late)?;
     let answered = told(alloc, Part::Simple(Line::ok()))?;
     Ok(answered)
 }
@@ -173,7 +199,9 @@ fn answer_outside<E: DeskEngine>(
     ensures quit { IfOk result (λ answered. answered.done.quit ≡ asks_to_quit request.now) }
     ensures within { IfOk result (λ answered. IsWithin session.new) }
     ensures alive { IfOk result (λ answered. E.spent engine.new ≡ false) }
-    ensures ran { IfOk result (λ answered. answered.ran ≡ false → engine.new ≡ engine.old) }
+    ensures ran { IfOk result (λ answered. answered.ran ≡ Ran.Nothing → engine.new ≡ engine.old) }
+    ensures request { IfOk result (λ answered. answered.ran ≡ Ran.Request → E.executes moment (E.model.choose engine.old answered.db) request.now answered.done.reply engine.new) }
+    ensures queue { IfOk result (λ answered. answered.ran ≡ Ran.Queue → RanQueue E.model E.executes moment engine.old answered.queue engine.new) }
 {
     match asks_of(request) {
         Asks::Multi => {
@@ -189,6 +217,18 @@ fn answer_outside<E: DeskEngine>(
     }
 }
 
+// These requests, with one more behind them.
+fn queue_behind(alloc: Global, queue: Queue, request: &Request<'_>) -> Result<Queue, Memory>
+    requires { IsQueued (Some queue) }
+    ensures is { IfOk result (λ longer. longer ≡ queue ++ request_bytes request.now ∷ []) }
+    ensures queued { IfOk result (λ longer. IsQueued (Some longer)) }
+{
+    prove!(request.len() > 0);
+    let mut queue = queue;
+    queue.push(alloc, request)?;
+    Ok(queue)
+}
+
 // A command that is none of the session's own inside MULTI, behind these.
 fn enqueue<E: DeskEngine>(
     alloc: Global,
@@ -200,12 +240,15 @@ fn enqueue<E: DeskEngine>(
 ) -> Result<Answered, Memory>
     requires within { IsWithin session.old }
     requires alive { E.spent engine.old ≡ false }
+    requires queued { IsQueued (Some queue) }
     ensures queues { IfOk result (λ answered. Queues E.model E.executes moment engine.old (queueing (kept_of E.told session.old) queue) queue request.now (asks_to_quit request.now)
         (record { engine = engine.new; reply = answered.done.reply; kept = kept_of E.told session.new })) }
     ensures quit { IfOk result (λ answered. answered.done.quit ≡ asks_to_quit request.now) }
     ensures within { IfOk result (λ answered. IsWithin session.new) }
     ensures alive { IfOk result (λ answered. E.spent engine.new ≡ false) }
-    ensures ran { IfOk result (λ answered. answered.ran ≡ false → engine.new ≡ engine.old) }
+    ensures ran { IfOk result (λ answered. answered.ran ≡ Ran.Nothing → engine.new ≡ engine.old) }
+    ensures request { IfOk result (λ answered. answered.ran ≡ Ran.Request → E.executes moment (E.model.choose engine.old answered.db) request.now answered.done.reply engine.new) }
+    ensures queue { IfOk result (λ answered. answered.ran ≡ Ran.Queue → RanQueue E.model E.executes moment engine.old answered.queue engine.new) }
 {
     match queueing_of(alloc, request)? {
         Queueing::Quits => {
@@ -213,8 +256,7 @@ fn enqueue<E: DeskEngine>(
             run_one(engine, session, request, moment)
         }
         Queueing::Waits => {
-            let mut queue = queue;
-            queue.push(alloc, request)?;
+            let queue = queue_behind(alloc, queue, request)?;
             session.queue = Some(queue);
             told(alloc, Part::Simple(Line::queued()))
         }
@@ -237,19 +279,22 @@ fn answer_inside<E: DeskEngine>(
 ) -> Result<Answered, Memory>
     requires within { IsWithin session.old }
     requires alive { E.spent engine.old ≡ false }
+    requires queued { IsQueued (Some queue) }
     ensures answers { IfOk result (λ answered. Answers E.model E.executes moment engine.old (queueing (kept_of E.told session.old) queue) (Some queue) request.now (asked_of request.now)
         (record { engine = engine.new; reply = answered.done.reply; kept = kept_of E.told session.new })) }
     ensures quit { IfOk result (λ answered. answered.done.quit ≡ asks_to_quit request.now) }
     ensures within { IfOk result (λ answered. IsWithin session.new) }
     ensures alive { IfOk result (λ answered. E.spent engine.new ≡ false) }
-    ensures ran { IfOk result (λ answered. answered.ran ≡ false → engine.new ≡ engine.old) }
+    ensures ran { IfOk result (λ answered. answered.ran ≡ Ran.Nothing → engine.new ≡ engine.old) }
+    ensures request { IfOk result (λ answered. answered.ran ≡ Ran.Request → E.executes moment (E.model.choose engine.old answered.db) request.now answered.done.reply engine.new) }
+    ensures queue { IfOk result (λ answered. answered.ran ≡ Ran.Queue → RanQueue E.model E.executes moment engine.old answered.queue engine.new) }
 {
     match asks_of(request) {
         Asks::Multi => {
             session.queue = Some(queue);
             told(alloc, Part::Refused(Refusal::NestedMulti))
         }
-        Asks::Exec => exec(alloc, engine, session, &queue, moment),
+        Asks::Exec => exec(alloc, engine, session, queue, moment),
         Asks::Discard => {
             session.close();
             told(alloc, Part::Simple(Line::ok()))
@@ -283,7 +328,9 @@ pub fn answer_session<E: DeskEngine>(
     ensures quit { IfOk result (λ answered. answered.done.quit ≡ asks_to_quit request.now) }
     ensures within { IfOk result (λ answered. IsWithin session.new) }
     ensures alive { IfOk result (λ answered. E.spent engine.new ≡ false) }
-    ensures ran { IfOk result (λ answered. answered.ran ≡ false → engine.new ≡ engine.old) }
+    ensures ran { IfOk result (λ answered. answered.ran ≡ Ran.Nothing → engine.new ≡ engine.old) }
+    ensures request { IfOk result (λ answered. answered.ran ≡ Ran.Request → E.executes moment (E.model.choose engine.old answered.db) request.now answered.done.reply engine.new) }
+    ensures queue { IfOk result (λ answered. answered.ran ≡ Ran.Queue → RanQueue E.model E.executes moment engine.old answered.queue engine.new) }
 {
     match session.queue.take() {
         None => answer_outside(alloc, engine, session, request, moment),

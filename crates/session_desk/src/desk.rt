@@ -7,15 +7,21 @@ ghost use Rattle.plain_model.specs.Meant.{asks_to_quit};
 ghost use Rattle.plain_sessions.specs.Transactions.{asked_of};
 ghost use Rattle.session_desk.specs.Engines.{seen};
 ghost use Rattle.session_desk.specs.Kept.{all_kept, session_at, new_kept, turned};
-ghost use Rattle.session_desk.specs.Watching.{IsLooked, AreReviewed, IsWithin, IsSilent, NoneWatch};
+ghost use Rattle.session_desk.specs.Watching.{AreReviewed, IsWithin, IsSilent, NoneWatch};
+ghost use Rattle.session_desk.specs.Passing.{Passed};
+ghost use Rattle.session_desk.specs.Writing.{IsAmong, IsMeant, SomeWrite, MayHaveWritten};
+ghost use Rattle.session_desk.specs.Answered.{RanQueue};
 ghost use Rattle.session_desk.specs.Desks.{AnswersOf, Serves, DeskAnswers, DeskRests};
 
-use crate::answering::{Answered, answer_session};
+use crate::answering::{Answered, Ran, answer_session};
 use crate::engine::DeskEngine;
+use crate::naming::written_behind;
 use crate::session::Session;
 use crate::watching::review_all;
+use crate::writing::{Written, written_by};
 use outside::Plan;
 use plain_world::Memory;
+use request_queue::Queue;
 use resp_frames::Request;
 use serving::{Done, Server};
 use session_server::Sessions;
@@ -98,7 +104,9 @@ fn answer_of<E: DeskEngine>(
     ensures quit { IfOk result (λ answered. answered.done.quit ≡ asks_to_quit request.now) }
     ensures within { IfOk result (λ answered. All IsWithin sessions.new.items) }
     ensures alive { IfOk result (λ answered. E.spent engine.new ≡ false) }
-    ensures ran { IfOk result (λ answered. answered.ran ≡ false → engine.new ≡ engine.old) }
+    ensures ran { IfOk result (λ answered. answered.ran ≡ Ran.Nothing → engine.new ≡ engine.old) }
+    ensures request { IfOk result (λ answered. answered.ran ≡ Ran.Request → E.executes moment (E.model.choose engine.old answered.db) request.now answered.done.reply engine.new) }
+    ensures queue { IfOk result (λ answered. answered.ran ≡ Ran.Queue → RanQueue E.model E.executes moment engine.old answered.queue engine.new) }
     ensures watches { IfOk result (λ answered. NoneWatch sessions.old.items may_watch.old → NoneWatch sessions.new.items may_watch.new) }
 {
     prove!(request.len() > 0);
@@ -120,31 +128,102 @@ fn any_watches<T: Drop>(sessions: &[Session<T>]) -> bool
     false
 }
 
-// Looks at each watched key of each session, where there may be one.
+// Looks at the watched keys of all sessions where something may have been written.
+fn review_written<E: DeskEngine>(
+    alloc: Global,
+    engine: &E,
+    sessions: &mut Vec<Session<E::Told>>,
+    may_watch: &mut bool,
+    written: &Written<'_>,
+    moment: u64,
+) -> Result<(), Memory>
+    requires alive { E.spent engine.now ≡ false }
+    requires within { All IsWithin sessions.old.items }
+    ensures passed { OnOk result (AreReviewed (λ one new. Passed (IsAmong written.now one.db one.key) (seen E.model (max (E.model.last engine.now) moment) engine.now) one new) (all_kept E.told sessions.old.items) (all_kept E.told sessions.new.items)) }
+    ensures within { OnOk result (All IsWithin sessions.new.items) }
+    ensures watches { OnOk result (NoneWatch sessions.new.items may_watch.new) }
+{
+    let late = engine.moment().max(moment);
+    review_all(alloc, engine, sessions, written, late)?;
+    *may_watch = any_watches(sessions);
+    Ok(())
+}
+
+// The same behind a request that was run where this database was selected.
+fn review_request<E: DeskEngine>(
+    alloc: Global,
+    engine: &E,
+    sessions: &mut Vec<Session<E::Told>>,
+    may_watch: &mut bool,
+    request: &Request<'_>,
+    db: usize,
+    moment: u64,
+) -> Result<(), Memory>
+    requires alive { E.spent engine.now ≡ false }
+    requires within { All IsWithin sessions.old.items }
+    ensures passed { OnOk result (AreReviewed (λ one new. Passed (IsMeant db request.now one.db one.key) (seen E.model (max (E.model.last engine.now) moment) engine.now) one new) (all_kept E.told sessions.old.items) (all_kept E.told sessions.new.items)) }
+    ensures within { OnOk result (All IsWithin sessions.new.items) }
+    ensures watches { OnOk result (NoneWatch sessions.new.items may_watch.new) }
+{
+    let written = written_by(alloc, request, db)?;
+    review_written(alloc, engine, sessions, may_watch, &written, moment)
+}
+
+// The same behind queued requests, which were run in whatever databases.
+fn review_queue<E: DeskEngine>(
+    alloc: Global,
+    engine: &E,
+    sessions: &mut Vec<Session<E::Told>>,
+    may_watch: &mut bool,
+    queue: &Option<Queue>,
+    moment: u64,
+) -> Result<(), Memory>
+    requires alive { E.spent engine.now ≡ false }
+    requires within { All IsWithin sessions.old.items }
+    ensures passed { OnOk result (AreReviewed (λ one new. Passed (SomeWrite queue.now one.db one.key) (seen E.model (max (E.model.last engine.now) moment) engine.now) one new) (all_kept E.told sessions.old.items) (all_kept E.told sessions.new.items)) }
+    ensures within { OnOk result (All IsWithin sessions.new.items) }
+    ensures watches { OnOk result (NoneWatch sessions.new.items may_watch.new) }
+{
+    let written = written_behind(alloc, queue)?;
+    review_written(alloc, engine, sessions, may_watch, &written, moment)
+}
+
+// The same behind what was run; where no session watches a key, nothing is looked at.
 fn review_behind<E: DeskEngine>(
     alloc: Global,
     engine: &E,
     sessions: &mut Vec<Session<E::Told>>,
     may_watch: &mut bool,
+    answered: &Answered,
+    request: &Request<'_>,
     moment: u64,
 ) -> Result<(), Memory>
     requires alive { E.spent engine.now ≡ false }
     requires within { All IsWithin sessions.old.items }
     requires watches { NoneWatch sessions.old.items may_watch.old }
-    ensures looked { OnOk result (AreReviewed (IsLooked (seen E.model (max (E.model.last engine.now) moment) engine.now)) (all_kept E.told sessions.old.items) (all_kept E.told sessions.new.items)) }
+    ensures passed { OnOk result (AreReviewed (λ one new. Passed (MayHaveWritten answered.now.ran answered.now.db request.now answered.now.queue one.db one.key) (seen E.model (max (E.model.last engine.now) moment) engine.now) one new) (all_kept E.told sessions.old.items) (all_kept E.told sessions.new.items)) }
     ensures within { OnOk result (All IsWithin sessions.new.items) }
     ensures watches { OnOk result (NoneWatch sessions.new.items may_watch.new) }
 {
     if !*may_watch {
         return Ok(());
     }
-    let late = engine.moment().max(moment);
-    review_all(alloc, engine, sessions, late)?;
-    *may_watch = any_watches(sessions);
-    Ok(())
+    match answered.ran {
+        Ran::Nothing => Ok(()),
+        Ran::Request => review_request(
+            alloc,
+            engine,
+            sessions,
+            may_watch,
+            request,
+            answered.db,
+            moment,
+        ),
+        Ran::Queue => review_queue(alloc, engine, sessions, may_watch, &answered.queue, moment),
+    }
 }
 
-// The same, and where a command was run all watched keys are looked at.
+// The same, and watched keys that may have been written are looked at.
 fn serve<E: DeskEngine>(
     alloc: Global,
     engine: &mut E,
@@ -164,9 +243,9 @@ fn serve<E: DeskEngine>(
     ensures alive { IfOk result (λ done. E.spent engine.new ≡ false) }
 {
     let answered = answer_of(alloc, engine, sessions, may_watch, number, request, moment)?;
-    if answered.ran {
-        review_behind(alloc, engine, sessions, may_watch, moment)?;
-    }
+    review_behind(
+        alloc, engine, sessions, may_watch, &answered, request, moment,
+    )?;
     Ok(answered.done)
 }
 

@@ -5,9 +5,11 @@ mod answering;
 mod asking;
 mod desk;
 mod engine;
+mod naming;
 mod over_engine;
 mod session;
 mod watching;
+mod writing;
 
 pub use desk::Desk;
 pub use engine::DeskEngine;

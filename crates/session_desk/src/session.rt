@@ -3,8 +3,9 @@
 ghost use Rattle.std.specs.Prelude.{◌≡◌, ◌↔◌, Option, IsTrue, []};
 ghost use Rattle.plain_world.specs.Worlds.{Entry};
 ghost use Rattle.session_desk.specs.Kept.{kept_of, new_kept, closed};
-ghost use Rattle.session_desk.specs.Watching.{IsSilent};
+ghost use Rattle.session_desk.specs.Watching.{IsSilent, IsWithin};
 
+use key_marks::Marks;
 use request_queue::Queue;
 use std::alloc::Global;
 
@@ -30,6 +31,8 @@ pub struct Session<T> {
     /// Whether these are given up by EXEC, as words were wrong.
     pub is_spoilt: bool,
     pub watched: Vec<Watch<T>>,
+    /// The places in `watched` of each key, whatever its database.
+    pub marks: Marks,
 }
 
 impl<T: Drop> Session<T> {
@@ -38,12 +41,14 @@ impl<T: Drop> Session<T> {
         ensures kept { (told : T → Option Entry) → kept_of told result ≡ new_kept }
         ensures db { result.db ≡ 0 }
         ensures watched { result.watched.items ≡ [] }
+        ensures within { IsWithin result }
     {
         Session {
             db: 0,
             queue: None,
             is_spoilt: false,
             watched: Vec::new(alloc),
+            marks: Marks::new(alloc),
         }
     }
 
@@ -59,9 +64,11 @@ impl<T: Drop> Session<T> {
         ensures kept { (told : T → Option Entry) → kept_of told self.new ≡ closed (kept_of told self.old) }
         ensures db { self.new.db ≡ self.old.db }
         ensures watched { self.new.watched.items ≡ [] }
+        ensures within { IsWithin self.old → IsWithin self.new }
     {
         self.queue = None;
         self.is_spoilt = false;
         self.watched.clear();
+        self.marks.clear();
     }
 }

@@ -3,7 +3,7 @@ use Rattle.std.proofs.lemmas.List.{get_or-set_same}
 use Rattle.std.proofs.lemmas.List.Elements.{All-set}
 use Rattle.plain_sessions.specs.Transactions.{asked_of}
 use Rattle.session_desk.specs.Kept.{Kept, kept_of, all_kept}
-use Rattle.session_desk.specs.Watching.{IsSilent}
+use Rattle.session_desk.specs.Watching.{IsSilent, IsWithin}
 use Rattle.session_desk.specs.Answered.{Answers}
 use Rattle.session_desk.proofs.Serving.{own_at, others_at}
 use Rattle.session_desk.proofs.desk.answer_of.Goals as goal
@@ -32,3 +32,6 @@ returns-clause-watches g c none off =
     let n = c.note_watches.ensures off in
     let own : c.index.result.now ≡ c.answer_session.new.session = c.index.ensures ∙ get_or-set_same items c.args.number c.answer_session.new.session c.index.result.now here in
     All-set IsSilent items c.args.number c.answer_session.new.session (subst IsSilent own n.1) (c.make_room.ensures.silent (none n.0))
+
+pub returns-clause-within : goal.returns-clause-within
+returns-clause-within g c = All-set IsWithin c.make_room.new.sessions.items c.args.number c.answer_session.new.session c.in_ok-answered.ensures.within c.make_room.ensures.within

@@ -1,7 +1,7 @@
-use Rattle.std.proofs.Common.{◌<◌, ◌++◌, [], ◌∷◌, map, sym, ap, subst, ◌∙◌, arith}
+use Rattle.std.proofs.Common.{◌++◌, [], ◌∷◌, map, sym, ap, subst, ◌∙◌}
 use Rattle.std.specs.List.{All}
 use Rattle.std.proofs.lemmas.List.{map-append}
-use Rattle.std.proofs.lemmas.List.Elements.{All-push, All-nil}
+use Rattle.std.proofs.lemmas.List.Elements.{All-push}
 use Rattle.session_desk.specs.Kept.{kept_of, all_kept, session_at, new_kept}
 use Rattle.session_desk.specs.Watching.{IsWithin, IsSilent}
 use Rattle.session_desk.proofs.Lists.{pushed_none}
@@ -17,9 +17,6 @@ rooms-preserved g c =
           ∙ ap (λ k. session_at (map (kept_of told) items ++ k ∷ []) other) (c.new.ensures.kept told)
           ∙ pushed_none (map (kept_of told) items) other new_kept
           ∙ c.rooms.invariant.kept told other;
-      within = subst (All IsWithin) (sym c.in_ok-push.ensures.items) (All-push IsWithin items c.new.result c.rooms.invariant.within (record {
-        own = let none = c.new.ensures.db in omega (arith, none);
-        watched = subst (All (λ watch. watch.db < 16)) (sym c.new.ensures.watched) (All-nil (λ watch. watch.db < 16));
-      }));
+      within = subst (All IsWithin) (sym c.in_ok-push.ensures.items) (All-push IsWithin items c.new.result c.rooms.invariant.within c.new.ensures.within);
       silent = λ none. subst (All IsSilent) (sym c.in_ok-push.ensures.items) (All-push IsSilent items c.new.result (c.rooms.invariant.silent none) c.new.ensures.watched);
     }

@@ -1,4 +1,4 @@
-use Rattle.std.proofs.Common.{◌≡◌, ◌↔◌, IsTrue, Option, subst, sym, ◌∙◌}
+use Rattle.std.proofs.Common.{◌≡◌, ◌↔◌, IsTrue, Option, subst, ◌∙◌}
 use Rattle.plain_world.specs.Worlds.{Entry}
 use Rattle.told_values.specs.Entries.{entry_told}
 use Rattle.session_desk.proofs.OverEngine.{read_is_seen}

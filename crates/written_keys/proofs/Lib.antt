@@ -1,0 +1,6 @@
+pub mod Base
+pub mod Values
+pub mod Collections
+pub mod Staying
+pub mod Lists
+pub mod Keys
