@@ -5,7 +5,7 @@ usage: bench/built.py
 
 Rows of words, input, output, standard error and status; a hundred thousand generated commands, twice, by the lines of generated.py;
 a packed hash, set and sorted set at the greatest limit; and a sorted set of 1,200,000 members, each of which came into its middle. Then the files that it saves, by
-saving.py, and the program of several sessions, by sessions.py.
+saving.py, what it tells of its slabs, by audit.py, and the program of several sessions, by sessions.py.
 The last line is 'N passed, M failed', and the status 0 where none failed.
 """
 import os
@@ -16,6 +16,7 @@ import tempfile
 
 # nothing is left beside the sources
 sys.dont_write_bytecode = True
+import audit  # noqa: E402
 import saving  # noqa: E402
 import sessions  # noqa: E402
 from resp import request  # noqa: E402
@@ -140,7 +141,7 @@ def middle():
 def main():
     if not all(os.access(program, os.X_OK) for program in (PROGRAM, sessions.PROGRAM)):
         sys.exit("build the programs first: rt ci")
-    cases = [rows, full_device, steady_work, generated, packed_hash, packed_set, packed_sorted_set, middle, *saving.CASES, *sessions.CASES]
+    cases = [rows, full_device, steady_work, generated, packed_hash, packed_set, packed_sorted_set, middle, *saving.CASES, *audit.CASES, *sessions.CASES]
     failed = 0
     for case in cases:
         right = case()

@@ -117,28 +117,37 @@ def unsaved():
     return not lost
 
 
-def limited():
-    """So much may be written to a file; more is a fault, and no signal."""
-    resource.setrlimit(resource.RLIMIT_FSIZE, (4096, 4096))
+def limited(most):
+    """So many bytes may be written to a file; more is a fault, and no signal."""
+    resource.setrlimit(resource.RLIMIT_FSIZE, (most, most))
     signal.signal(signal.SIGXFSZ, signal.SIG_IGN)
 
 
 LARGE = b"".join(request(b"SET", b"%d" % number, b"x" * 1000) for number in range(200))
+REPLIES = b"+OK\r\n" * 200
+# How many bytes are put at once.
+PUT = 8192
 
 
 def faults():
-    """A name that is a folder, one in no folder, and a limit on the file's length: status 10, its line, all replies, and the file of before."""
+    """A name that is a folder, and one in no folder: status 10, its line, and all replies."""
     with tempfile.TemporaryDirectory() as room:
         os.mkdir(f"{room}/folder")
+        ends = [run(["--save", name], LARGE, room) for name in ("folder", "none/f")]
+        return ends == [(REPLIES, *FAILED)] * 2 and os.path.isdir(f"{room}/folder")
+
+
+def each_put():
+    """Each put fails in turn, by a limit on the file's length: status 10, its line, all replies, and the file of before."""
+    with tempfile.TemporaryDirectory() as room:
+        run(["--save", "whole"], LARGE, room)
         with open(f"{room}/f", "wb") as file:
             file.write(b"of before")
-        replies = b"+OK\r\n" * 200
-        ends = [
-            run(["--save", "folder"], LARGE, room),
-            run(["--save", "none/f"], LARGE, room),
-            run(["--save", "f"], LARGE, room, preexec_fn=limited, restore_signals=False),
-        ]
-        return ends == [(replies, *FAILED)] * 3 and read(f"{room}/f") == b"of before" and os.path.isdir(f"{room}/folder")
+        for most in range(0, os.path.getsize(f"{room}/whole"), PUT):
+            end = run(["--save", "f"], LARGE, room, preexec_fn=lambda: limited(most), restore_signals=False)
+            if end != (REPLIES, *FAILED) or read(f"{room}/f") != b"of before":
+                return False
+        return True
 
 
 def killed():
@@ -332,7 +341,7 @@ class Older:
 
 def served(server, room, requests):
     """What a real server answers that begins with the file `dump.rdb` of a folder, and then saves."""
-    words = [server, "--port", "0", "--unixsocket", "socket", "--save", "", "--dir", room]
+    words = [server, "--port", "0", "--unixsocket", "socket", "--save", "", "--rdbcompression", "no", "--dir", room]
     with subprocess.Popen(words, cwd=room, stdout=subprocess.DEVNULL) as serving:
         for _ in range(100):
             if os.path.exists(f"{room}/socket"):
@@ -363,4 +372,4 @@ def server_loads():
         return told == wanted and run(["--load", "dump.rdb"], ASKED, room) == run(["--load", "g"], ASKED, room)
 
 
-CASES = [files, unsaved, faults, killed, loaded_again, server_loads]
+CASES = [files, unsaved, faults, each_put, killed, loaded_again, server_loads]
