@@ -1,4 +1,7 @@
+#!/usr/bin/env python3
 """What the program is asked that saves its keys (bench/built.py runs it).
+
+usage: bench/saving.py FILE OLDER   writes a file that the program saved as one that a server reads which knows version 10 alone, without a checksum
 
 Rows of requests and the files that they leave, with a checksum of this script's own; endings that save nothing; real faults, behind each of which the
 file of before stands; a run that is killed while it saves; and files of all types that are loaded again to the same replies, by the program and,
@@ -32,10 +35,10 @@ def asked(*lines):
     return b"".join(request(*line.encode().split()) for line in lines)
 
 
-def file_of(body, version=b"0011"):
+def file_of(body, version=b"0011", sum_of=lambda data: crc(0, data)):
     """The file with these bytes between its head and its end."""
     data = b"REDIS" + version + body + b"\xff"
-    return data + crc(0, data).to_bytes(8, "little")
+    return data + sum_of(data).to_bytes(8, "little")
 
 
 def read(path):
@@ -123,10 +126,10 @@ def limited(most):
     signal.signal(signal.SIGXFSZ, signal.SIG_IGN)
 
 
-LARGE = b"".join(request(b"SET", b"%d" % number, b"x" * 1000) for number in range(200))
+LARGE = b"".join(request(b"SET", b"%d" % number, b"x" * 5000) for number in range(200))
 REPLIES = b"+OK\r\n" * 200
 # How many bytes are put at once.
-PUT = 8192
+PUT = 65_536
 
 
 def faults():
@@ -336,7 +339,8 @@ class Older:
                 self.text()
         if self.at + 8 != len(self.data):
             raise ValueError("something stands behind the end")
-        return file_of(b"".join(self.made)[:-1], b"0010")
+        # a server asks for no checksum where it is 0
+        return file_of(b"".join(self.made)[:-1], b"0010", lambda data: 0)
 
 
 def served(server, room, requests):
@@ -373,3 +377,13 @@ def server_loads():
 
 
 CASES = [files, unsaved, faults, each_put, killed, loaded_again, server_loads]
+
+
+def main():
+    source, target = sys.argv[1:]
+    with open(target, "wb") as file:
+        file.write(Older(read(source)).file())
+
+
+if __name__ == "__main__":
+    main()

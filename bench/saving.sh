@@ -13,7 +13,21 @@ cd "$(dirname "$0")/.."
 serve_folder() {
   "$server" --port 0 --unixsocket "$1/socket" --save '' --rdbcompression no --enable-debug-command yes --dir "$1" > "$1/log" &
   server_pid=$!
-  until [ -S "$1/socket" ] && redis-cli -s "$1/socket" PING 2> /dev/null | grep -q PONG; do sleep 0.1; done
+  for _ in $(seq 600); do
+    [ -S "$1/socket" ] && redis-cli -s "$1/socket" PING 2> /dev/null | grep -q PONG && return 0
+    sleep 0.1
+  done
+  tail -n 3 "$1/log"
+  echo "the server doesn't answer"
+  exit 1
+}
+
+# the file that the program wrote, as this server can read it: before 7.2 none reads version 11
+for_server() {
+  case $("$server" --version) in
+    *v=7.[2-9]* | *v=[89].*) mv "$1" "$2" ;;
+    *) python3 bench/saving.py "$1" "$2" ;;
+  esac
 }
 
 # ends it and saves nothing
@@ -51,7 +65,7 @@ for kind in ${*:-strings hashes sorted_set list streams groups}; do
 subprocess.run(sys.argv[1:], stdin=subprocess.DEVNULL, check=True)
 print(resource.getrusage(resource.RUSAGE_CHILDREN).ru_maxrss // 1024)' "$program" --load "$folder/dump.rdb" --save "$folder/ours.rdb")
   sizes="$(stat -c %s "$folder/dump.rdb") and $(stat -c %s "$folder/ours.rdb") bytes"
-  mv "$folder/ours.rdb" "$folder/dump.rdb"
+  for_server "$folder/ours.rdb" "$folder/dump.rdb"
   rm "$folder/socket" 2> /dev/null || true
   serve_folder "$folder"
   after=$(redis-cli -s "$folder/socket" DEBUG DIGEST)

@@ -10,7 +10,7 @@ use digests::crc;
 use outside::{HostFault, Shelf};
 
 // How many bytes are gathered at most.
-const ROOM: usize = 8192;
+const ROOM: usize = 65_536;
 
 // Puts all of the piece.
 fn put_all<F: Shelf>(shelf: &mut F, piece: &[u8]) -> Result<(), HostFault>
@@ -64,7 +64,7 @@ impl Pen {
 
     // Gathers a piece for which there is room.
     fn gather(&mut self, piece: &[u8])
-        requires { self.old.used + length piece.now ≤ 8192 }
+        requires { self.old.used + length piece.now ≤ 65536 }
         ensures gathered { gathered self.new ≡ gathered self.old ++ piece.now }
         ensures sum { self.new.sum ≡ self.old.sum }
     {
