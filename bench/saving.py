@@ -133,11 +133,26 @@ PUT = 65_536
 
 
 def faults():
-    """A name that is a folder, and one in no folder: status 10, its line, and all replies."""
+    """A name that is a folder, one in no folder, and one in a folder that nobody can write: status 10, its line, and all replies."""
     with tempfile.TemporaryDirectory() as room:
         os.mkdir(f"{room}/folder")
-        ends = [run(["--save", name], LARGE, room) for name in ("folder", "none/f")]
-        return ends == [(REPLIES, *FAILED)] * 2 and os.path.isdir(f"{room}/folder")
+        ends = [run(["--save", name], LARGE, room) for name in ("folder", "none/f", "/proc/f")]
+        return ends == [(REPLIES, *FAILED)] * 3 and os.path.isdir(f"{room}/folder")
+
+
+def full_disk():
+    """A device that is full, where one can be made: the same, and the file of before."""
+    with tempfile.TemporaryDirectory() as room:
+        made = subprocess.run(["mount", "-t", "tmpfs", "-o", "size=128k", "tmpfs", room], capture_output=True)
+        if made.returncode:
+            print("full_disk: no small device could be made, so none was filled")
+            return True
+        try:
+            with open(f"{room}/f", "wb") as file:
+                file.write(b"of before")
+            return run(["--save", f"{room}/f"], LARGE) == (REPLIES, *FAILED) and read(f"{room}/f") == b"of before"
+        finally:
+            subprocess.run(["umount", room], check=True)
 
 
 def each_put():
@@ -376,7 +391,7 @@ def server_loads():
         return told == wanted and run(["--load", "dump.rdb"], ASKED, room) == run(["--load", "g"], ASKED, room)
 
 
-CASES = [files, unsaved, faults, each_put, killed, loaded_again, server_loads]
+CASES = [files, unsaved, faults, full_disk, each_put, killed, loaded_again, server_loads]
 
 
 def main():
